@@ -1,0 +1,199 @@
+-- The ledger of a list of calls agrees with the live blocks of the states that the calls leave: one call after another. Assumes
+-- nothing.
+use Prim.Native.Nat.{ℕ, zero, suc, _+_, _*_, _≤_, _<_}
+use mathlib.Core.Path.{_≡_, refl, sym, _∙_, ap, subst}
+use mathlib.Core.List.{List, [], _∷_, _++_, map}
+use mathlib.Core.Option.{Option, none, some, Option·none-ne-some}
+use mathlib.Core.Bool.{Bool, true, false, cond, not}
+use native.Mathlib.Omega.{arith}
+use lib.Dec.{ltb, leb, eqb}
+use lib.ListN.{length}
+use borrow.Author.Tests.{leb-true, eqb-true, eqb-false, eq-eqb, ne-eqb}
+use Rattle.lemmas.specs.Keep.{keep}
+use Rattle.lemmas.proofs.Cases.{bool, either, true-false}
+use Rattle.model.specs.declared.Operation.{Operation}
+use Rattle.model.specs.declared.Operation.the-variants.{Allocate, Free, Reset}
+use Rattle.model.specs.declared.Refusal.{Refusal}
+use Rattle.model.specs.declared.Answer.{Answer}
+use Rattle.model.specs.declared.Answer.the-variants.{Granted, Refused, Done, Counted}
+use Rattle.model.specs.Sizes.{roomFor}
+use Rattle.model.specs.Arena.{Segment, total, Each}
+use Rattle.model.specs.State.{State}
+use Rattle.model.specs.PageMap.{occupancy, pageMap, idle, idleZone, Block, groupOf, roomOf, blockAt}
+use Rattle.model.specs.Valid.{Valid}
+use Rattle.model.specs.Pages.{joined}
+use Rattle.model.specs.Calls.{Action, group, trim, query, listing, Outcome, answers, refuses, isRefused, grantOf, groupOk}
+use Rattle.model.specs.Allocate.{allocate}
+use Rattle.model.specs.Free.{freed, freeBlock, free, freedAll, offsetsOf, reset}
+use Rattle.model.specs.Trim.{trimmed}
+use Rattle.model.specs.Listing.{listingText}
+use Rattle.model.specs.Perform.{asked, serve}
+use Rattle.model.proofs.Joins.{joined-retold, total-joined}
+use Rattle.model.proofs.Blocks.{Sized, joined-blocks, Only}
+use Rattle.model.proofs.Allocated.{Allocated, gives, denies, allocated, group-least}
+use Rattle.model.proofs.Freed.{freed-only}
+use Rattle.model.proofs.Reset.{isOf, without, reset-blocks}
+use Rattle.model.proofs.Disjoint.{all-sized}
+use Rattle.history.specs.Ledger.{Held, Effect, nothing, ofGrant, unlessRefused, ofOperation, ofAction, applied}
+
+-- An entry of a ledger that knows what block it is; what the public ledger tells of it is `told`.
+pub record Entry : Type 0 where
+  pub serial : ℕ
+  pub offset : ℕ
+  pub block : Block
+
+abbrev pub told : Entry → Held
+told e = record { serial = e .serial; offset = e .offset; group = groupOf (e .block); room = roomOf (e .block) }
+
+-- The block at an offset.
+abbrev pub find : ℕ → List Entry → Option Block
+find o [] = none
+find o (e ∷ r) = cond (eqb (e .offset) o) (some (e .block)) (find o r)
+
+-- No two entries have one offset.
+abbrev pub Single : List Entry → Type 0
+Single [] = Unit {0}
+Single (e ∷ r) = (find (e .offset) r ≡ none) × Single r
+
+abbrev pub kept : (Held → Bool) → List Entry → List Entry
+kept f l = keep (λ e. f (told e)) l
+
+pub keep-told : (f : Held → Bool) (l : List Entry) → keep f (map told l) ≡ map told (kept f l)
+unfolding keep
+keep-told f [] = refl
+keep-told f (e ∷ r) = bool (f (told e)) (λ t. rw t (ap (λ k. told e ∷ k) (keep-told f r))) (λ t. rw t (keep-told f r))
+
+kept-none : (f : Held → Bool) (o : ℕ) (l : List Entry) → find o l ≡ none → find o (kept f l) ≡ none
+unfolding keep
+kept-none f o [] h = refl
+kept-none f o (e ∷ r) h = bool (eqb (e .offset) o)
+    (λ t. absurd (Option·none-ne-some (e .block) (sym (rw t at h))))
+    (λ t. bool (f (told e)) (λ u. rw (u, t) (kept-none f o r (rw t at h))) (λ u. rw u (kept-none f o r (rw t at h))))
+
+kept-single : (f : Held → Bool) (l : List Entry) → Single l → Single (kept f l)
+unfolding keep
+kept-single f [] h = tt
+kept-single f (e ∷ r) h = bool (f (told e)) (λ u. rw u (kept-none f (e .offset) r (h .0), kept-single f r (h .1))) (λ u. rw u (kept-single f r (h .1)))
+
+-- The entries at other offsets; the entries of other groups.
+abbrev elsewhere : ℕ → Held → Bool
+elsewhere o h = not (eqb (h .offset) o)
+
+abbrev otherGroup : ℕ → Held → Bool
+otherGroup g h = not (eqb (h .group) g)
+
+ended-here : (o : ℕ) (l : List Entry) → find o (kept (elsewhere o) l) ≡ none
+unfolding keep
+ended-here o [] = refl
+ended-here o (e ∷ r) = bool (eqb (e .offset) o) (λ t. rw t (ended-here o r)) (λ t. rw (t, t) (ended-here o r))
+
+ended-other : (o q : ℕ) → (q ≡ o → ⊥) → (l : List Entry) → find q (kept (elsewhere o) l) ≡ find q l
+unfolding keep
+ended-other o q ne [] = refl
+ended-other o q ne (e ∷ r) = bool (eqb (e .offset) o)
+    (λ t. rw (t, ne-eqb (e .offset) q (λ z. ne (sym z ∙ eqb-true (e .offset) o t))) (ended-other o q ne r))
+    (λ t. rw t (ap (cond (eqb (e .offset) q) (some (e .block))) (ended-other o q ne r)))
+
+ended-group : (g q : ℕ) (l : List Entry) → Single l → find q (kept (otherGroup g) l) ≡ without (isOf g (find q l)) (find q l)
+unfolding keep
+ended-group g q [] h = refl
+ended-group g q (e ∷ r) h = bool (eqb (groupOf (e .block)) g)
+    (λ t. bool (eqb (e .offset) q)
+    (λ u. rw (t, u) (rw t (kept-none (otherGroup g) q r (ap (λ k. find k r) (sym (eqb-true (e .offset) q u)) ∙ h .0))))
+    (λ u. rw (t, u) (ended-group g q r (h .1))))
+    (λ t. bool (eqb (e .offset) q)
+    (λ u. rw (t, u) (rw t))
+    (λ u. rw (t, u) (ended-group g q r (h .1))))
+
+-- How one call changes the ledger: a block more, of this serial, or some blocks fewer, or not at all.
+pub data Change (n : ℕ) (l l′ : List Entry) : Type 0 where
+  more : (e : Entry) → e .serial ≡ n → l′ ≡ e ∷ l → Change n l l′
+  fewer : (f : Held → Bool) → l′ ≡ kept f l → Change n l l′
+  equal : l′ ≡ l → Change n l l′
+
+-- What holds after call number n, whose effect is x and which leaves the state s′: the ledger has entries that agree with its blocks.
+pub record After (n : ℕ) (s : State) (l : List Entry) (x : Effect) (s′ : State) : Type 0 where
+  pub entries : List Entry
+  pub live : applied n x (map told l) ≡ map told entries
+  pub agree : (o : ℕ) → blockAt (pageMap s′) o ≡ find o entries
+  pub single : Single entries
+  pub size : total (pageMap s′) ≡ total (pageMap s)
+  pub change : Change n l entries
+
+module _ (n : ℕ) (s : State) (l : List Entry) (v : Valid s) (agree : (o : ℕ) → blockAt (pageMap s) o ≡ find o l) (single : Single l) where
+  -- A call without an effect that leaves the state.
+  pub unchanged : (x : Effect) (s′ : State) → x ≡ nothing → s′ ≡ s → After n s l x s′
+  unchanged x s′ e f = record {
+    entries = l;
+    live = ap (λ y. applied n y (map told l)) e;
+    agree = λ o. ap (λ t. blockAt (pageMap t) o) f ∙ agree o;
+    single = single;
+    size = ap (λ t. total (pageMap t)) f;
+    change = equal refl;
+  }
+
+  after-allocate : (g k : ℕ) (r : Outcome State) → Allocated s g (roomFor k) r → After n s l (ofGrant g k (grantOf (r .answer))) (r .after)
+  after-allocate g k r (gives o b ans fresh grp room only) = let e : Entry = record { serial = n; offset = o; block = b } in record {
+    entries = e ∷ l;
+    live = rw ans (λ i. record { serial = n; offset = o; group = sym grp i; room = sym room i } ∷ map told l);
+    agree = λ q. bool (eqb o q) (λ t. rw t (ap (blockAt (pageMap (r .after))) (sym (eqb-true o q t)) ∙ only .0)) (λ t. rw t (only .1 q (λ z. eqb-false o q t (sym z)) ∙ agree q));
+    single = (sym (agree o) ∙ fresh, single);
+    size = only .2;
+    change = more e refl refl;
+  }
+  after-allocate g k r (denies j ans st) = unchanged (ofGrant g k (grantOf (r .answer))) (r .after) (ap (λ a. ofGrant g k (grantOf a)) ans) st
+
+  after-free : (g o : ℕ) → After n s l (ofOperation g (Free o) ((free g o s) .answer)) ((free g o s) .after)
+  after-free g o = bool (groupOk g) (λ t. rw t (go (blockAt (pageMap s) o) refl)) (λ t. rw t (unchanged nothing s refl refl))
+    where
+      go : (b : Option Block) → blockAt (pageMap s) o ≡ b → After n s l (ofOperation g (Free o) ((freeBlock g o s b) .answer)) ((freeBlock g o s b) .after)
+      go none e = unchanged nothing s refl refl
+      go (some b) e = bool (eqb (groupOf b) g)
+          (λ t. rw t (let only = freed-only s o b e in record {
+            entries = kept (elsewhere o) l;
+            live = keep-told (elsewhere o) l;
+            agree = λ q. bool (eqb q o)
+                (λ u. ap (blockAt (pageMap (freed o b s))) (eqb-true q o u) ∙ only .0 ∙ sym (ended-here o l) ∙ ap (λ k. find k (kept (elsewhere o) l)) (sym (eqb-true q o u)))
+                (λ u. only .1 q (eqb-false q o u) ∙ agree q ∙ sym (ended-other o q (eqb-false q o u) l));
+            single = kept-single (elsewhere o) l single;
+            size = only .2;
+            change = fewer (elsewhere o) refl;
+          }))
+          (λ t. rw t (unchanged nothing s refl refl))
+
+  after-reset : (g : ℕ) → After n s l (ofOperation g Reset ((reset g s) .answer)) ((reset g s) .after)
+  after-reset g = bool (groupOk g)
+      (λ t. rw t (let r = reset-blocks g s (group-least g t) (all-sized (s .segments) (v .sound)) in record {
+        entries = kept (otherGroup g) l;
+        live = keep-told (otherGroup g) l;
+        agree = λ q. r .0 q ∙ ap (λ b. without (isOf g b) b) (agree q) ∙ sym (ended-group g q l single);
+        single = kept-single (otherGroup g) l single;
+        size = r .1;
+        change = fewer (otherGroup g) refl;
+      }))
+      (λ t. rw t (unchanged nothing s refl refl))
+
+  trimmed-map : pageMap (trimmed s) ≡ joined idle 0 (pageMap s)
+  trimmed-map = joined-retold occupancy idleZone idle (λ z. refl) 0 (s .segments)
+
+  after-trim : After n s l nothing (trimmed s)
+  after-trim = record {
+    entries = l;
+    live = refl;
+    agree = λ o. ap (λ m. blockAt m o) trimmed-map ∙ joined-blocks (pageMap s) o ∙ agree o;
+    single = single;
+    size = ap (λ m. total m) trimmed-map ∙ total-joined idle 0 (pageMap s) ∙ omega arith;
+    change = equal refl;
+  }
+
+  after-operation : (g : ℕ) (q : Operation) → After n s l (ofOperation g q ((asked g q s) .answer)) ((asked g q s) .after)
+  after-operation g (Allocate k) = after-allocate g k (allocate g k s) (allocated s v g k)
+  after-operation g (Free o) = after-free g o
+  after-operation g Reset = after-reset g
+
+  -- Every call on a valid state.
+  pub after-action : (a : Action) → After n s l (ofAction a ((serve s a) .answer)) ((serve s a) .after)
+  after-action (group c) = after-operation (c .group) (c .operation)
+  after-action trim = after-trim
+  after-action (query o) = unchanged nothing s refl refl
+  after-action (listing k) = bool (leb (length (listingText (pageMap s))) k) (λ t. rw t (unchanged nothing s refl refl)) (λ t. rw t (unchanged nothing s refl refl))

@@ -1,0 +1,7 @@
+pub mod Determined
+pub mod Neat
+pub mod Sequence
+pub mod Ledger
+pub mod Growth
+pub mod Theorem
+pub mod Model

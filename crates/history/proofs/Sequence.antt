@@ -1,0 +1,162 @@
+-- Requests of whole pages, and returns by which no chunk comes back, are functions of the page map: what they answer and which page
+-- map they leave. From a trimmed page map such a request is refused exactly when no row of pages is clear. Assumes nothing.
+use Prim.Native.Nat.{ℕ, zero, suc, _+_, _-_, _*_, _≤_, _<_}
+use mathlib.Core.Path.{_≡_, refl, sym, _∙_, ap, subst}
+use mathlib.Core.List.{List, [], _∷_, map}
+use mathlib.Core.Option.{Option, none, some}
+use mathlib.Core.Bool.{Bool, true, false, cond, _&&_}
+use native.Mathlib.Omega.{arith}
+use lib.Dec.{ltb, leb, eqb}
+use borrow.Author.Tests.{le-ltb}
+use Rattle.lemmas.proofs.Cases.{bool, either, true-false}
+use Rattle.model.specs.declared.Operation.{Operation}
+use Rattle.model.specs.declared.Operation.the-variants.{Allocate, Free, Reset}
+use Rattle.model.specs.declared.Refusal.the-variants.{BadGroup, BadSize, NoRoom, NoBlock, OtherGroup}
+use Rattle.model.specs.declared.Answer.{Answer}
+use Rattle.model.specs.declared.Answer.the-variants.{Granted, Refused, Done}
+use Rattle.model.specs.Sizes.{pagesFor}
+use Rattle.model.specs.Arena.{Segment, direct}
+use Rattle.model.specs.State.{State}
+use Rattle.model.specs.PageMap.{occupancy, PageMap, pageMap, Block, whole, chunk, groupOf, blockAt}
+use Rattle.model.specs.Pages.{FreeRun, claim, carve, release}
+use Rattle.model.specs.Calls.{Outcome, isRefused, groupOk, sizeOk}
+use Rattle.model.specs.Allocate.{directFrom, allocate}
+use Rattle.model.specs.Free.{freeBlock, free}
+use Rattle.model.specs.Perform.{asked}
+use Rattle.model.proofs.Claim.{claim-found, claim-none, claim-retold}
+use Rattle.model.proofs.Joins.{carve-retold, release-retold}
+use Rattle.history.specs.Rows.{Row}
+use Rattle.history.proofs.Neat.{Neat, release-neat, carve-neat, row-run, found-row}
+
+-- The steps on page maps -------------------------------------------------------------------------------------------------------
+
+abbrev mapDirect : ℕ → ℕ → PageMap → Option FreeRun → PageMap
+mapDirect n g m none = m
+mapDirect n g m (some h) = carve h n (direct n g) m
+
+abbrev sayDirect : Option FreeRun → Answer
+sayDirect none = Refused NoRoom
+sayDirect (some h) = Granted (h .page * 4096)
+
+abbrev mapFree : ℕ → ℕ → PageMap → Option Block → PageMap
+mapFree g o m none = m
+mapFree g o m (some (whole n h)) = cond (eqb h g) (release o m) m
+mapFree g o m (some (chunk c i h)) = m
+
+abbrev sayFree : ℕ → Option Block → Answer
+sayFree g none = Refused NoBlock
+sayFree g (some b) = cond (eqb (groupOf b) g) Done (Refused OtherGroup)
+
+-- The page map after such a call, and the answer. (A reset is none of these calls.)
+abbrev pub mapAfter : PageMap → ℕ → Operation → PageMap
+mapAfter m g (Allocate n) = cond (groupOk g) (cond (sizeOk n) (mapDirect (pagesFor n) g m (claim (pagesFor n) m)) m) m
+mapAfter m g (Free o) = cond (groupOk g) (mapFree g o m (blockAt m o)) m
+mapAfter m g Reset = m
+
+abbrev pub sayAt : PageMap → ℕ → Operation → Answer
+sayAt m g (Allocate n) = cond (groupOk g) (cond (sizeOk n) (sayDirect (claim (pagesFor n) m)) (Refused BadSize)) (Refused BadGroup)
+sayAt m g (Free o) = cond (groupOk g) (sayFree g (blockAt m o)) (Refused BadGroup)
+sayAt m g Reset = Done
+
+-- A request from 8,192 bytes up, or a return by which no chunk comes back, on a state.
+abbrev pub AllowedOn : State → ℕ → Operation → Type 0
+AllowedOn s g (Allocate n) = 8192 ≤ n
+AllowedOn s g (Free o) = (c i h : ℕ) → blockAt (pageMap s) o ≡ some (chunk c i h) → isRefused ((free g o s) .answer) ≡ true
+AllowedOn s g Reset = ⊥
+
+free-says : (s : State) (g o : ℕ) → (free g o s) .answer ≡ sayAt (pageMap s) g (Free o)
+free-says s g o = bool (groupOk g) (λ t. rw t (go (blockAt (pageMap s) o))) (λ t. rw t)
+  where
+    go : (b : Option Block) → (freeBlock g o s b) .answer ≡ sayFree g b
+    go none = refl
+    go (some b) = bool (eqb (groupOf b) g) (λ t. rw t) (λ t. rw t)
+
+direct-map : (s : State) (n g : ℕ) (h : Option FreeRun) → pageMap ((directFrom n g s h) .after) ≡ mapDirect n g (pageMap s) h
+direct-map s n g none = refl
+direct-map s n g (some h) = carve-retold occupancy h n (direct n g) (s .segments)
+
+direct-says : (s : State) (n g : ℕ) (h : Option FreeRun) → (directFrom n g s h) .answer ≡ sayDirect h
+direct-says s n g none = refl
+direct-says s n g (some h) = refl
+
+allocate-both : (s : State) (g n : ℕ) → 8192 ≤ n → (pageMap ((allocate g n s) .after) ≡ mapAfter (pageMap s) g (Allocate n)) × ((allocate g n s) .answer ≡ sayAt (pageMap s) g (Allocate n))
+allocate-both s g n h = rw (le-ltb n 8192 h) (bool (groupOk g)
+    (λ t. rw t (bool (sizeOk n)
+    (λ u. rw (u, claim-retold occupancy (pagesFor n) (s .segments)) (direct-map s (pagesFor n) g (claim (pagesFor n) (s .segments)), direct-says s (pagesFor n) g (claim (pagesFor n) (s .segments))))
+    (λ u. rw u (refl, refl))))
+    (λ t. rw t (refl, refl)))
+
+free-map : (s : State) (g o : ℕ) → AllowedOn s g (Free o) → pageMap ((free g o s) .after) ≡ mapAfter (pageMap s) g (Free o)
+free-map s g o a = bool (groupOk g) (λ t. rw t (go t (blockAt (pageMap s) o) refl)) (λ t. rw t)
+  where
+    go : groupOk g ≡ true → (b : Option Block) → blockAt (pageMap s) o ≡ b → pageMap ((freeBlock g o s b) .after) ≡ mapFree g o (pageMap s) b
+    go t none e = refl
+    go t (some (whole n h)) e = bool (eqb h g) (λ u. rw u (release-retold occupancy o (s .segments))) (λ u. rw u)
+    go t (some (chunk c i h)) e = bool (eqb h g)
+        (λ u. absurd (let r : isRefused (sayAt (pageMap s) g (Free o)) ≡ true = ap isRefused (sym (free-says s g o)) ∙ a c i h e in let f : false ≡ true = rw (t, e, u) at r in true-false f refl))
+        (λ u. rw u)
+
+pub call-map : (s : State) (g : ℕ) (q : Operation) → AllowedOn s g q → pageMap ((asked g q s) .after) ≡ mapAfter (pageMap s) g q
+call-map s g (Allocate n) a = allocate-both s g n a .0
+call-map s g (Free o) a = free-map s g o a
+call-map s g Reset a = absurd a
+
+pub call-says : (s : State) (g : ℕ) (q : Operation) → AllowedOn s g q → (asked g q s) .answer ≡ sayAt (pageMap s) g q
+call-says s g (Allocate n) a = allocate-both s g n a .1
+call-says s g (Free o) a = free-says s g o
+call-says s g Reset a = absurd a
+
+-- What is allowed depends on the page map alone.
+pub allowed-same : (s t : State) (g : ℕ) (q : Operation) → pageMap s ≡ pageMap t → AllowedOn s g q → AllowedOn t g q
+allowed-same s t g (Allocate n) e a = a
+allowed-same s t g (Free o) e a = λ c i h b. ap isRefused (free-says t g o ∙ ap (λ m. sayAt m g (Free o)) (sym e) ∙ sym (free-says s g o)) ∙ a c i h (ap (λ m. blockAt m o) e ∙ b)
+allowed-same s t g Reset e a = a
+
+-- A trimmed page map stays one ----------------------------------------------------------------------------------------------------
+
+pub call-neat : (s : State) (g : ℕ) (q : Operation) → Neat false (pageMap s) → AllowedOn s g q → Neat false (pageMap ((asked g q s) .after))
+call-neat s g q h a = subst (Neat false) (sym (call-map s g q a)) (go q a)
+  where
+    m : PageMap
+    m = pageMap s
+
+    direct-neat : (n : ℕ) → 8192 ≤ n → (r : Option FreeRun) → claim (pagesFor n) m ≡ r → Neat false (mapDirect (pagesFor n) g m r)
+    direct-neat n k none e = h
+    direct-neat n k (some r) e = carve-neat (r .size) (pagesFor n) g (omega arith) false (r .page * 4096) m (claim-found (pagesFor n) m r (omega arith) e .0) h
+
+    free-neat : (o : ℕ) (b : Option Block) → Neat false (mapFree g o m b)
+    free-neat o none = h
+    free-neat o (some (whole n j)) = either (Neat false) (eqb j g) _ _ (λ u. release-neat o m h) (λ u. h)
+    free-neat o (some (chunk c i j)) = h
+
+    go : (q : Operation) → AllowedOn s g q → Neat false (mapAfter m g q)
+    go (Allocate n) k = either (Neat false) (groupOk g) _ _ (λ t. either (Neat false) (sizeOk n) _ _ (λ u. direct-neat n k (claim (pagesFor n) m) refl) (λ u. h)) (λ t. h)
+    go (Free o) k = either (Neat false) (groupOk g) _ _ (λ t. free-neat o (blockAt m o)) (λ t. h)
+    go Reset k = absurd k
+
+-- A request from a trimmed page map is granted if a row is clear, and refused by 6 if none is.
+pub record ExactOn (s : State) (g n : ℕ) : Type 0 where
+  pub refused : (Row (pagesFor n) (pageMap s) → ⊥) → (allocate g n s) .answer ≡ Refused NoRoom
+  pub granted : Row (pagesFor n) (pageMap s) → (o : ℕ) × ((allocate g n s) .answer ≡ Granted o)
+
+pub request-exact : (s : State) (g n : ℕ) → Neat false (pageMap s) → 8192 ≤ n → groupOk g ≡ true → sizeOk n ≡ true → ExactOn s g n
+request-exact s g n h k t u = go (claim (pagesFor n) m) refl (allocate-both s g n k .1 ∙ says)
+  where
+    m : PageMap
+    m = pageMap s
+
+    says : sayAt m g (Allocate n) ≡ sayDirect (claim (pagesFor n) m)
+    says = rw (t, u)
+
+    pos : 0 < pagesFor n
+    pos = omega arith
+
+    go : (r : Option FreeRun) → claim (pagesFor n) m ≡ r → (allocate g n s) .answer ≡ sayDirect (claim (pagesFor n) m) → ExactOn s g n
+    go none e x = record {
+      refused = λ _. x ∙ ap sayDirect e;
+      granted = λ w. absurd (claim-none (pagesFor n) m e (row-run (pagesFor n) pos false m h w));
+    }
+    go (some r) e x = record {
+      refused = λ w. absurd (w (found-row (pagesFor n) m r pos e));
+      granted = λ _. (r .page * 4096, x ∙ ap sayDirect e);
+    }

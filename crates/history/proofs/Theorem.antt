@@ -1,0 +1,241 @@
+-- Demand 3, proved for any lent words on which every call leaves and answers what the rules say: two equations, `does` and `tells`.
+-- Assumes nothing.
+use Prim.Native.Nat.{ℕ, zero, suc, _+_, _*_, _≤_, _<_}
+use mathlib.Core.Path.{_≡_, refl, sym, _∙_, ap, subst}
+use mathlib.Core.Logic.{_⊎_, inl, inr}
+use mathlib.Core.List.{List, [], _∷_, _++_, map, List·Memᴰ}
+use mathlib.Core.Option.{Option, none, some}
+use mathlib.Core.Bool.{Bool, true, false, _&&_}
+use native.Mathlib.Omega.{arith}
+use lib.Dec.{ltb, leb}
+use borrow.Author.Tests.{leb-true}
+use Rattle.lemmas.proofs.Cases.{bool, true-false, and-left, and-right, some-inj}
+use Rattle.model.specs.declared.Call.{Call}
+use Rattle.model.specs.declared.Operation.{Operation}
+use Rattle.model.specs.declared.Operation.the-variants.{Allocate, Free, Reset}
+use Rattle.model.specs.declared.Refusal.the-variants.{NoRoom}
+use Rattle.model.specs.declared.Answer.{Answer}
+use Rattle.model.specs.declared.Answer.the-variants.{Granted, Refused}
+use Rattle.model.specs.Sizes.{pagesFor}
+use Rattle.model.specs.Arena.{Segment, run, direct, zone, total, retold, Each}
+use Rattle.model.specs.Zone.{Zone}
+use Rattle.model.specs.State.{State, freshState}
+use Rattle.model.specs.PageMap.{Occupancy, occupancy, PageMap, pageMap, idle, idleZone, chunk, blockAt}
+use Rattle.model.specs.Valid.{ValidSegment, Valid}
+use Rattle.model.specs.Pages.{joined}
+use Rattle.model.specs.Calls.{Action, group, trim, Command, init, act, Outcome, isRefused, groupOk, sizeOk}
+use Rattle.model.specs.Trim.{trimmed}
+use Rattle.model.specs.Perform.{asked, serve, Metadata, wordsFor, holding, initialise, perform}
+use Rattle.model.proofs.Joins.{joined-retold}
+use Rattle.model.proofs.Validity.{fresh-valid, serve-valid, perform-leaves}
+use Rattle.model.proofs.Disjoint.{all-sized}
+use Rattle.history.specs.Ledger.{Held, Effect, begins, nothing, unlessRefused, effect, applied}
+use Rattle.history.specs.Rows.{Row}
+use Rattle.history.specs.Demand.{mapOf, mapAt, History, after, afterAll, NoStart, asks, Allowed, Sequence, answersTo, Exactly, ExactCall, Exact, Alike, Demand3}
+use Rattle.history.proofs.Determined.{same-trimmed}
+use Rattle.history.proofs.Neat.{Neat, Fit, joined-neat}
+use Rattle.history.proofs.Sequence.{AllowedOn, mapAfter, sayAt, call-map, call-says, allowed-same, call-neat, ExactOn, request-exact}
+use Rattle.history.proofs.Ledger.{Entry, told, find, Single, After, unchanged, after-action}
+use Rattle.history.proofs.Growth.{Grew, grew-none, grew-more, grew-same}
+
+-- What joining asks of the page map of valid segments.
+all-fit : (m : List (Segment Zone)) → Each ValidSegment m → Each (Fit idle) (map (retold occupancy) m)
+all-fit [] h = tt
+all-fit (run n ∷ r) h = (tt, all-fit r (h .1))
+all-fit (direct n g ∷ r) h = (h .0 .0, all-fit r (h .1))
+all-fit (zone z ∷ r) h = (λ e. e, all-fit r (h .1))
+
+trimmed-map : (s : State) → pageMap (trimmed s) ≡ joined idle 0 (pageMap s)
+trimmed-map s = joined-retold occupancy idleZone idle (λ z. refl) 0 (s .segments)
+
+trimmed-neat : (s : State) → Valid s → Neat false (pageMap (trimmed s))
+trimmed-neat s v = subst (Neat false) (sym (trimmed-map s)) (joined-neat idle 0 (pageMap s) (all-fit (s .segments) (v .sound)))
+
+-- A start that is not refused.
+record Started (m : Metadata) (n : ℕ) : Type 0 where
+  least : 0 < n
+  most : n ≤ 256
+  leaves : (perform m (init n)) .after ≡ holding m (freshState n)
+
+started : (m : Metadata) (n : ℕ) → isRefused ((perform m (init n)) .answer) ≡ false → Started m n
+started m n h = bool (leb 1 n && leb n 256)
+    (λ t. bool (leb (wordsFor n) (m .words))
+    (λ u. record { least = leb-true 1 n (and-left (leb 1 n) (leb n 256) t); most = leb-true n 256 (and-right (leb 1 n) (leb n 256) t); leaves = rw (t, u) })
+    (λ u. absurd (true-false refl (rw (t, u) at h))))
+    (λ t. absurd (true-false refl (rw t at h)))
+
+-- Another start has no effect only if it is refused.
+no-start : (a : Answer) → (unlessRefused a begins ≡ begins → ⊥) → isRefused a ≡ true
+no-start a h = bool (isRefused a) (λ t. t) (λ t. absurd (h (rw t)))
+
+module _ (B : Type 0) (view : B → Metadata) (next : B → Command → B) (says : B → Command → Answer)
+    (does : (b : B) (c : Command) → view (next b c) ≡ (perform (view b) c) .after)
+    (tells : (b : B) (c : Command) → says b c ≡ (perform (view b) c) .answer) where
+  -- The words b, k of them, encode the state s.
+  abbrev On : ℕ → B → State → Type 0
+  On k b s = view b ≡ record { words = k; state = some s }
+
+  on-map : (k : ℕ) (b : B) (s : State) → On k b s → mapAt B view next says b ≡ some (pageMap s)
+  on-map k b s e = ap (λ m. mapOf (m .state)) e
+
+  on-next : (k : ℕ) (b : B) (s : State) (a : Action) → On k b s → On k (next b (act a)) ((serve s a) .after)
+  on-next k b s a e = does b (act a) ∙ ap (λ m. (perform m (act a)) .after) e
+
+  on-says : (k : ℕ) (b : B) (s : State) (a : Action) → On k b s → says b (act a) ≡ (serve s a) .answer
+  on-says k b s a e = tells b (act a) ∙ ap (λ m. (perform m (act a)) .answer) e
+
+  -- The sequence -----------------------------------------------------------------------------------------------------------------
+
+  allowed-on : (k : ℕ) (b : B) (s : State) (g : ℕ) (q : Operation) → On k b s → Allowed B view next says b g q → AllowedOn s g q
+  allowed-on k b s g (Allocate n) e a = a
+  allowed-on k b s g (Free o) e a = λ c i h w. ap isRefused (sym (on-says k b s (group (record { group = g; operation = Free o })) e)) ∙ a (pageMap s) (on-map k b s e) c i h w
+  allowed-on k b s g Reset e a = a
+
+  same-answers : (q : List Call) (j k : ℕ) (b d : B) (s t : State) → On j b s → On k d t → pageMap s ≡ pageMap t → Sequence B view next says b q → answersTo B view next says b q ≡ answersTo B view next says d q
+  same-answers [] j k b d s t e f m a = refl
+  same-answers (c ∷ q) j k b d s t e f m a =
+      let g = c .group in
+      let o = c .operation in
+      let al = allowed-on j b s g o e (a .0) in
+      let bl = allowed-same s t g o m al in
+      let said : says b (act (group c)) ≡ says d (act (group c)) = on-says j b s (group c) e ∙ call-says s g o al ∙ ap (λ x. sayAt x g o) m ∙ sym (call-says t g o bl) ∙ sym (on-says k d t (group c) f) in
+      let maps : pageMap ((asked g o s) .after) ≡ pageMap ((asked g o t) .after) = call-map s g o al ∙ ap (λ x. mapAfter x g o) m ∙ sym (call-map t g o bl) in
+      let rest = same-answers q j k (next b (act (group c))) (next d (act (group c))) ((asked g o s) .after) ((asked g o t) .after) (on-next j b s (group c) e) (on-next k d t (group c) f) maps (a .1) in
+      λ i. said i ∷ rest i
+
+  exact-call : (k : ℕ) (b : B) (s : State) (g : ℕ) (q : Operation) → On k b s → Neat false (pageMap s) → AllowedOn s g q → ExactCall B view next says b g q
+  exact-call k b s g (Allocate n) e h a = λ t u m p.
+      let x = request-exact s g n h a t u in
+      let mm : m ≡ pageMap s = some-inj (sym p ∙ on-map k b s e) in
+      let told-so = on-says k b s (group (record { group = g; operation = Allocate n })) e in
+      record {
+        refused = λ w. told-so ∙ x .refused (λ r. w (subst (Row (pagesFor n)) (sym mm) r));
+        granted = λ r. let y = x .granted (subst (Row (pagesFor n)) mm r) in (y .0, told-so ∙ y .1);
+      }
+  exact-call k b s g (Free o) e h a = tt
+  exact-call k b s g Reset e h a = tt
+
+  all-exact : (q : List Call) (k : ℕ) (b : B) (s : State) → On k b s → Neat false (pageMap s) → Sequence B view next says b q → Exact B view next says b q
+  all-exact [] k b s e h a = tt
+  all-exact (c ∷ q) k b s e h a =
+      let al = allowed-on k b s (c .group) (c .operation) e (a .0) in (
+        exact-call k b s (c .group) (c .operation) e h al,
+        all-exact q k (next b (act (group c))) ((asked (c .group) (c .operation) s) .after) (on-next k b s (group c) e) (call-neat s (c .group) (c .operation) h al) (a .1),
+      )
+
+  -- Two states with the same pages and the same live blocks.
+  alike : (j k : ℕ) (b d : B) (m e : State) → On j b m → On k d e → Valid m → Valid e → ((o : ℕ) → blockAt (pageMap e) o ≡ blockAt (pageMap m) o) → total (pageMap e) ≡ total (pageMap m) → Alike B view next says (next b (act trim)) (next d (act trim))
+  alike j k b d m e om oe vm ve h t =
+      let tm = on-next j b m trim om in
+      let te = on-next k d e trim oe in
+      let maps : pageMap (trimmed m) ≡ pageMap (trimmed e) = trimmed-map m ∙ same-trimmed (pageMap m) (pageMap e) (all-sized (m .segments) (vm .sound)) (all-sized (e .segments) (ve .sound)) (λ o. sym (h o)) (sym t) ∙ sym (trimmed-map e) in
+      record {
+        map = (pageMap (trimmed m), on-map j (next b (act trim)) (trimmed m) tm, on-map k (next d (act trim)) (trimmed e) te ∙ ap some (sym maps));
+        answers = λ q. go q tm te maps;
+        exact-split = λ q. all-exact q j (next b (act trim)) (trimmed m) tm (trimmed-neat m vm);
+        exact-end = λ q. all-exact q k (next d (act trim)) (trimmed e) te (trimmed-neat e ve);
+      }
+    where
+      go : (q : List Call) → On j (next b (act trim)) (trimmed m) → On k (next d (act trim)) (trimmed e) → pageMap (trimmed m) ≡ pageMap (trimmed e) → Sequence B view next says (next b (act trim)) q ⊎ Sequence B view next says (next d (act trim)) q → answersTo B view next says (next b (act trim)) q ≡ answersTo B view next says (next d (act trim)) q
+      go q tm te maps (inl a) = same-answers q j k (next b (act trim)) (next d (act trim)) (trimmed m) (trimmed e) tm te maps a
+      go q tm te maps (inr a) = sym (same-answers q k j (next d (act trim)) (next b (act trim)) (trimmed e) (trimmed m) te tm (sym maps) a)
+
+  -- Histories --------------------------------------------------------------------------------------------------------------------
+
+  -- A history that calls have reached: its words encode a valid state of N pages, whose live blocks are the ledger's. M was its ledger
+  -- at call number t.
+  record Reached (N t : ℕ) (M : List Entry) (w : History B view next says) : Type 0 where
+    words : ℕ
+    state : State
+    entries : List Entry
+    on : On words (w .lent) state
+    live : w .live ≡ map told entries
+    agree : (o : ℕ) → blockAt (pageMap state) o ≡ find o entries
+    single : Single entries
+    size : total (pageMap state) ≡ N
+    valid : Valid state
+    grew : Grew t M entries
+    later : t ≤ w .calls
+
+  -- One call more, with what is known after it.
+  reach-by : (N t : ℕ) (M : List Entry) (w : History B view next says) (c : Command) (r : Reached N t M w) (s′ : State) → On (r .words) (next (w .lent) c) s′ → Valid s′ → After (w .calls) (r .state) (r .entries) (effect c (says (w .lent) c)) s′ → Reached N t M (after B view next says w c)
+  reach-by N t M w c r s′ on v a = record {
+    words = r .words;
+    state = s′;
+    entries = a .entries;
+    on = on;
+    live = ap (applied (w .calls) (effect c (says (w .lent) c))) (r .live) ∙ a .live;
+    agree = a .agree;
+    single = a .single;
+    size = a .size ∙ r .size;
+    valid = v;
+    grew = grew-more t (w .calls) M (r .entries) (a .entries) (r .later) (r .grew) (a .change);
+    later = omega (arith, r .later);
+  }
+
+  reach : (N t : ℕ) (M : List Entry) (w : History B view next says) (c : Command) → Reached N t M w → (effect c (says (w .lent) c) ≡ begins → ⊥) → Reached N t M (after B view next says w c)
+  reach N t M w (init n) r h =
+      let here : Metadata = record { words = r .words; state = some (r .state) } in
+      let no : isRefused (says (w .lent) (init n)) ≡ true = no-start (says (w .lent) (init n)) h in
+      let same : (perform here (init n)) .after ≡ here = perform-leaves here (init n) (r .valid) (ap isRefused (sym (tells (w .lent) (init n) ∙ ap (λ m. (perform m (init n)) .answer) (r .on))) ∙ no) in
+      reach-by N t M w (init n) r (r .state) (does (w .lent) (init n) ∙ ap (λ m. (perform m (init n)) .after) (r .on) ∙ same) (r .valid)
+      (unchanged (w .calls) (r .state) (r .entries) (r .valid) (r .agree) (r .single) (effect (init n) (says (w .lent) (init n))) (r .state) (rw no) refl)
+  reach N t M w (act a) r h =
+      reach-by N t M w (act a) r ((serve (r .state) a) .after) (on-next (r .words) (w .lent) (r .state) a (r .on)) (serve-valid (r .state) (r .valid) a)
+      (subst (λ x. After (w .calls) (r .state) (r .entries) (effect (act a) x) ((serve (r .state) a) .after)) (sym (on-says (r .words) (w .lent) (r .state) a (r .on))) (after-action (w .calls) (r .state) (r .entries) (r .valid) (r .agree) (r .single) a))
+
+  reach-all : (N t : ℕ) (M : List Entry) (l : List Command) (w : History B view next says) → Reached N t M w → NoStart B view next says w l → Reached N t M (afterAll B view next says w l)
+  reach-all N t M [] w r h = r
+  reach-all N t M (c ∷ l) w r h = reach-all N t M l (after B view next says w c) (reach N t M w c r (h .0)) (h .1)
+
+  -- Count anew from here.
+  rebased : (N t : ℕ) (M : List Entry) (w : History B view next says) (r : Reached N t M w) → Reached N (w .calls) (r .entries) w
+  rebased N t M w r = record {
+    words = r .words;
+    state = r .state;
+    entries = r .entries;
+    on = r .on;
+    live = r .live;
+    agree = r .agree;
+    single = r .single;
+    size = r .size;
+    valid = r .valid;
+    grew = grew-none (w .calls) (r .entries);
+    later = omega arith;
+  }
+
+  first-reached : (b : B) (n : ℕ) → isRefused (says b (init n)) ≡ false → Reached n 0 [] (after B view next says (record { lent = b; live = []; calls = 0 }) (init n))
+  first-reached b n h =
+      let S = started (view b) n (ap isRefused (sym (tells b (init n))) ∙ h) in
+      record {
+        words = view b .words;
+        state = freshState n;
+        entries = [];
+        on = does b (init n) ∙ S .leaves;
+        live = rw h;
+        agree = λ o. bool (ltb o (n * 4096)) (λ t. rw t) (λ t. rw t);
+        single = tt;
+        size = omega arith;
+        valid = fresh-valid n (S .least) (S .most);
+        grew = grew-none 0 [];
+        later = omega arith;
+      }
+
+  split-starts : (a l : List Command) (w : History B view next says) → NoStart B view next says w (a ++ l) → NoStart B view next says w a × NoStart B view next says (afterAll B view next says w a) l
+  split-starts [] l w h = (tt, h)
+  split-starts (c ∷ a) l w h = let k = split-starts a l (after B view next says w c) (h .1) in ((h .0, k .0), k .1)
+
+  -- DEMAND 3.
+  pub demand-3 : Demand3 B view next says
+  unfolding Demand3
+  demand-3 b n first stretch h starts early all =
+      let start : History B view next says = after B view next says (record { lent = b; live = []; calls = 0 }) (init n) in
+      let split : History B view next says = afterAll B view next says start first in
+      let parts = split-starts first stretch start starts in
+      let rs = reach-all n 0 [] first start (first-reached b n h) (parts .0) in
+      let re = reach-all n (split .calls) (rs .entries) stretch split (rebased n 0 [] split rs) (parts .1) in
+      let same : re .entries ≡ rs .entries = grew-same (split .calls) (rs .entries) (re .entries) (re .grew)
+      (λ x i. early x (subst (List·Memᴰ x) (sym (re .live)) i))
+      (λ x i. subst (List·Memᴰ x) (re .live) (all x (subst (List·Memᴰ x) (sym (rs .live)) i))) in
+      alike (rs .words) (re .words) (split .lent) ((afterAll B view next says split stretch) .lent) (rs .state) (re .state) (rs .on) (re .on) (rs .valid) (re .valid)
+      (λ o. re .agree o ∙ ap (find o) same ∙ sym (rs .agree o)) (re .size ∙ sym (rs .size))

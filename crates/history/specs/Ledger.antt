@@ -1,0 +1,64 @@
+-- The live blocks of a list of calls, told from the calls and their answers alone (document 01, "Demand 3, word by word").
+-- Assumes nothing.
+use Prim.Native.Nat.{ℕ}
+use mathlib.Core.List.{List, [], _∷_}
+use mathlib.Core.Option.{Option, none, some}
+use mathlib.Core.Bool.{Bool, true, false, cond, not}
+use lib.Dec.{eqb}
+use Rattle.lemmas.specs.Keep.{keep}
+use Rattle.model.specs.declared.Operation.{Operation}
+use Rattle.model.specs.declared.Operation.the-variants.{Allocate, Free, Reset}
+use Rattle.model.specs.declared.Answer.{Answer}
+use Rattle.model.specs.Sizes.{roomFor}
+use Rattle.model.specs.Calls.{Action, group, trim, query, listing, Command, init, act, isRefused, grantOf}
+
+-- A live block: the number of the call that was granted it, its offset, its group and its room. The number tells a block from
+-- another that is granted later at the same offset.
+pub record Held : Type 0 where
+  pub serial : ℕ
+  pub offset : ℕ
+  pub group : ℕ
+  pub room : ℕ
+
+-- What a call does to the live blocks.
+pub data Effect : Type 0 where
+  -- no block is live: a start that is not refused
+  begins : Effect
+  -- a block becomes live, at an offset, with a group and a room: a request that is granted
+  grants : ℕ → ℕ → ℕ → Effect
+  -- the block at an offset comes back: a return that is not refused
+  ends : ℕ → Effect
+  -- every block of a group comes back: a reset that is not refused
+  endsAll : ℕ → Effect
+  -- anything else
+  nothing : Effect
+
+abbrev pub ofGrant : ℕ → ℕ → Option ℕ → Effect
+ofGrant g n none = nothing
+ofGrant g n (some o) = grants o g (roomFor n)
+
+abbrev pub unlessRefused : Answer → Effect → Effect
+unlessRefused a e = cond (isRefused a) nothing e
+
+abbrev pub ofOperation : ℕ → Operation → Answer → Effect
+ofOperation g (Allocate n) a = ofGrant g n (grantOf a)
+ofOperation g (Free o) a = unlessRefused a (ends o)
+ofOperation g Reset a = unlessRefused a (endsAll g)
+
+abbrev pub ofAction : Action → Answer → Effect
+ofAction (group c) a = ofOperation (c .group) (c .operation) a
+ofAction trim a = nothing
+ofAction (query o) a = nothing
+ofAction (listing n) a = nothing
+
+abbrev pub effect : Command → Answer → Effect
+effect (init n) a = unlessRefused a begins
+effect (act x) a = ofAction x a
+
+-- The live blocks after call number i.
+abbrev pub applied : ℕ → Effect → List Held → List Held
+applied i begins l = []
+applied i (grants o g r) l = record { serial = i; offset = o; group = g; room = r } ∷ l
+applied i (ends o) l = keep (λ h. not (eqb (h .offset) o)) l
+applied i (endsAll g) l = keep (λ h. not (eqb (h .group) g)) l
+applied i nothing l = l

@@ -1,0 +1,74 @@
+-- Proofs by cases: on a Boolean, on a test of two numbers, on a conjunction, on an option. Assumes nothing.
+use Prim.Native.Nat.{ℕ, _+_, _≤_, _<_}
+use mathlib.Core.Path.{_≡_, refl}
+use mathlib.Core.Option.{Option, none, some, Option·some-injective}
+use mathlib.Core.Bool.{Bool, true, false, cond, not, _&&_}
+use native.Mathlib.Omega.{arith}
+use lib.Dec.{ltb, leb, eqb}
+use borrow.Author.Tests.{ltb-true, ltb-false, leb-true, leb-false, eqb-true, eqb-false}
+
+-- True and false are different.
+pub true-false : {b : Bool} → b ≡ true → b ≡ false → ⊥
+true-false p q = let z : _≡_ {A = ℕ} 0 1 = cc in omega arith
+
+-- A claim, by the value of a Boolean.
+pub bool {ℓ} : {P : Type ℓ} (b : Bool) → (b ≡ true → P) → (b ≡ false → P) → P
+bool true f g = f refl
+bool false f g = g refl
+
+-- What holds of both branches of a choice holds of the choice.
+pub either {ℓ κ} : {A : Type ℓ} (P : A → Type κ) (b : Bool) (x y : A) → (b ≡ true → P x) → (b ≡ false → P y) → P (cond b x y)
+either P true x y f g = f refl
+either P false x y f g = g refl
+
+pub cond-same {ℓ} : {A : Type ℓ} (b : Bool) (a : A) → cond b a a ≡ a
+cond-same true a = refl
+cond-same false a = refl
+
+-- A claim about the result of a test, by the fact that the test stands for.
+pub by-eqb {ℓ} : (P : Bool → Type ℓ) (a b : ℕ) → (a ≡ b → P true) → ((a ≡ b → ⊥) → P false) → P (eqb a b)
+by-eqb P a b f g = go (eqb a b) (eqb-true a b) (eqb-false a b)
+  where
+    go : (t : Bool) → (t ≡ true → a ≡ b) → (t ≡ false → a ≡ b → ⊥) → P t
+    go true p q = f (p refl)
+    go false p q = g (q refl)
+
+pub by-ltb {ℓ} : (P : Bool → Type ℓ) (a b : ℕ) → (a < b → P true) → (b ≤ a → P false) → P (ltb a b)
+by-ltb P a b f g = go (ltb a b) (ltb-true a b) (ltb-false a b)
+  where
+    go : (t : Bool) → (t ≡ true → a < b) → (t ≡ false → b ≤ a) → P t
+    go true p q = f (p refl)
+    go false p q = g (q refl)
+
+pub by-leb {ℓ} : (P : Bool → Type ℓ) (a b : ℕ) → (a ≤ b → P true) → (b < a → P false) → P (leb a b)
+by-leb P a b f g = go (leb a b) (leb-true a b) (leb-false a b)
+  where
+    go : (t : Bool) → (t ≡ true → a ≤ b) → (t ≡ false → b < a) → P t
+    go true p q = f (p refl)
+    go false p q = g (q refl)
+
+-- Conjunctions.
+pub and-left : (a b : Bool) → (a && b) ≡ true → a ≡ true
+and-left true b e = refl
+and-left false b e = e
+
+pub and-right : (a b : Bool) → (a && b) ≡ true → b ≡ true
+and-right true b e = e
+and-right false b e = absurd (true-false e refl)
+
+pub and-both : (a b : Bool) → a ≡ true → b ≡ true → (a && b) ≡ true
+and-both true b p q = q
+and-both false b p q = p
+
+pub and-false : (a : Bool) → (a && false) ≡ false
+and-false true = refl
+and-false false = refl
+
+-- A test whose truth is absurd fails.
+pub refuted : (b : Bool) → (b ≡ true → ⊥) → b ≡ false
+refuted true f = absurd (f refl)
+refuted false f = refl
+
+-- Options.
+pub some-inj {ℓ} : {A : Type ℓ} {a b : A} → some a ≡ some b → a ≡ b
+some-inj {a} {b} e = Option·some-injective a b e

@@ -1,0 +1,14 @@
+pub mod Below
+pub mod Bits
+pub mod Cases
+pub mod Distinct
+pub mod Every
+pub mod Heads
+pub mod Keep
+pub mod ListFrom
+pub mod Members
+pub mod Parts
+pub mod Sets
+pub mod Tests
+pub mod Times
+pub mod Zeros

@@ -1,0 +1,31 @@
+-- Equations between tests: two that hold together, a conjunction's parts, a test with its numbers exchanged or raised. Assumes nothing.
+use Prim.Native.Nat.{ℕ}
+use mathlib.Core.Path.{_≡_, refl, sym, ap}
+use mathlib.Core.Bool.{Bool, true, false, _&&_}
+use lib.Dec.{eqb}
+use borrow.Author.Tests.{eq-eqb, ne-eqb}
+use Rattle.lemmas.proofs.Cases.{by-eqb, and-false}
+
+-- Two tests, each true where the other is, are the same.
+pub agree : (a b : Bool) → (a ≡ true → b ≡ true) → (b ≡ true → a ≡ true) → a ≡ b
+agree true b f g = sym (f refl)
+agree false true f g = g refl
+agree false false f g = refl
+
+pub and-true : (a : Bool) → (a && true) ≡ a
+and-true true = refl
+and-true false = refl
+
+pub and-assoc : (a b c : Bool) → (a && (b && c)) ≡ (a && b && c)
+and-assoc true b c = refl
+and-assoc false b c = refl
+
+-- One part that fails.
+pub false-left : {a : Bool} (b : Bool) → a ≡ false → (a && b) ≡ false
+false-left b e = ap (λ (a : Bool). a && b) e
+
+pub false-right : (a : Bool) {b : Bool} → b ≡ false → (a && b) ≡ false
+false-right a {b} e = rw e (and-false a)
+
+pub eqb-comm : (a b : ℕ) → eqb a b ≡ eqb b a
+eqb-comm a b = by-eqb (λ t. eqb a b ≡ t) b a (λ e. eq-eqb a b (sym e)) (λ n. ne-eqb a b (λ e. n (sym e)))

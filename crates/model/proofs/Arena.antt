@@ -1,0 +1,195 @@
+-- Laws of segments in page order, over any kind of zone: where a byte lies, what an edit changes, and that neither depends on
+-- what is told of a zone. Assumes nothing.
+use Prim.Native.Nat.{ℕ, zero, suc, _+_, _-_, _*_, _≤_, _<_}
+use mathlib.Core.Path.{_≡_, refl, sym, _∙_, ap, subst}
+use mathlib.Core.Logic.{_⊎_, inl, inr}
+use mathlib.Core.List.{List, [], _∷_, _++_, map, map-append}
+use mathlib.Core.Option.{Option, none, some, Option·none-ne-some}
+use mathlib.Core.Bool.{Bool, true, false, cond}
+use native.Mathlib.Omega.{arith}
+use lib.Dec.{ltb}
+use borrow.Author.Tests.{ltb-true, ltb-false, lt-ltb, le-ltb}
+use Rattle.lemmas.proofs.Cases.{bool, some-inj}
+use Rattle.model.specs.Arena.{Segment, run, direct, zone, pages, bytes, total, retold, Place, locate, edit, Each}
+use Rattle.model.specs.State.{Begins}
+
+-- Every byte of a ++ y ++ b is in one of the three.
+pub data Part (A Y o : ℕ) : Type 0 where
+  low : o < A → Part A Y o
+  middle : (d : ℕ) → o ≡ A + d → d < Y → Part A Y o
+  high : (d : ℕ) → o ≡ A + (Y + d) → Part A Y o
+
+pub part : (A Y o : ℕ) → Part A Y o
+part A Y o = bool (ltb o A) (λ t. low (ltb-true o A t)) (λ t. bool (ltb o (A + Y)) (λ u. middle (o - A) (omega (arith, ltb-false o A t)) (omega (arith, ltb-false o A t, ltb-true o (A + Y) u))) (λ u. high (o - (A + Y)) (omega (arith, ltb-false o (A + Y) u))))
+
+module _ {Z : Type 0} where
+  pub total-append : (a b : List (Segment Z)) → total (a ++ b) ≡ total a + total b
+  total-append [] b = omega arith
+  total-append (x ∷ a) b = omega (arith, total-append a b)
+
+  -- Where a byte of an append lies.
+  pub locate-left : (a b : List (Segment Z)) (o : ℕ) → o < total a * 4096 → locate o (a ++ b) ≡ locate o a
+  locate-left [] b o h = absurd (omega arith)
+  locate-left (x ∷ a) b o h = bool (ltb o (bytes x)) (λ e. rw e) (λ e. rw e (locate-left a b (o - bytes x) (omega (arith, ltb-false o (bytes x) e))))
+
+  pub locate-right : (a b : List (Segment Z)) (o : ℕ) → locate (total a * 4096 + o) (a ++ b) ≡ locate o b
+  locate-right [] b o = ap (λ k. locate k b) (omega arith)
+  locate-right (x ∷ a) b o = rw (le-ltb ((pages x + total a) * 4096 + o) (bytes x) (omega arith))
+      (ap (λ k. locate k (a ++ b)) (let e : (pages x + total a) * 4096 + o - bytes x ≡ total a * 4096 + o = omega arith in e) ∙ locate-right a b o)
+
+  pub locate-past : (a : List (Segment Z)) (o : ℕ) → total a * 4096 ≤ o → locate o a ≡ none
+  locate-past [] o h = refl
+  locate-past (x ∷ a) o h = rw (le-ltb o (bytes x) (omega arith)) (locate-past a (o - bytes x) (omega arith))
+
+  -- What stands at a place, and an edit there.
+  pub record Split (o : ℕ) (m : List (Segment Z)) (pl : Place Z) : Type 0 where
+    pub before : List (Segment Z)
+    pub behind : List (Segment Z)
+    pub whole : m ≡ before ++ (pl .segment ∷ behind)
+    pub at : o ≡ total before * 4096 + pl .away
+    pub inside : pl .away < bytes (pl .segment)
+    pub edits : (f : Segment Z → List (Segment Z)) → edit o f m ≡ before ++ (f (pl .segment) ++ behind)
+
+  split-here : (o : ℕ) (x : Segment Z) (r : List (Segment Z)) → ltb o (bytes x) ≡ true → Split o (x ∷ r) (record { away = o; segment = x })
+  split-here o x r t = record {
+    before = [];
+    behind = r;
+    whole = refl;
+    at = omega arith;
+    inside = ltb-true o (bytes x) t;
+    edits = λ f. rw t;
+  }
+
+  split-there : (o : ℕ) (x : Segment Z) (r : List (Segment Z)) (pl : Place Z) → ltb o (bytes x) ≡ false → Split (o - bytes x) r pl → Split o (x ∷ r) pl
+  split-there o x r pl t s = record {
+    before = x ∷ s .before;
+    behind = s .behind;
+    whole = ap (λ l. x ∷ l) (s .whole);
+    at = omega (arith, ltb-false o (bytes x) t, s .at);
+    inside = s .inside;
+    edits = λ f. rw t (ap (λ l. x ∷ l) (s .edits f));
+  }
+
+  -- Every place can be split so.
+  pub split : (o : ℕ) (m : List (Segment Z)) (pl : Place Z) → locate o m ≡ some pl → Split o m pl
+  split o [] pl e = absurd (Option·none-ne-some pl e)
+  split o (x ∷ r) pl e = bool (ltb o (bytes x)) (λ t. subst (Split o (x ∷ r)) (some-inj (rw t at e)) (split-here o x r t)) (λ t. split-there o x r pl t (split (o - bytes x) r pl (rw t at e)))
+
+  pub locate-mid : (a y b : List (Segment Z)) (d : ℕ) → d < total y * 4096 → locate (total a * 4096 + d) (a ++ (y ++ b)) ≡ locate d y
+  locate-mid a y b d h = locate-right a (y ++ b) d ∙ locate-left y b d h
+
+  pub locate-high : (a y b : List (Segment Z)) (d : ℕ) → locate (total a * 4096 + (total y * 4096 + d)) (a ++ (y ++ b)) ≡ locate d b
+  locate-high a y b d = locate-right a (y ++ b) (total y * 4096 + d) ∙ locate-right y b d
+
+  -- The middle x gives way to y of the same length. Where a view of locate agrees on x and y, it agrees on the whole.
+  pub swap : {B : Type 0} (see : Option (Place Z) → B) (K : ℕ → Type 0) (a x y b : List (Segment Z)) → total y ≡ total x →
+      ((d : ℕ) → d < total y * 4096 → K (total a * 4096 + d) → see (locate d y) ≡ see (locate d x)) →
+      (o : ℕ) → K o → see (locate o (a ++ (y ++ b))) ≡ see (locate o (a ++ (x ++ b)))
+  swap see K a x y b e h o k = go (part (total a * 4096) (total y * 4096) o)
+    where
+      go : Part (total a * 4096) (total y * 4096) o → see (locate o (a ++ (y ++ b))) ≡ see (locate o (a ++ (x ++ b)))
+      go (low l) = rw (locate-left a (y ++ b) o l, locate-left a (x ++ b) o l)
+      go (middle d p l) = rw (p, locate-mid a y b d l, locate-mid a x b d (omega arith)) (h d l (rw p at k))
+      go (high d p) = rw (p, locate-high a y b d) (ap see (sym (ap (λ n. locate (total a * 4096 + (n * 4096 + d)) (a ++ (x ++ b))) e ∙ locate-high a x b d)))
+
+  -- An edit by segments of as many pages keeps the pages.
+  pub total-edit : (o : ℕ) (f : Segment Z → List (Segment Z)) (m : List (Segment Z)) (pl : Place Z) → locate o m ≡ some pl → total (f (pl .segment)) ≡ pages (pl .segment) → total (edit o f m) ≡ total m
+  total-edit o f m pl e t = go (split o m pl e)
+    where
+      go : Split o m pl → total (edit o f m) ≡ total m
+      go s = rw (s .edits f, s .whole) (omega (arith, total-append (s .before) (f (pl .segment) ++ s .behind), total-append (f (pl .segment)) (s .behind), total-append (s .before) (pl .segment ∷ s .behind)))
+
+  -- An edit leaves what begins elsewhere.
+  pub begins-kept : (o : ℕ) (f : Segment Z → List (Segment Z)) (m : List (Segment Z)) (pl : Place Z) → locate o m ≡ some pl → total (f (pl .segment)) ≡ pages (pl .segment) → (q : ℕ) (y : Segment Z) → Begins q m y → (q + pl .away ≡ o → ⊥) → Begins q (edit o f m) y
+  begins-kept o f m pl e t q y h ne =
+      let S = split o m pl e in
+      ap (locate q) (S .edits f) ∙ swap (λ p. p) (λ k. k ≡ q) (S .before) (pl .segment ∷ []) (f (pl .segment)) (S .behind) (omega arith)
+      (λ d l k. absurd (
+      let at : locate q m ≡ some (record { away = d; segment = pl .segment }) = ap (locate q) (S .whole) ∙ ap (λ j. locate j (S .before ++ (pl .segment ∷ S .behind))) (sym k) ∙ locate-mid (S .before) (pl .segment ∷ []) (S .behind) d (omega arith) ∙ rw (lt-ltb d (bytes (pl .segment)) (omega arith)) in
+      let z : d ≡ 0 = ap (λ p. p .away) (some-inj (sym at ∙ h)) in
+      ne (omega (arith, S .at, k, z)))) q refl
+      ∙ ap (locate q) (sym (S .whole)) ∙ h
+
+  -- An edit puts its first segment where the old one began.
+  pub begins-new : (o : ℕ) (f : Segment Z → List (Segment Z)) (m : List (Segment Z)) (pl : Place Z) → locate o m ≡ some pl → (q : ℕ) (x : Segment Z) (r : List (Segment Z)) → q + pl .away ≡ o → f (pl .segment) ≡ x ∷ r → 0 < pages x → Begins q (edit o f m) x
+  begins-new o f m pl e q x r a fe pos =
+      let S = split o m pl e in
+      let at : q ≡ total (S .before) * 4096 + 0 = omega (arith, S .at) in
+      ap (λ k. locate k (edit o f m)) at ∙ ap (locate (total (S .before) * 4096 + 0)) (S .edits f ∙ ap (λ y. S .before ++ (y ++ S .behind)) fe) ∙ locate-mid (S .before) (x ∷ r) (S .behind) 0 (omega arith) ∙ rw (lt-ltb 0 (bytes x) (omega arith))
+
+  -- What begins after an edit began before it, or is part of what the edit put in.
+  pub begins-back : (o : ℕ) (f : Segment Z → List (Segment Z)) (m : List (Segment Z)) (pl : Place Z) → locate o m ≡ some pl → total (f (pl .segment)) ≡ pages (pl .segment) → (q : ℕ) (y : Segment Z) → Begins q (edit o f m) y → Begins q m y ⊎ ((d : ℕ) × (q + pl .away ≡ o + d) × (locate d (f (pl .segment)) ≡ some (record { away = 0; segment = y })))
+  begins-back o f m pl e t q y h = go (part (total (S .before) * 4096) (total (f (pl .segment)) * 4096) q)
+    where
+      S : Split o m pl
+      S = split o m pl e
+
+      h′ : locate q (S .before ++ (f (pl .segment) ++ S .behind)) ≡ some (record { away = 0; segment = y })
+      h′ = ap (locate q) (sym (S .edits f)) ∙ h
+
+      go : Part (total (S .before) * 4096) (total (f (pl .segment)) * 4096) q → Begins q m y ⊎ ((d : ℕ) × (q + pl .away ≡ o + d) × (locate d (f (pl .segment)) ≡ some (record { away = 0; segment = y })))
+      go (low l) = inl (ap (locate q) (S .whole) ∙ locate-left (S .before) (pl .segment ∷ S .behind) q l ∙ sym (locate-left (S .before) (f (pl .segment) ++ S .behind) q l) ∙ h′)
+      go (middle d u l) = inr (d, omega (arith, S .at), sym (locate-mid (S .before) (f (pl .segment)) (S .behind) d l) ∙ ap (λ k. locate k (S .before ++ (f (pl .segment) ++ S .behind))) (sym u) ∙ h′)
+      go (high d u) = inl (ap (locate q) (S .whole) ∙ ap (λ k. locate k (S .before ++ (pl .segment ∷ S .behind))) (let w : q ≡ total (S .before) * 4096 + (total (pl .segment ∷ []) * 4096 + d) = omega arith in w) ∙ locate-high (S .before) (pl .segment ∷ []) (S .behind) d ∙ sym (locate-high (S .before) (f (pl .segment)) (S .behind) d) ∙ ap (λ k. locate k (S .before ++ (f (pl .segment) ++ S .behind))) (sym u) ∙ h′)
+
+  -- Where the segment begins that holds a byte: at a page.
+  pub start-of : (m : List (Segment Z)) (o : ℕ) (pl : Place Z) → locate o m ≡ some pl → (p : ℕ) × (p * 4096 + pl .away ≡ o) × (pl .away < bytes (pl .segment)) × Begins (p * 4096) m (pl .segment)
+  start-of m o pl e =
+      let S = split o m pl e in
+      (total (S .before), sym (S .at), S .inside, ap (λ k. locate k m) (let z : total (S .before) * 4096 ≡ total (S .before) * 4096 + 0 = omega arith in z) ∙ ap (locate (total (S .before) * 4096 + 0)) (S .whole) ∙ locate-mid (S .before) (pl .segment ∷ []) (S .behind) 0 (omega (arith, S .inside)) ∙ rw (lt-ltb 0 (bytes (pl .segment)) (omega (arith, S .inside))))
+
+  -- What holds of every segment.
+  pub each-append : (P : Segment Z → Type 0) (a b : List (Segment Z)) → Each P a → Each P b → Each P (a ++ b)
+  each-append P [] b h k = k
+  each-append P (x ∷ a) b h k = (h .0, each-append P a b (h .1) k)
+
+  pub each-edit : (P : Segment Z → Type 0) (o : ℕ) (f : Segment Z → List (Segment Z)) → ((x : Segment Z) → P x → Each P (f x)) → (m : List (Segment Z)) → Each P m → Each P (edit o f m)
+  each-edit P o f h [] k = tt
+  each-edit P o f h (x ∷ r) k = bool (ltb o (bytes x)) (λ t. rw t (each-append P (f x) r (h x (k .0)) (k .1))) (λ t. rw t (k .0, each-edit P (o - bytes x) f h r (k .1)))
+
+  pub each-locate : (P : Segment Z → Type 0) (m : List (Segment Z)) (o : ℕ) (pl : Place Z) → Each P m → locate o m ≡ some pl → P (pl .segment)
+  each-locate P [] o pl h e = absurd (Option·none-ne-some pl e)
+  each-locate P (x ∷ r) o pl h e = bool (ltb o (bytes x)) (λ t. subst P (ap (λ p. p .segment) (some-inj (rw t at e))) (h .0)) (λ t. each-locate P r (o - bytes x) pl (h .1) (rw t at e))
+
+  pub each-edit-at : (P : Segment Z → Type 0) (o : ℕ) (f : Segment Z → List (Segment Z)) (m : List (Segment Z)) (pl : Place Z) → locate o m ≡ some pl → Each P (f (pl .segment)) → Each P m → Each P (edit o f m)
+  each-edit-at P o f [] pl e k h = tt
+  each-edit-at P o f (x ∷ r) pl e k h = bool (ltb o (bytes x))
+      (λ t. rw t (each-append P (f x) r (subst (λ y. Each P (f y)) (sym (ap (λ p. p .segment) (some-inj (rw t at e)))) k) (h .1)))
+      (λ t. rw t (h .0, each-edit-at P (o - bytes x) f r pl (rw t at e) k (h .1)))
+
+-- What is told of zones another way ------------------------------------------------------------------------
+
+module _ {A B : Type 0} (f : A → B) where
+  pub pages-retold : (x : Segment A) → pages (retold f x) ≡ pages x
+  pages-retold (run n) = refl
+  pages-retold (direct n g) = refl
+  pages-retold (zone z) = refl
+
+  pub total-retold : (m : List (Segment A)) → total (map (retold f) m) ≡ total m
+  total-retold [] = refl
+  total-retold (x ∷ r) = omega (arith, pages-retold x, total-retold r)
+
+  abbrev pub retoldPlace : Option (Place A) → Option (Place B)
+  retoldPlace none = none
+  retoldPlace (some a) = some (record { away = a .away; segment = retold f (a .segment) })
+
+  pub locate-retold : (o : ℕ) (m : List (Segment A)) → locate o (map (retold f) m) ≡ retoldPlace (locate o m)
+  locate-retold o [] = refl
+  locate-retold o (x ∷ r) = rw (pages-retold x) (bool (ltb o (bytes x)) (λ t. rw t) (λ t. rw t (locate-retold (o - bytes x) r)))
+
+  pub edit-retold : (o : ℕ) (h : Segment A → List (Segment A)) (k : Segment B → List (Segment B)) → ((x : Segment A) → map (retold f) (h x) ≡ k (retold f x)) → (m : List (Segment A)) → map (retold f) (edit o h m) ≡ edit o k (map (retold f) m)
+  edit-retold o h k e [] = refl
+  edit-retold o h k e (x ∷ r) = rw (pages-retold x) (bool (ltb o (bytes x)) (λ t. rw t (map-append (retold f) (h x) r ∙ ap (λ l. l ++ map (retold f) r) (e x))) (λ t. rw t (ap (λ l. retold f x ∷ l) (edit-retold (o - bytes x) h k e r))))
+
+-- What stands under a retold place.
+pub record Under {A B : Type 0} (f : A → B) (m : List (Segment A)) (o : ℕ) (pl : Place B) : Type 0 where
+  pub segment : Segment A
+  pub shows : retold f segment ≡ pl .segment
+  pub there : locate o m ≡ some (record { away = pl .away; segment = segment })
+
+pub under : {A B : Type 0} (f : A → B) (m : List (Segment A)) (o : ℕ) (pl : Place B) → locate o (map (retold f) m) ≡ some pl → Under f m o pl
+under {A} f m o pl e = go (locate o m) refl (sym (locate-retold f o m) ∙ e)
+  where
+    go : (x : Option (Place A)) → locate o m ≡ x → retoldPlace f x ≡ some pl → Under f m o pl
+    go none q u = absurd (Option·none-ne-some pl u)
+    go (some a) q u = record { segment = a .segment; shows = ap (λ p. p .segment) (some-inj u); there = q ∙ (λ i. some (record { away = (some-inj u i) .away; segment = a .segment })) }

@@ -1,0 +1,145 @@
+-- Document 01's worked examples, computed: the table of "Both sides of each edge" that is marked to be proved, the whole session
+-- with its two listings, the nine-request case and the thirteen-request case. Assumes nothing.
+use Prim.Native.Nat.{ℕ, zero, suc, _+_}
+use mathlib.Core.Path.{_≡_, refl}
+use mathlib.Core.List.{List, [], _∷_, _++_, map}
+use mathlib.Core.Option.{Option, none, some}
+use mathlib.Core.Bool.{cond}
+use lib.Dec.{ltb}
+use Rattle.model.specs.declared.Call.{Call}
+use Rattle.model.specs.declared.Operation.the-variants.{Allocate, Free, Reset}
+use Rattle.model.specs.declared.Refusal.the-variants.{BadPages, FewWords, NoState, BadGroup, BadSize, NoRoom, NoBlock, OtherGroup, ShortBuffer}
+use Rattle.model.specs.declared.Answer.{Answer}
+use Rattle.model.specs.declared.Answer.the-variants.{Granted, Refused, Done, Counted, Block}
+use Rattle.model.specs.Sizes.{step, rounded, classOf, room, chunks, pagesFor, largeSize}
+use Rattle.model.specs.State.{State, listOf}
+use Rattle.model.specs.PageMap.{pageMap}
+use Rattle.model.specs.Pages.{claim}
+use Rattle.model.specs.Calls.{Action, group, trim, query, listing, Command, init, act}
+use Rattle.model.specs.Ascii.{ascii}
+use Rattle.model.specs.Text.{digits, decimal, line, lines}
+use Rattle.model.specs.Listing.{section, listingText}
+use Rattle.model.specs.Perform.{Metadata, wordsFor, perform}
+use Rattle.lemmas.specs.Keep.{keep}
+use Rattle.lemmas.specs.Times.{remove}
+
+-- What a size takes: a chunk (room, class), or whole pages.
+pub data Share : Type 0 where
+  aChunk : ℕ → ℕ → Share
+  wholePages : ℕ → Share
+
+pub share : ℕ → Share
+share n = cond (ltb n largeSize) (aChunk (room (classOf n)) (classOf n)) (wholePages (pagesFor n))
+
+-- The table marked P: ten sizes and what each takes; four chunk sizes and how many chunks a zone has of each.
+pub edges : (map share (1 ∷ 127 ∷ 128 ∷ 129 ∷ 255 ∷ 257 ∷ 8191 ∷ 8192 ∷ 8193 ∷ 1048576 ∷ [])
+    ≡ aChunk 8 0 ∷ aChunk 128 15 ∷ aChunk 128 15 ∷ aChunk 144 16 ∷ aChunk 256 23 ∷ aChunk 288 24 ∷ aChunk 8192 63 ∷ wholePages 2 ∷ wholePages 3 ∷ wholePages 256 ∷ [])
+    × (map (λ n. chunks (classOf n)) (8 ∷ 104 ∷ 144 ∷ 8191 ∷ []) ≡ 4096 ∷ 315 ∷ 227 ∷ 4 ∷ [])
+unfolding share step rounded classOf room chunks
+edges = (refl, refl)
+
+-- The calls as document 01's lines have them.
+abbrev pub s : ℕ → Command
+s n = init n
+
+abbrev pub q : ℕ → ℕ → Command
+q g n = act (group (record { group = g; operation = Allocate n }))
+
+abbrev pub r : ℕ → ℕ → Command
+r g o = act (group (record { group = g; operation = Free o }))
+
+abbrev pub x : ℕ → Command
+x g = act (group (record { group = g; operation = Reset }))
+
+abbrev pub t : Command
+t = act trim
+
+abbrev pub b : ℕ → Command
+b o = act (query o)
+
+-- What the lent words hold after some calls, and what the calls answered.
+pub leaves : Metadata → List Command → Metadata
+leaves m [] = m
+leaves m (c ∷ l) = leaves ((perform m c) .after) l
+
+pub replies : Metadata → List Command → List Answer
+replies m [] = []
+replies m (c ∷ l) = (perform m c) .answer ∷ replies ((perform m c) .after) l
+
+-- The bench program's words when it begins: 13,504, holding no state.
+pub blank : Metadata
+blank = record { words = 13504; state = none }
+
+pub text : Option State → List ℕ
+text none = []
+text (some s) = listingText (pageMap s)
+
+pub morning : List Command
+morning = s 24 ∷ q 1 100 ∷ q 2 100 ∷ q 3 9000 ∷ q 1 8191 ∷ r 2 0 ∷ r 1 0 ∷ q 2 97 ∷ []
+
+pub afternoon : List Command
+afternoon = x 1 ∷ q 4 24576 ∷ t ∷ q 4 24576 ∷ []
+
+pub session-answers : replies blank (morning ++ (b 104 ∷ afternoon)) ≡
+    Done ∷ Granted 0 ∷ Granted 104 ∷ Granted 32768 ∷ Granted 45056 ∷ Refused OtherGroup ∷ Done ∷ Granted 208 ∷ Block 2 104
+    ∷ Counted 1 ∷ Refused NoRoom ∷ Counted 1 ∷ Granted 45056 ∷ []
+unfolding replies blank morning afternoon step rounded classOf room chunks claim remove keep
+session-answers = refl
+
+pub first-listing : text ((leaves blank morning) .state) ≡ ascii "runs 1\n19 5\ndirect 1\n8 3 3\nzones 2\n0 12 2\n11 63 1\n"
+unfolding leaves blank morning text step rounded classOf room chunks claim remove keep listingText section ascii line lines decimal digits
+first-listing = refl
+
+pub second-listing : text ((leaves blank (morning ++ afternoon)) .state) ≡ ascii "runs 1\n17 7\ndirect 2\n8 3 3\n11 6 4\nzones 1\n0 12 2\n"
+unfolding leaves blank morning afternoon text step rounded classOf room chunks claim remove keep listingText section ascii line lines decimal digits
+second-listing = refl
+
+-- The nine-request case -----------------------------------------------------------------------------------------------------
+
+-- n requests of 8,191 bytes, and the returns of the blocks that they are granted one after another in a fresh arena.
+pub requests : ℕ → List Command
+requests zero = []
+requests (suc n) = q 1 8191 ∷ requests n
+
+pub returns : ℕ → ℕ → List Command
+returns zero o = []
+returns (suc n) o = r 1 o ∷ returns n (o + 8192)
+
+-- The lists: of class 63, and the empty list.
+pub listsOf : Option State → List ℕ × List ℕ
+listsOf none = ([], [])
+listsOf (some a) = (listOf a 63, a .spare)
+
+pub nine : List Command
+nine = s 24 ∷ (requests 9 ++ returns 9 0)
+
+-- All nine returned leave two zones on the empty list and one on its class's list, and no free page; ..
+pub nine-lists : (listsOf ((leaves blank nine) .state) ≡ (16 ∷ [], 8 ∷ 0 ∷ [])) × (text ((leaves blank nine) .state) ≡ ascii "runs 0\ndirect 0\nzones 3\n0 63 0\n8 63 0\n16 63 0\n")
+unfolding leaves blank nine requests returns listsOf text step rounded classOf room chunks claim remove keep listingText section ascii line lines decimal digits
+nine-lists = (refl, refl)
+
+-- .. 32,768 bytes are then refused by 6, and trim answers 3.
+pub nine-answers : replies (leaves blank nine) (q 1 32768 ∷ t ∷ q 1 32768 ∷ []) ≡ Refused NoRoom ∷ Counted 3 ∷ Granted 0 ∷ []
+unfolding leaves replies blank nine requests returns step rounded classOf room chunks claim remove keep
+nine-answers = refl
+
+-- 32 pages, thirteen such requests, the first twelve returned in order: the third zone is given back at once.
+pub thirteen : List Command
+thirteen = s 32 ∷ (requests 13 ++ returns 12 0)
+
+pub thirteen-listing : text ((leaves (record { words = wordsFor 32; state = none }) thirteen) .state) ≡ ascii "runs 1\n16 8\ndirect 0\nzones 3\n0 63 0\n8 63 0\n24 63 1\n"
+unfolding leaves thirteen requests returns text step rounded classOf room chunks claim remove keep listingText section ascii line lines decimal digits
+thirteen-listing = refl
+
+-- The rules that these cases do not show --------------------------------------------------------------------------------------
+
+-- Two runs are long enough: the first is taken. Pages that come back join with the runs on both sides.
+pub first-run-taken : (replies blank (s 24 ∷ q 1 8192 ∷ q 2 8192 ∷ q 3 8192 ∷ r 1 0 ∷ q 4 8192 ∷ []) ≡ Done ∷ Granted 0 ∷ Granted 8192 ∷ Granted 16384 ∷ Done ∷ Granted 0 ∷ [])
+    × (text ((leaves blank (s 24 ∷ q 1 8192 ∷ q 2 8192 ∷ q 3 8192 ∷ q 4 8192 ∷ r 1 0 ∷ r 3 16384 ∷ r 2 8192 ∷ [])) .state) ≡ ascii "runs 2\n0 6\n8 16\ndirect 1\n6 2 4\nzones 0\n")
+unfolding leaves replies blank text step rounded classOf room chunks claim remove keep listingText section ascii line lines decimal digits
+first-run-taken = (refl, refl)
+
+-- A zone from the empty list is set up anew: its chunks are handed out from chunk 0 on.
+pub set-up-anew : replies (leaves blank nine) (q 2 100 ∷ q 2 100 ∷ r 2 32768 ∷ q 2 100 ∷ x 2 ∷ []) ≡ Granted 32768 ∷ Granted 32872 ∷ Done ∷ Granted 32976 ∷ Counted 2 ∷ []
+unfolding leaves replies blank nine requests returns step rounded classOf room chunks claim remove keep
+set-up-anew = refl

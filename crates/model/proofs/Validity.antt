@@ -1,0 +1,131 @@
+-- Every call keeps validity, and a refused call leaves everything as it was. Assumes nothing.
+use Prim.Native.Nat.{ℕ, zero, suc, _*_, _≤_, _<_}
+use mathlib.Core.Path.{_≡_, refl, sym, _∙_, ap, subst}
+use mathlib.Core.List.{List, [], _∷_, List·Memᴰ, List·Memᴰ·not-nil}
+use mathlib.Core.Option.{Option, none, some}
+use mathlib.Core.Bool.{Bool, true, false, cond, _&&_}
+use native.Mathlib.Omega.{arith}
+use lib.Dec.{ltb, leb, eqb}
+use lib.ListN.{length, getD, replicate, length-replicate, getD-replicate, List·getD-eq-default}
+use borrow.Author.Tests.{ltb-true, ltb-false, leb-true}
+use Rattle.lemmas.specs.Times.{Distinct}
+use Rattle.lemmas.proofs.Cases.{bool, true-false, and-left, and-right, some-inj}
+use Rattle.model.specs.declared.Refusal.{Refusal}
+use Rattle.model.specs.declared.Operation.{Operation}
+use Rattle.model.specs.declared.Operation.the-variants.{Allocate, Free, Reset}
+use Rattle.model.specs.declared.Answer.{Answer}
+use Rattle.model.specs.Arena.{Segment, run, zone, locate}
+use Rattle.model.specs.Zone.{Zone}
+use Rattle.model.specs.State.{State, listOf, freshState}
+use Rattle.model.specs.PageMap.{pageMap, Block, groupOf, blockAt}
+use Rattle.model.specs.Valid.{Valid}
+use Rattle.model.specs.Pages.{FreeRun, claim}
+use Rattle.model.specs.Calls.{Action, group, trim, query, listing, Command, init, act, Outcome, isRefused, provided, groupOk, sizeOk}
+use Rattle.model.specs.Allocate.{directFrom, zoneFrom, fromSpare, chunkFrom, supplied, allocate}
+use Rattle.model.specs.Free.{freeBlock, free, reset}
+use Rattle.model.specs.Listing.{listingText, listInto}
+use Rattle.model.specs.Perform.{asked, serve, Metadata, wordsFor, holding, initialise, onState, perform}
+use Rattle.model.proofs.Joins.{cut-zone}
+use Rattle.model.proofs.Allocated.{Allocated, gives, denies, allocated}
+use Rattle.model.proofs.ValidAllocate.{allocate-valid}
+use Rattle.model.proofs.ValidFree.{free-valid, reset-valid}
+use Rattle.model.proofs.ValidTrim.{trimmed-valid}
+
+-- The fresh state -----------------------------------------------------------------------------------------------------
+
+fresh-list : (n c : ℕ) → getD {A = List ℕ} (replicate n []) c [] ≡ []
+fresh-list n c = bool (ltb c n) (λ t. getD-replicate n c [] [] (ltb-true c n t)) (λ t. List·getD-eq-default (replicate n []) [] {n = c} (omega (arith, ltb-false c n t, length-replicate {A = List ℕ} n [])))
+
+pub fresh-valid : (n : ℕ) → 0 < n → n ≤ 256 → Valid (freshState n)
+fresh-valid n least most = record {
+  least = omega arith;
+  most = omega arith;
+  apart = (refl, least, tt);
+  sound = (tt, tt);
+  classes = length-replicate {A = List ℕ} 64 [];
+  listed = λ c p i. absurd (List·Memᴰ·not-nil (subst (List·Memᴰ p) (fresh-list 64 c) i));
+  complete = λ p z b f. absurd (let u : run n ≡ zone z = cut-zone (run n) 0 (p * 4096) z b .1 in let v : _≡_ {A = ℕ} 0 1 = cc in omega arith);
+  few = omega arith;
+  spared = λ p i. absurd (List·Memᴰ·not-nil i);
+  once = λ c. subst (λ l. Distinct l) (sym (fresh-list 64 c)) tt;
+  once-spare = tt;
+  not-both = λ c p i j. List·Memᴰ·not-nil j;
+}
+
+-- Calls on a valid state ------------------------------------------------------------------------------------------------
+
+listing-same : (n : ℕ) (s : State) → (listInto n s) .after ≡ s
+listing-same n s = bool (leb (length (listingText (pageMap s))) n) (λ t. rw t) (λ t. rw t)
+
+asked-valid : (s : State) → Valid s → (g : ℕ) (q : Operation) → Valid ((asked g q s) .after)
+asked-valid s h g (Allocate n) = allocate-valid s h g n
+asked-valid s h g (Free o) = free-valid s h g o
+asked-valid s h g Reset = reset-valid s h g
+
+pub serve-valid : (s : State) → Valid s → (a : Action) → Valid ((serve s a) .after)
+serve-valid s h (group c) = asked-valid s h (c .group) (c .operation)
+serve-valid s h trim = trimmed-valid s h
+serve-valid s h (query o) = h
+serve-valid s h (listing n) = subst Valid (sym (listing-same n s)) h
+
+-- A call on lent words: whatever they held before, a state that they hold after is valid if the state before was.
+abbrev pub Holds : Option State → Type 0
+Holds none = Unit {0}
+Holds (some s) = Valid s
+
+init-valid : (m : Metadata) (n : ℕ) → Holds (m .state) → Holds ((initialise m n) .after .state)
+init-valid m n h = bool (leb 1 n && leb n 256)
+    (λ t. rw t (bool (leb (wordsFor n) (m .words)) (λ u. rw u (fresh-valid n (leb-true 1 n (and-left (leb 1 n) (leb n 256) t)) (leb-true n 256 (and-right (leb 1 n) (leb n 256) t)))) (λ u. rw u h)))
+    (λ t. rw t h)
+
+pub perform-valid : (m : Metadata) (c : Command) → Holds (m .state) → Holds ((perform m c) .after .state)
+perform-valid m (init n) h = init-valid m n h
+perform-valid m (act a) h = go (m .state) refl h
+  where
+    go : (x : Option State) → m .state ≡ x → Holds x → Holds ((onState m a x) .after .state)
+    go none e k = subst Holds (sym e) k
+    go (some s) e k = serve-valid s k a
+
+-- Refusals --------------------------------------------------------------------------------------------------------------
+
+-- What a refused outcome leaves.
+abbrev Leaves : {S : Type 0} → S → Outcome S → Type 0
+Leaves s r = isRefused (r .answer) ≡ true → r .after ≡ s
+
+guarded : {S : Type 0} (b : Bool) (k : Refusal) (s : S) (r : Outcome S) → Leaves s r → Leaves s (provided b k s r)
+guarded true k s r h = h
+guarded false k s r h = λ _. refl
+
+allocate-leaves : (s : State) → Valid s → (g n : ℕ) → Leaves s (allocate g n s)
+allocate-leaves s h g n = go (allocated s h g n)
+  where
+    go : {r : ℕ} → Allocated s g r (allocate g n s) → Leaves s (allocate g n s)
+    go (gives o b ans fresh grp rm only) = λ t. absurd (true-false t (ap isRefused ans))
+    go (denies k ans st) = λ _. st
+
+free-leaves : (s : State) (g o : ℕ) → Leaves s (free g o s)
+free-leaves s g o = guarded (groupOk g) _ s (freeBlock g o s (blockAt (pageMap s) o)) (go (blockAt (pageMap s) o))
+  where
+    go : (b : Option Block) → Leaves s (freeBlock g o s b)
+    go none = λ _. refl
+    go (some b) = guarded (eqb (groupOf b) g) _ s _ (λ t. absurd (true-false t refl))
+
+asked-leaves : (s : State) → Valid s → (g : ℕ) (q : Operation) → Leaves s (asked g q s)
+asked-leaves s h g (Allocate n) = allocate-leaves s h g n
+asked-leaves s h g (Free o) = free-leaves s g o
+asked-leaves s h g Reset = guarded (groupOk g) _ s _ (λ t. absurd (true-false t refl))
+
+pub serve-leaves : (s : State) → Valid s → (a : Action) → Leaves s (serve s a)
+serve-leaves s h (group c) = asked-leaves s h (c .group) (c .operation)
+serve-leaves s h trim = λ t. absurd (true-false t refl)
+serve-leaves s h (query o) = λ _. refl
+serve-leaves s h (listing n) = λ _. listing-same n s
+
+-- A refused call leaves the lent words' number and state.
+pub perform-leaves : (m : Metadata) (c : Command) → Holds (m .state) → isRefused ((perform m c) .answer) ≡ true → (perform m c) .after ≡ m
+perform-leaves m (init n) h = guarded (leb 1 n && leb n 256) _ m _ (guarded (leb (wordsFor n) (m .words)) _ m _ (λ t. absurd (true-false t refl)))
+perform-leaves m (act a) h = go (m .state) refl h
+  where
+    go : (x : Option State) → m .state ≡ x → Holds x → Leaves m (onState m a x)
+    go none e k = λ _. refl
+    go (some s) e k = λ t. λ i. record { words = m .words; state = (ap some (serve-leaves s k a t) ∙ sym e) i }

@@ -1,0 +1,89 @@
+-- Calls, answers and the numbers of refusals (document 01, "Calls" and "Numbers for no"). The types that the code shares,
+-- `Call` (a group and what it asks), `Answer` and `Refusal`, are declared in src/. Assumes nothing.
+use Prim.Native.Nat.{ℕ}
+use mathlib.Core.List.{List, [], _∷_}
+use mathlib.Core.Option.{Option, none, some}
+use mathlib.Core.Bool.{Bool, true, false, _&&_}
+use lib.Dec.{leb}
+use Rattle.model.specs.declared.Call.{Call}
+use Rattle.model.specs.declared.Refusal.{Refusal}
+use Rattle.model.specs.declared.Refusal.the-variants.{BadPages, FewWords, NoState, BadGroup, BadSize, NoRoom, NoBlock, OtherGroup, ShortBuffer}
+use Rattle.model.specs.declared.Answer.{Answer}
+use Rattle.model.specs.declared.Answer.the-variants.{Granted, Refused, Done, Counted, Block}
+
+-- What is asked of a valid state: by a group (document 01: request, return, reset), or by nobody: trim (document 01: tidy),
+-- query (ask) of an offset, and the listing into a buffer of so many bytes.
+pub data Action : Type 0 where
+  group : Call → Action
+  trim : Action
+  query : ℕ → Action
+  listing : ℕ → Action
+
+-- Every call: init (document 01: start) with a number of pages, or an action.
+pub data Command : Type 0 where
+  init : ℕ → Command
+  act : Action → Command
+
+-- Document 01's number of each refusal.
+abbrev pub number : Refusal → ℕ
+number BadPages = 1
+number FewWords = 2
+number NoState = 3
+number BadGroup = 4
+number BadSize = 5
+number NoRoom = 6
+number NoBlock = 7
+number OtherGroup = 8
+number ShortBuffer = 12
+
+-- Document 01's reading of an answer: the refusal's number, 0 where it is none, and the values that the answer has (the
+-- offset granted; the count; the group and the room).
+pub record Reading : Type 0 where
+  pub refusal : ℕ
+  pub values : List ℕ
+
+abbrev pub reading : Answer → Reading
+reading (Granted o) = record { refusal = 0; values = o ∷ [] }
+reading (Refused k) = record { refusal = number k; values = [] }
+reading Done = record { refusal = 0; values = [] }
+reading (Counted n) = record { refusal = 0; values = n ∷ [] }
+reading (Block g r) = record { refusal = 0; values = g ∷ r ∷ [] }
+
+abbrev pub isRefused : Answer → Bool
+isRefused (Granted o) = false
+isRefused (Refused k) = true
+isRefused Done = false
+isRefused (Counted n) = false
+isRefused (Block g r) = false
+
+-- The offset that an answer grants.
+abbrev pub grantOf : Answer → Option ℕ
+grantOf (Granted o) = some o
+grantOf (Refused k) = none
+grantOf Done = none
+grantOf (Counted n) = none
+grantOf (Block g r) = none
+
+-- Groups 1 to 12, and sizes that may be asked for.
+abbrev pub groupOk : ℕ → Bool
+groupOk g = leb 1 g && leb g 12
+
+abbrev pub sizeOk : ℕ → Bool
+sizeOk n = leb 1 n && leb n 1048576
+
+-- What a call leaves, and what it answers.
+pub record Outcome (S : Type 0) : Type 0 where
+  pub after : S
+  pub answer : Answer
+
+abbrev pub answers : {S : Type 0} → S → Answer → Outcome S
+answers s a = record { after = s; answer = a }
+
+-- A refusal leaves everything as it is.
+abbrev pub refuses : {S : Type 0} → S → Refusal → Outcome S
+refuses s k = answers s (Refused k)
+
+-- The refusal k of s where the test fails, else what follows: the order of the tests is the order on the page.
+abbrev pub provided : {S : Type 0} → Bool → Refusal → S → Outcome S → Outcome S
+provided true k s r = r
+provided false k s r = refuses s k

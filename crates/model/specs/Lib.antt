@@ -1,0 +1,15 @@
+pub mod Sizes
+pub mod Arena
+pub mod Zone
+pub mod State
+pub mod PageMap
+pub mod Valid
+pub mod Pages
+pub mod Calls
+pub mod Allocate
+pub mod Free
+pub mod Trim
+pub mod Ascii
+pub mod Text
+pub mod Listing
+pub mod Perform

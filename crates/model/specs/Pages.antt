@@ -1,0 +1,49 @@
+-- Pages out and in (document 01), over any kind of zone. Assumes nothing.
+use Prim.Native.Nat.{ℕ, zero, suc, _+_, _-_, _*_}
+use mathlib.Core.List.{List, [], _∷_}
+use mathlib.Core.Option.{Option, none, some}
+use mathlib.Core.Bool.{Bool, true, false, cond}
+use lib.Dec.{leb}
+use Rattle.model.specs.Sizes.{pageBytes, zonePages}
+use Rattle.model.specs.Arena.{Segment, run, direct, zone, pages, edit}
+
+-- A free run: its first page and its pages.
+pub record FreeRun : Type 0 where
+  pub page : ℕ
+  pub size : ℕ
+
+-- The first run, in ascending order, that has n pages. p pages stand before.
+abbrev pub firstFit : {Z : Type 0} → ℕ → ℕ → List (Segment Z) → Option FreeRun
+firstFit p n [] = none
+firstFit p n (run m ∷ r) = cond (leb n m) (some (record { page = p; size = m })) (firstFit (p + m) n r)
+firstFit p n (direct m g ∷ r) = firstFit (p + m) n r
+firstFit p n (zone z ∷ r) = firstFit (p + zonePages) n r
+
+-- The one place where pages are looked for. Proofs use its three laws and not its text: `claim-found`, `claim-none`,
+-- `claim-retold`.
+unfoldable pub claim : {Z : Type 0} → ℕ → List (Segment Z) → Option FreeRun
+claim n m = firstFit 0 n m
+
+-- A run of n pages in front, unless n is 0.
+abbrev pub withRun : {Z : Type 0} → ℕ → List (Segment Z) → List (Segment Z)
+withRun zero r = r
+withRun (suc n) r = run (suc n) ∷ r
+
+-- The low pages of a free run go to the segment x of n pages; an exact run goes whole, of a longer one the rest stays.
+abbrev pub carve : {Z : Type 0} → FreeRun → ℕ → Segment Z → List (Segment Z) → List (Segment Z)
+carve h n x m = edit (h .page * pageBytes) (λ _. x ∷ withRun (h .size - n) []) m
+
+-- Every zone that `gone` names becomes free pages, and free pages that touch become one run. n free pages stand before.
+abbrev pub joined : {Z : Type 0} → (Z → Bool) → ℕ → List (Segment Z) → List (Segment Z)
+joined gone n [] = withRun n []
+joined gone n (run m ∷ r) = joined gone (n + m) r
+joined gone n (direct m g ∷ r) = withRun n (direct m g ∷ joined gone 0 r)
+joined gone n (zone z ∷ r) = cond (gone z) (joined gone (n + zonePages) r) (withRun n (zone z ∷ joined gone 0 r))
+
+-- The pages of the segment that holds the byte o come back, and are joined with what is free before and behind them.
+-- (`joined-local`: with a run that ends where they begin and with one that begins where they end, both if both exist.)
+abbrev pub freePages : {Z : Type 0} → Segment Z → List (Segment Z)
+freePages x = run (pages x) ∷ []
+
+abbrev pub release : {Z : Type 0} → ℕ → List (Segment Z) → List (Segment Z)
+release o m = joined (λ _. false) 0 (edit o freePages m)

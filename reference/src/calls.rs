@@ -1,0 +1,215 @@
+//! Document 01's "Calls" and "Numbers for no": what each call answers, in the
+//! order in which the refusals are tested.
+
+use crate::listing;
+use crate::sizes::{words_needed, GROUPS, MAX_PAGES, MAX_SIZE};
+use crate::state::{Group, State};
+use crate::validity::is_valid;
+
+/// Why a call is refused.
+#[derive(Clone, Copy, Debug, PartialEq, Eq)]
+pub enum Refusal {
+    /// The start's page count is 0 or above 256.
+    PageCount,
+    /// The start finds fewer words than its page count needs.
+    TooFewWords,
+    /// The books picture no legal state, or are too short for theirs.
+    NoLegalState,
+    /// The group is not 1 to 12.
+    Group,
+    /// The size is 0 or above 1,048,576.
+    Size,
+    /// Pages are needed and no free run has enough.
+    NoRun,
+    /// No live block begins at the offset.
+    NoBlock,
+    /// The block is another group's.
+    OtherGroup,
+    /// The lent byte buffer is shorter than the listing.
+    ShortBuffer,
+}
+
+impl Refusal {
+    /// Document 01's number for it.
+    pub fn number(self) -> u32 {
+        match self {
+            Refusal::PageCount => 1,
+            Refusal::TooFewWords => 2,
+            Refusal::NoLegalState => 3,
+            Refusal::Group => 4,
+            Refusal::Size => 5,
+            Refusal::NoRun => 6,
+            Refusal::NoBlock => 7,
+            Refusal::OtherGroup => 8,
+            Refusal::ShortBuffer => 12,
+        }
+    }
+}
+
+/// A call with what it names.
+#[derive(Clone, Copy, Debug, PartialEq, Eq)]
+pub enum Call {
+    Init { pages: u32 },
+    Allocate { group: u32, size: u32 },
+    Free { group: u32, offset: u32 },
+    Reset { group: u32 },
+    Trim,
+    Query { offset: u32 },
+    Listing { capacity: usize },
+}
+
+/// What a call answers.
+#[derive(Clone, Debug, PartialEq, Eq)]
+pub enum Answer {
+    /// A grant with its offset.
+    Granted { offset: u32 },
+    /// Done, no count being named.
+    Done,
+    /// Done, with the count of blocks that a reset returned or of zones that
+    /// a trim gave back.
+    Counted(u32),
+    /// A live block's group and room.
+    Held { group: u32, room: u32 },
+    /// The listing's text; the call's own answer is its length.
+    Listed(String),
+    /// A refusal, with nothing changed.
+    Refused(Refusal),
+}
+
+/// An arena with the books lent for it: how many words they have, and the
+/// legal state that they picture, if any.
+#[derive(Clone, Debug, PartialEq, Eq)]
+pub struct Allocator {
+    words: usize,
+    state: Option<State>,
+}
+
+impl Allocator {
+    /// All-zero books: they picture no legal state.
+    pub fn zeroed(words: usize) -> Allocator {
+        Allocator { words, state: None }
+    }
+
+    /// Books that picture this state. If it is not legal, or needs more
+    /// words, they are as good as books that picture none.
+    pub fn picturing(words: usize, state: State) -> Allocator {
+        let serves = is_valid(&state) && words >= words_needed(state.pages);
+        Allocator {
+            words,
+            state: if serves { Some(state) } else { None },
+        }
+    }
+
+    /// How many words the books have.
+    pub fn words(&self) -> usize {
+        self.words
+    }
+
+    /// The legal state that the books picture, if they do.
+    pub fn state(&self) -> Option<&State> {
+        self.state.as_ref()
+    }
+
+    /// Start: forgets what the books held and pictures the fresh state.
+    pub fn init(&mut self, pages: u32) -> Result<(), Refusal> {
+        if pages == 0 || pages > MAX_PAGES {
+            return Err(Refusal::PageCount);
+        }
+        if self.words < words_needed(pages) {
+            return Err(Refusal::TooFewWords);
+        }
+        self.state = Some(State::fresh(pages));
+        Ok(())
+    }
+
+    /// Request: answers the granted block's offset.
+    pub fn allocate(&mut self, group: u32, size: u32) -> Result<u32, Refusal> {
+        let state = self.legal_state_mut()?;
+        let group = legal_group(group)?;
+        if size == 0 || size > MAX_SIZE {
+            return Err(Refusal::Size);
+        }
+        state.take_block(group, size).ok_or(Refusal::NoRun)
+    }
+
+    /// Return of the group's live block that begins at the offset.
+    pub fn free(&mut self, group: u32, offset: u32) -> Result<(), Refusal> {
+        let state = self.legal_state_mut()?;
+        let group = legal_group(group)?;
+        let block = state.block_at(offset).ok_or(Refusal::NoBlock)?;
+        if block.group != group {
+            return Err(Refusal::OtherGroup);
+        }
+        state.give_block(&block);
+        Ok(())
+    }
+
+    /// Reset: returns the group's live blocks, as they are when it begins, in
+    /// ascending offset; answers how many.
+    pub fn reset(&mut self, group: u32) -> Result<u32, Refusal> {
+        let state = self.legal_state_mut()?;
+        let group = legal_group(group)?;
+        let mut blocks = state.live_blocks();
+        blocks.retain(|block| block.group == group);
+        for block in &blocks {
+            state.give_block(block);
+        }
+        Ok(blocks.len() as u32)
+    }
+
+    /// Tidy: gives every zone without a live chunk back; answers how many.
+    pub fn trim(&mut self) -> Result<u32, Refusal> {
+        Ok(self.legal_state_mut()?.give_idle_zones())
+    }
+
+    /// Ask: a live block's group and room.
+    pub fn query(&self, offset: u32) -> Result<(u32, u32), Refusal> {
+        let block = self
+            .legal_state()?
+            .block_at(offset)
+            .ok_or(Refusal::NoBlock)?;
+        Ok((u32::from(block.group), block.room))
+    }
+
+    /// The listing: the text that a lent buffer of this many bytes takes.
+    pub fn listing(&self, capacity: usize) -> Result<String, Refusal> {
+        let text = listing::text(self.legal_state()?);
+        if text.len() > capacity {
+            return Err(Refusal::ShortBuffer);
+        }
+        Ok(text)
+    }
+
+    /// Serves a call of any kind.
+    pub fn serve(&mut self, call: Call) -> Answer {
+        let answer = match call {
+            Call::Init { pages } => self.init(pages).map(|()| Answer::Done),
+            Call::Allocate { group, size } => self
+                .allocate(group, size)
+                .map(|offset| Answer::Granted { offset }),
+            Call::Free { group, offset } => self.free(group, offset).map(|()| Answer::Done),
+            Call::Reset { group } => self.reset(group).map(Answer::Counted),
+            Call::Trim => self.trim().map(Answer::Counted),
+            Call::Query { offset } => self
+                .query(offset)
+                .map(|(group, room)| Answer::Held { group, room }),
+            Call::Listing { capacity } => self.listing(capacity).map(Answer::Listed),
+        };
+        answer.unwrap_or_else(Answer::Refused)
+    }
+
+    fn legal_state(&self) -> Result<&State, Refusal> {
+        self.state.as_ref().ok_or(Refusal::NoLegalState)
+    }
+
+    fn legal_state_mut(&mut self) -> Result<&mut State, Refusal> {
+        self.state.as_mut().ok_or(Refusal::NoLegalState)
+    }
+}
+
+fn legal_group(group: u32) -> Result<Group, Refusal> {
+    match Group::try_from(group) {
+        Ok(legal) if (1..=GROUPS).contains(&group) => Ok(legal),
+        _ => Err(Refusal::Group),
+    }
+}

@@ -1,0 +1,30 @@
+//! The allocator of document 01 a second time, on abstract states.
+//!
+//! No 32-bit words stand here: of the books only their number of words is
+//! kept, because refusals 2 and 3 ask for it. Everything else is runs, direct
+//! blocks, zones and lists, so that the answers can be compared with those of
+//! the program that keeps them in words.
+//!
+//! | call here | in document 01 |
+//! |---|---|
+//! | `init` | start |
+//! | `allocate` | request |
+//! | `free` | return |
+//! | `reset` | reset |
+//! | `trim` | tidy |
+//! | `query` | ask |
+//! | `listing` | the listing |
+
+#![forbid(unsafe_code)]
+
+pub mod bench;
+pub mod blocks;
+pub mod calls;
+pub mod histories;
+pub mod lines;
+pub mod listing;
+mod pages;
+pub mod sizes;
+pub mod state;
+pub mod validity;
+mod zones;

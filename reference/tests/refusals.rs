@@ -1,0 +1,280 @@
+//! Document 01's "Numbers for no": each number in its place in the order, and
+//! nothing changed by any of them.
+
+mod common;
+
+use common::{started, state, text};
+use reference::calls::{Allocator, Answer, Call, Refusal};
+use reference::histories::History;
+use reference::sizes::words_needed;
+use reference::state::{DirectBlock, State};
+
+/// 24 pages without a free one: a zone of class 12 with a chunk of group 1 at
+/// 0 and of group 2 at 104, and the rest a direct block of group 3.
+fn full() -> Allocator {
+    let mut allocator = started(24);
+    assert_eq!(allocator.allocate(1, 100), Ok(0));
+    assert_eq!(allocator.allocate(2, 100), Ok(104));
+    assert_eq!(allocator.allocate(3, 65_536), Ok(32_768));
+    allocator
+}
+
+/// Books that picture no legal state: zeros, a state that isn't legal, and a
+/// legal state that needs one word more.
+fn unusable() -> Vec<Allocator> {
+    let mut overlapping = State::fresh(24);
+    let block = DirectBlock { pages: 2, group: 1 };
+    overlapping.direct.insert(0, block);
+    vec![
+        Allocator::zeroed(13_504),
+        Allocator::picturing(13_504, overlapping),
+        Allocator::picturing(13_503, State::fresh(24)),
+    ]
+}
+
+/// Serves the call and checks its number and that nothing changed.
+fn assert_refused(allocator: &mut Allocator, call: Call, number: u32) {
+    let before = allocator.clone();
+    match allocator.serve(call) {
+        Answer::Refused(refusal) => assert_eq!(refusal.number(), number, "{call:?}"),
+        answer => panic!("{call:?} answered {answer:?}, not refusal {number}"),
+    }
+    assert_eq!(*allocator, before, "{call:?} changed the state");
+}
+
+fn request(group: u32, size: u32) -> Call {
+    Call::Allocate { group, size }
+}
+
+fn give(group: u32, offset: u32) -> Call {
+    Call::Free { group, offset }
+}
+
+#[test]
+fn start_tests_1_then_2() {
+    // Number of words, page count, refusal; each wrong page count also finds
+    // too few words.
+    let cases = [
+        (0, 0, 1),
+        (0, 257, 1),
+        (13_504, 0, 1),
+        (200_000, 257, 1),
+        (200_000, u32::MAX, 1),
+        (0, 1, 2),
+        (1_543, 1, 2),
+        (13_503, 24, 2),
+        (13_504, 25, 2),
+        (13_504, 256, 2),
+        (134_143, 256, 2),
+    ];
+    for (words, pages, number) in cases {
+        let mut allocator = Allocator::zeroed(words);
+        assert_refused(&mut allocator, Call::Init { pages }, number);
+    }
+}
+
+#[test]
+fn start_is_served_with_just_enough_words() {
+    for (words, pages) in [(1_544, 1), (13_504, 24), (134_144, 256)] {
+        let mut allocator = Allocator::zeroed(words);
+        assert_eq!(allocator.init(pages), Ok(()));
+        assert_eq!(*state(&allocator), State::fresh(pages));
+    }
+}
+
+#[test]
+fn a_refused_start_keeps_the_old_state() {
+    for (pages, number) in [(0, 1), (257, 1), (25, 2), (256, 2)] {
+        assert_refused(&mut full(), Call::Init { pages }, number);
+    }
+}
+
+#[test]
+fn start_on_used_or_unusable_books_forgets_them() {
+    for mut allocator in unusable().into_iter().chain([full()]) {
+        assert_eq!(allocator.init(23), Ok(()));
+        assert_eq!(*state(&allocator), State::fresh(23));
+    }
+}
+
+#[test]
+fn without_a_legal_state_every_call_but_start_is_refused_by_3() {
+    // With values that would be refused by later numbers too.
+    let calls = [
+        request(1, 100),
+        request(0, 0),
+        request(13, 2_000_000),
+        give(1, 0),
+        give(0, 5),
+        Call::Reset { group: 1 },
+        Call::Reset { group: 13 },
+        Call::Trim,
+        Call::Query { offset: 0 },
+        Call::Listing { capacity: 0 },
+        Call::Listing { capacity: 9_999 },
+    ];
+    for mut allocator in unusable() {
+        for call in calls {
+            assert_refused(&mut allocator, call, 3);
+        }
+    }
+}
+
+#[test]
+fn a_legal_state_on_just_enough_words_is_served() {
+    let mut allocator = Allocator::picturing(13_504, State::fresh(24));
+    assert_eq!(allocator.allocate(1, 1), Ok(0));
+}
+
+#[test]
+fn request_tests_4_then_5_then_6() {
+    // In the full arena nothing that needs pages can be granted, so every
+    // case would be refused by 6 if by nothing earlier.
+    let cases = [
+        (0, 0, 4),
+        (13, 2_000_000, 4),
+        (0, 9_000, 4),
+        (13, 9_000, 4),
+        (u32::MAX, 9_000, 4),
+        (256 + 1, 9_000, 4),
+        (1, 0, 5),
+        (12, 0, 5),
+        (1, 1_048_577, 5),
+        (1, u32::MAX, 5),
+        (1, 8, 6),
+        (12, 8_191, 6),
+        (1, 8_192, 6),
+        (1, 1_048_576, 6),
+    ];
+    for (group, size, number) in cases {
+        assert_refused(&mut full(), request(group, size), number);
+    }
+}
+
+#[test]
+fn a_chunk_from_the_list_needs_no_pages() {
+    assert_eq!(full().allocate(12, 97), Ok(208));
+}
+
+#[test]
+fn return_tests_4_then_7_then_8() {
+    let cases = [
+        (0, 0, 4),
+        (13, 0, 4),
+        (256 + 1, 0, 4),
+        (0, 5, 4),
+        (13, u32::MAX, 4),
+        (1, 5, 7),
+        (1, 208, 7),
+        (1, 32_760, 7),
+        (1, 98_304, 7),
+        (1, 1_048_576, 7),
+        (1, u32::MAX, 7),
+        (2, 0, 8),
+        (1, 104, 8),
+        (12, 32_768, 8),
+        (3, 36_864, 7),
+        (2, 36_864, 7),
+    ];
+    for (group, offset, number) in cases {
+        assert_refused(&mut full(), give(group, offset), number);
+    }
+}
+
+#[test]
+fn reset_tests_4() {
+    for group in [0, 13, 256 + 1, u32::MAX] {
+        assert_refused(&mut full(), Call::Reset { group }, 4);
+    }
+    assert_eq!(full().reset(12), Ok(0));
+}
+
+#[test]
+fn ask_tests_7() {
+    for offset in [1, 208, 32_760, 36_864, 98_304, 1_048_576, u32::MAX] {
+        assert_refused(&mut full(), Call::Query { offset }, 7);
+    }
+    assert_eq!(full().query(104), Ok((2, 104)));
+    assert_eq!(full().query(32_768), Ok((3, 65_536)));
+}
+
+#[test]
+fn listing_tests_12() {
+    let expected = "runs 0\ndirect 1\n8 16 3\nzones 1\n0 12 2\n";
+    for capacity in 0..expected.len() {
+        assert_refused(&mut full(), Call::Listing { capacity }, 12);
+    }
+    for capacity in [expected.len(), expected.len() + 1, usize::MAX] {
+        assert_eq!(full().listing(capacity).as_deref(), Ok(expected));
+    }
+}
+
+#[test]
+fn groups_1_and_12_are_legal() {
+    let mut allocator = started(24);
+    for (group, offset) in [(1, 0), (12, 104)] {
+        assert_eq!(allocator.allocate(group, 100), Ok(offset));
+        assert_eq!(allocator.free(group, offset), Ok(()));
+        assert_eq!(allocator.reset(group), Ok(0));
+    }
+}
+
+#[test]
+fn every_refusal_has_document_01s_number() {
+    let numbers = [
+        (Refusal::PageCount, 1),
+        (Refusal::TooFewWords, 2),
+        (Refusal::NoLegalState, 3),
+        (Refusal::Group, 4),
+        (Refusal::Size, 5),
+        (Refusal::NoRun, 6),
+        (Refusal::NoBlock, 7),
+        (Refusal::OtherGroup, 8),
+        (Refusal::ShortBuffer, 12),
+    ];
+    for (refusal, number) in numbers {
+        assert_eq!(refusal.number(), number);
+    }
+}
+
+#[test]
+fn refusals_asks_and_listings_change_nothing_in_histories() {
+    let mut refused = [0; 13];
+    for seed in 0..20 {
+        let mut allocator = started([24, 32, 64, 128][seed as usize % 4]);
+        let mut history = History::new(seed);
+        for _ in 0..300 {
+            let call = history.next_call();
+            let before = allocator.clone();
+            let answer = allocator.serve(call);
+            history.observe(&call, &answer);
+            match answer {
+                Answer::Refused(refusal) => refused[refusal.number() as usize] += 1,
+                Answer::Held { .. } | Answer::Listed(_) => {}
+                _ => continue,
+            }
+            assert_eq!(allocator, before, "{call:?}");
+        }
+    }
+    for number in [1, 4, 5, 6, 7, 8, 12] {
+        assert!(refused[number] > 0, "no refusal {number} in any history");
+    }
+}
+
+#[test]
+fn the_longest_listing() {
+    for (pages, length) in [(24, 207), (256, 2_220)] {
+        let mut state = State::fresh(pages);
+        state.runs.clear();
+        for start in 0..pages {
+            let block = DirectBlock {
+                pages: 1,
+                group: 12,
+            };
+            state.direct.insert(start, block);
+        }
+        let allocator = Allocator::picturing(words_needed(pages), state);
+        assert_eq!(text(&allocator).len(), length);
+    }
+    assert_eq!(reference::listing::LONGEST, 2_220);
+}
