@@ -1,0 +1,7 @@
+pub mod Decimal
+pub mod Left
+pub mod Lines
+pub mod Scan
+pub mod Numbers
+pub mod Fields
+pub mod Examples

@@ -1,0 +1,82 @@
+-- `text::put_line` meets its contract. The loop's invariant: the fields of the numbers from i on are left to be written, at k.
+-- Assumes nothing.
+use Prim.Native.Nat.{_-_, _≤_}
+use mathlib.Core.List.{[], _∷_}
+use mathlib.Core.Path.{_≡_, refl, sym, ap, _∙_}
+use native.Mathlib.Omega.{arith}
+use lib.ListN.{length, drop}
+use borrow.Author.Needs.{needs}
+use Rattle.model.specs.Text.{line}
+use Rattle.text.proofs.Lines.{fields, line-none, left-line, left-number, left-end}
+use Rattle.text.proofs.Left.{Left, left-step, left-bounded, left-done, wrote-as}
+use Rattle.text.proofs.put_line.Statement.{statement}
+use Rattle.text.proofs.put_line.Tie as tie
+
+abbrev Inv-loop : tie.InvT-loop
+Inv-loop out₀ at numbers n i₀ k₀ out i k = (i ≤ length numbers) × (length out ≡ length out₀) × Left out₀ at (line numbers) k out (fields (drop i numbers) ∷ [])
+
+abbrev μ-loop : tie.MeasureT-loop
+μ-loop out₀ at numbers n i₀ k₀ out i k = length numbers - i
+
+put-byte-requires : tie.Need-put-byte-requires Inv-loop μ-loop
+put-byte-requires c κs = omega (arith, ap length (line-none (c .before .before .before .before .args .numbers .now) (c .before .if1 .taken)))
+
+same-length : tie.Need-same-length Inv-loop μ-loop
+same-length c = search needs
+
+returns : tie.Need-returns Inv-loop μ-loop
+returns c = wrote-as (sym (line-none _ (c .before .before .before .before .if1 .taken))) (c .before .before .put-byte .ensures)
+
+loop-holds : tie.Need-loop-holds Inv-loop μ-loop
+loop-holds c = (omega arith, refl, left-line _ (c .if1 .left))
+
+mul-put-field : tie.Need-mul-put-field Inv-loop μ-loop
+mul-put-field c = search needs
+
+shared-slice-read-put-field : tie.Need-shared-slice-read-put-field Inv-loop μ-loop
+shared-slice-read-put-field c = search needs
+
+add-end-of : tie.Need-add-end-of Inv-loop μ-loop
+add-end-of c = search needs
+
+end-of-requires : tie.Need-end-of-requires Inv-loop μ-loop
+end-of-requires c κs = search needs
+
+put-field-requires : tie.Need-put-field-requires Inv-loop μ-loop
+put-field-requires c κs = left-bounded (left-number _ _ (c .before .before .before .loop-test .taken) (c .end-of .ensures) (c .before .before .before .before .loop .inv .2)) (c .before .before .before .before .before .before .before .before .pre)
+
+add-i : tie.Need-add-i Inv-loop μ-loop
+add-i c = search needs
+
+loop-less : tie.Need-loop-less Inv-loop μ-loop
+loop-less c = omega arith
+
+loop-again : tie.Need-loop-again Inv-loop μ-loop
+loop-again c = (omega arith, c .before .before .put-field .kept .0 ∙ c .before .before .before .before .before .before .before .loop .inv .1, left-step (left-number _ _ (c .before .before .before .before .before .before .loop-test .taken) (c .before .before .before .end-of .ensures) (c .before .before .before .before .before .before .before .loop .inv .2)) (c .before .before .put-field .ensures))
+
+same-length-2 : tie.Need-same-length-2 Inv-loop μ-loop
+same-length-2 c = c .before .loop .inv .1
+
+returns-2 : tie.Need-returns-2 Inv-loop μ-loop
+returns-2 c = left-done (left-end _ _ (c .loop-test .left) (c .before .loop .inv .2))
+
+pub put-line-spec : {M : Type 1} → statement M
+put-line-spec =
+    tie.close
+    (tie.spec
+    Inv-loop
+    μ-loop
+    put-byte-requires
+    same-length
+    returns
+    loop-holds
+    mul-put-field
+    shared-slice-read-put-field
+    add-end-of
+    end-of-requires
+    put-field-requires
+    add-i
+    loop-less
+    loop-again
+    same-length-2
+    returns-2)

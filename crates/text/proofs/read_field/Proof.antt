@@ -1,0 +1,47 @@
+-- `text::read_field` meets its contract. Assumes nothing.
+use mathlib.Core.Path.{sym, _∙_}
+use borrow.Author.Needs.{needs}
+use Rattle.text.proofs.Fields.{field-none, field-past, field-other, field-ended}
+use Rattle.text.proofs.read_field.Statement.{statement}
+use Rattle.text.proofs.read_field.Tie as tie
+
+read-number-requires : tie.Need-read-number-requires
+read-number-requires c κs = search needs
+
+enum-known-value : tie.Need-enum-known-value
+enum-known-value c = search needs
+
+enum-told : tie.Need-enum-told
+enum-told c = search needs
+
+returns : tie.Need-returns
+returns c = field-none _ _ _ (sym (c .before .before .read-number .ensures) ∙ c .enum-told .given .1)
+
+returns-2 : tie.Need-returns-2
+returns-2 c = field-past _ _ _ _ _ (sym (c .before .before .before .before .read-number .ensures) ∙ c .before .before .value .given .1) (c .if1 .taken)
+
+shared-slice-read-if2 : tie.Need-shared-slice-read-if2
+shared-slice-read-if2 c = search needs
+
+returns-3 : tie.Need-returns-3
+returns-3 c = field-other _ _ _ _ _ (sym (c .before .before .before .before .before .before .read-number .ensures) ∙ c .before .before .before .before .value .given .1) (c .before .before .if1 .left) (c .if2 .taken)
+
+add-t7 : tie.Need-add-t7
+add-t7 c = search needs
+
+returns-4 : tie.Need-returns-4
+returns-4 c = field-ended _ _ _ _ _ (sym (c .before .before .before .before .before .before .read-number .ensures) ∙ c .before .before .before .before .value .given .1) (c .before .before .if1 .left) (c .if2 .left)
+
+pub read-field-spec : {M : Type 1} → statement M
+read-field-spec =
+    tie.close
+    (tie.spec
+    read-number-requires
+    enum-known-value
+    enum-told
+    returns
+    returns-2
+    shared-slice-read-if2
+    returns-3
+    add-t7
+    returns-4)

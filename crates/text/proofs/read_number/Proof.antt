@@ -1,0 +1,118 @@
+-- `text::read_number` meets its contract. The loop's invariant: v fits 32 bits, and what is read from i on, behind digits of the
+-- value v, is what is read at `at`. Assumes nothing.
+use Prim.Native.Nat.{_-_, _≤_}
+use mathlib.Core.Path.{_≡_, sym, _∙_}
+use native.Mathlib.Omega.{arith}
+use lib.ListN.{length, drop, getD}
+use borrow.Author.Tests.{not-true, not-false}
+use borrow.Author.Needs.{needs}
+use Rattle.text.specs.Numbers.{largest, numberAt}
+use Rattle.text.proofs.Scan.{numberOn, none-past, none-other, begins, on-end, on-stop, on-zero, on-large, on-more}
+use Rattle.text.proofs.Decimal.{digit-range}
+use Rattle.text.proofs.read_number.Statement.{statement}
+use Rattle.text.proofs.read_number.Tie as tie
+
+abbrev Inv-loop : tie.InvT-loop
+Inv-loop s at first v₀ i₀ v i = (i ≤ length s) × (v ≤ largest) × (numberOn v i (drop i s) ≡ numberAt s at)
+
+abbrev μ-loop : tie.MeasureT-loop
+μ-loop s at first v₀ i₀ v i = length s - i
+
+returns : tie.Need-returns Inv-loop μ-loop
+returns c = none-past _ _ (c .if1 .taken)
+
+shared-slice-read-first : tie.Need-shared-slice-read-first Inv-loop μ-loop
+shared-slice-read-first c = search needs
+
+is-digit-requires : tie.Need-is-digit-requires Inv-loop μ-loop
+is-digit-requires c κs = search needs
+
+returns-2 : tie.Need-returns-2 Inv-loop μ-loop
+returns-2 c = none-other _ _ (c .before .before .before .if1 .left) (sym (c .before .is-digit .ensures) ∙ not-true _ (c .if2 .taken))
+
+sub-wide : tie.Need-sub-wide Inv-loop μ-loop
+sub-wide c = digit-range _ (sym (c .before .is-digit .ensures) ∙ not-false _ (c .if2 .left)) .0
+
+wide-requires : tie.Need-wide-requires Inv-loop μ-loop
+wide-requires c κs = search needs
+
+add-i : tie.Need-add-i Inv-loop μ-loop
+add-i c = search needs
+
+loop-holds : tie.Need-loop-holds Inv-loop μ-loop
+loop-holds c = let e = sym (c .before .before .is-digit .ensures) ∙ not-false _ (c .before .if2 .left) in let d = digit-range (getD (c .before .before .before .before .before .before .args .s .now) (c .before .before .before .before .before .before .args .at) 0) e in (omega arith, omega (arith, c .wide .ensures, d .1), begins _ _ (c .before .before .before .before .if1 .left) e (c .wide .ensures))
+
+shared-slice-read-b : tie.Need-shared-slice-read-b Inv-loop μ-loop
+shared-slice-read-b c = search needs
+
+is-digit-requires-2 : tie.Need-is-digit-requires-2 Inv-loop μ-loop
+is-digit-requires-2 c κs = search needs
+
+cast-t17 : tie.Need-cast-t17 Inv-loop μ-loop
+cast-t17 c = omega arith
+
+returns-3 : tie.Need-returns-3 Inv-loop μ-loop
+returns-3 c = on-stop _ _ _ (c .before .before .before .loop-test .taken) (sym (c .before .is-digit2 .ensures) ∙ not-true _ (c .if3 .taken)) (c .before .before .before .before .loop .inv .1) ∙ c .before .before .before .before .loop .inv .2
+
+returns-4 : tie.Need-returns-4 Inv-loop μ-loop
+returns-4 c = on-zero _ _ _ (c .before .before .before .before .loop-test .taken) (sym (c .before .before .is-digit2 .ensures) ∙ not-false _ (c .before .if3 .left)) (c .if4 .taken) ∙ c .before .before .before .before .before .loop .inv .2
+
+mul-v : tie.Need-mul-v Inv-loop μ-loop
+mul-v c = omega arith
+
+sub-wide-2 : tie.Need-sub-wide-2 Inv-loop μ-loop
+sub-wide-2 c = digit-range _ (sym (c .before .before .is-digit2 .ensures) ∙ not-false _ (c .before .if3 .left)) .0
+
+wide-requires-2 : tie.Need-wide-requires-2 Inv-loop μ-loop
+wide-requires-2 c κs = search needs
+
+add-v : tie.Need-add-v Inv-loop μ-loop
+add-v c = omega (arith, c .wide2 .ensures, digit-range (getD (c .before .before .before .before .before .before .before .before .before .before .before .before .before .args .s .now) (c .before .before .before .before .before .before .loop .i) 0) (sym (c .before .before .before .is-digit2 .ensures) ∙ not-false _ (c .before .before .if3 .left)) .1)
+
+returns-5 : tie.Need-returns-5 Inv-loop μ-loop
+returns-5 c = on-large _ _ _ (c .before .before .before .before .before .before .loop-test .taken) (sym (c .before .before .before .before .is-digit2 .ensures) ∙ not-false _ (c .before .before .before .if3 .left)) (c .before .wide2 .ensures) (c .if5 .taken) ∙ c .before .before .before .before .before .before .before .loop .inv .2
+
+add-i-2 : tie.Need-add-i-2 Inv-loop μ-loop
+add-i-2 c = search needs
+
+loop-less : tie.Need-loop-less Inv-loop μ-loop
+loop-less c = omega arith
+
+loop-again : tie.Need-loop-again Inv-loop μ-loop
+loop-again c = (omega arith, omega arith, on-more _ _ _ (c .before .before .before .before .before .before .loop-test .taken) (sym (c .before .before .before .before .is-digit2 .ensures) ∙ not-false _ (c .before .before .before .if3 .left)) (c .before .wide2 .ensures) (c .before .before .if4 .left) ∙ c .before .before .before .before .before .before .before .loop .inv .2)
+
+cast-t20 : tie.Need-cast-t20 Inv-loop μ-loop
+cast-t20 c = omega arith
+
+returns-6 : tie.Need-returns-6 Inv-loop μ-loop
+returns-6 c = on-end _ _ _ (c .loop-test .left) (c .before .loop .inv .1) ∙ c .before .loop .inv .2
+
+pub read-number-spec : {M : Type 1} → statement M
+read-number-spec =
+    tie.close
+    (tie.spec
+    Inv-loop
+    μ-loop
+    returns
+    shared-slice-read-first
+    is-digit-requires
+    returns-2
+    sub-wide
+    wide-requires
+    add-i
+    loop-holds
+    shared-slice-read-b
+    is-digit-requires-2
+    cast-t17
+    returns-3
+    returns-4
+    mul-v
+    sub-wide-2
+    wide-requires-2
+    add-v
+    returns-5
+    add-i-2
+    loop-less
+    loop-again
+    cast-t20
+    returns-6)

@@ -1,0 +1,156 @@
+-- Laws of the reader's step: a byte that is held, an LF, the fragment's end; and the line that a reader holds. Assumes nothing.
+use Prim.Native.Nat.{ℕ, _+_, _≤_, _<_}
+use mathlib.Core.Path.{_≡_, refl, sym, ap, _∙_}
+use mathlib.Core.Bool.{Bool, true, false}
+use mathlib.Core.List.{List, [], _∷_}
+use native.Mathlib.Omega.{arith}
+use lib.ListN.{length, take, drop, getD, set, length-set, drop-of-length-le}
+use lib.Seq.{length-take-le}
+use borrow.Author.Tests.{lt-ltb, le-ltb, eq-eqb, ne-eqb}
+use Rattle.lemmas.proofs.Heads.{next-word, take-set-next}
+use Rattle.uplink.specs.declared.Line.{Line}
+use Rattle.uplink.specs.declared.Line.the-variants.{Bad}
+use Rattle.uplink.specs.declared.Got.the-variants.{Whole, More}
+use Rattle.uplink.specs.declared.Reader.{Reader}
+use Rattle.uplink.specs.Grammar.{lineOf}
+use Rattle.uplink.specs.Fragments.{Held, part, long, fresh, Sound, held, hold, lineHeld, lastLine, stepFrom, stepOf, FedBy}
+
+-- The reader of three fields.
+abbrev pub reader : List ℕ → ℕ → Bool → Reader
+reader line len over = record { line = line; len = len; over = over }
+
+-- ---- one byte more
+
+module _ (line : List ℕ) (len b : ℕ) (full : 64 ≡ length line) where
+  hold-byte : (over : Bool) → len < 64 → held (reader (set line len b) (len + 1) over) ≡ hold (held (reader line len over)) b
+  unfolding held hold
+  hold-byte true h = refl
+  hold-byte false h =
+      let n : length (take len line) ≡ len = length-take-le len line (omega arith) in
+      let k : length (take len line) < 64 = omega arith in
+      rw (lt-ltb (length (take len line)) 64 k) (ap part (take-set-next line len b (omega arith)))
+
+  hold-none : (over : Bool) → 64 ≤ len → len ≤ 64 → held (reader line len true) ≡ hold (held (reader line len over)) b
+  unfolding held hold
+  hold-none true h k = refl
+  hold-none false h k =
+      let n : length (take len line) ≡ len = length-take-le len line (omega arith) in
+      let f : 64 ≤ length (take len line) = omega arith in
+      rw (le-ltb (length (take len line)) 64 f)
+
+-- ---- the line that a reader holds
+
+whole-line : (p : List ℕ) → (length p ≡ 0 → ⊥) → Whole (lineHeld (part p)) ≡ lastLine (part p)
+unfolding lineHeld lastLine
+whole-line [] n = absurd (n refl)
+whole-line (b ∷ p) n = refl
+
+module _ (r : Reader) where
+  held-over : r .over ≡ true → held r ≡ long
+  unfolding held
+  held-over e = rw e
+
+  held-part : r .over ≡ false → held r ≡ part (take (r .len) (r .line))
+  unfolding held
+  held-part e = rw e
+
+  pub line-over : r .over ≡ true → Bad ≡ lineHeld (held r)
+  unfolding lineHeld
+  line-over e = sym (ap lineHeld (held-over e))
+
+  pub line-part : r .over ≡ false → lineOf (take (r .len) (r .line)) ≡ lineHeld (held r)
+  unfolding lineHeld
+  line-part e = sym (ap lineHeld (held-part e))
+
+  -- At the end of the input.
+  pub last-over : r .over ≡ true → Whole Bad ≡ lastLine (held r)
+  unfolding lastLine
+  last-over e = sym (ap lastLine (held-over e))
+
+  pub last-none : r .over ≡ false → r .len ≡ 0 → More ≡ lastLine (held r)
+  unfolding lastLine
+  last-none e z = sym (ap lastLine (held-part e) ∙ ap (λ (n : ℕ). lastLine (part (take n (r .line)))) z)
+
+  pub last-part : r .over ≡ false → (r .len ≡ 0 → ⊥) → 64 ≡ length (r .line) → r .len ≤ 64 → Whole (lineHeld (held r)) ≡ lastLine (held r)
+  last-part e n full h =
+      ap (λ (k : Held). Whole (lineHeld k)) (held-part e)
+      ∙ whole-line (take (r .len) (r .line)) (λ z. n (sym (length-take-le (r .len) (r .line) (omega arith)) ∙ z))
+      ∙ sym (ap lastLine (held-part e))
+
+-- ---- the step
+
+module _ (s : List ℕ) (i : ℕ) (k : Held) where
+  step-end : length s ≤ i → record { after = k; next = i; got = More } ≡ stepFrom i k (drop i s)
+  unfolding stepFrom
+  step-end h = rw (drop-of-length-le s {i = i} h)
+
+  module _ (h : i < length s) where
+    step-lf : getD s i 0 ≡ 10 → record { after = fresh; next = i + 1; got = Whole (lineHeld k) } ≡ stepFrom i k (drop i s)
+    unfolding stepFrom
+    step-lf e = rw (next-word s i 0 h, eq-eqb (getD s i 0) 10 e)
+
+    step-byte : (getD s i 0 ≡ 10 → ⊥) → stepFrom (i + 1) (hold k (getD s i 0)) (drop (i + 1) s) ≡ stepFrom i k (drop i s)
+    unfolding stepFrom
+    step-byte n = rw (next-word s i 0 h, ne-eqb (getD s i 0) 10 n)
+
+-- A step over the fragment s from position `from` on, where k was held, has come to position i without an LF. With what the fields
+-- hold there, it goes on as it was to go.
+pub record Feeding (s : List ℕ) (from : ℕ) (k : Held) (line : List ℕ) (len : ℕ) (over : Bool) (i : ℕ) : Type 0 where
+  pub full : 64 ≡ length line
+  pub sound : len ≤ 64
+  pub began : from ≤ i
+  pub within : from ≤ length s → i ≤ length s
+  pub step : stepFrom i (held (reader line len over)) (drop i s) ≡ stepFrom from k (drop from s)
+
+pub feeding-none : (s : List ℕ) (from : ℕ) (line : List ℕ) (len : ℕ) (over : Bool) → 64 ≡ length line → len ≤ 64 → Feeding s from (held (reader line len over)) line len over from
+feeding-none s from line len over full sound = record { full = full; sound = sound; began = omega arith; within = λ h. h; step = refl }
+
+module _ {s : List ℕ} {from : ℕ} {k : Held} {line : List ℕ} {len : ℕ} {over : Bool} {i : ℕ} (f : Feeding s from k line len over i) where
+  -- The fragment is used up.
+  pub feeding-end : length s ≤ i → FedBy k s from (record { reader = reader line len over; next = i; got = More })
+  unfolding stepOf
+  feeding-end h =
+      record {
+        sound = f .sound;
+        step = step-end s i (held (reader line len over)) h ∙ f .step;
+        within = f .within;
+        onward = λ q. omega arith;
+      }
+
+  module _ (h : i < length s) where
+    -- An LF, a byte that is held, and one that is too many.
+    pub feeding-lf : {r : Reader} {l : Line} → getD s i 0 ≡ 10 → l ≡ lineHeld (held (reader line len over)) → Sound r × (held r ≡ fresh) → FedBy k s from (record { reader = r; next = i + 1; got = Whole l })
+    unfolding stepOf
+    feeding-lf {r} {l} e q new =
+        record {
+          sound = new .0;
+          step =
+              ap (λ (j : Held). record { after = j; next = i + 1; got = Whole l }) (new .1)
+              ∙ ap (λ (c : Line). record { after = fresh; next = i + 1; got = Whole c }) q
+              ∙ step-lf s i (held (reader line len over)) h e
+              ∙ f .step;
+          within = λ w. omega arith;
+          onward = λ w. omega (arith, f .began);
+        }
+
+    feeding-on : (l : List ℕ) (m : ℕ) (o : Bool) → 64 ≡ length l → m ≤ 64 → (getD s i 0 ≡ 10 → ⊥) → held (reader l m o) ≡ hold (held (reader line len over)) (getD s i 0) → Feeding s from k l m o (i + 1)
+    feeding-on l m o full sound n q =
+        record {
+          full = full;
+          sound = sound;
+          began = omega (arith, f .began);
+          within = λ w. omega arith;
+          step =
+              ap (λ (j : Held). stepFrom (i + 1) j (drop (i + 1) s)) q
+              ∙ step-byte s i (held (reader line len over)) h n
+              ∙ f .step;
+        }
+
+    pub feeding-byte : (getD s i 0 ≡ 10 → ⊥) → len < 64 → Feeding s from k (set line len (getD s i 0)) (len + 1) over (i + 1)
+    feeding-byte n g =
+        feeding-on (set line len (getD s i 0)) (len + 1) over (f .full ∙ sym (length-set line len (getD s i 0))) (omega arith) n
+        (hold-byte line len (getD s i 0) (f .full) over g)
+
+    pub feeding-over : (getD s i 0 ≡ 10 → ⊥) → 64 ≤ len → Feeding s from k line len true (i + 1)
+    feeding-over n g =
+        feeding-on line len true (f .full) (f .sound) n (hold-none line len (getD s i 0) (f .full) over g (f .sound))

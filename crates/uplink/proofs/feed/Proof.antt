@@ -1,0 +1,80 @@
+-- `uplink::feed` meets its contract. The loop's invariant is `Feeding`: from i on, with what the locals hold, the step goes on as it
+-- was to go from `from` on. Assumes nothing.
+use Prim.Native.Nat.{_-_}
+use mathlib.Core.Path.{_≡_, sym}
+use native.Mathlib.Omega.{arith}
+use lib.ListN.{length}
+use borrow.Author.Needs.{needs}
+use Rattle.uplink.specs.Fragments.{held}
+use Rattle.uplink.proofs.Steps.{reader, Feeding, feeding-none, feeding-end, feeding-lf, feeding-byte, feeding-over}
+use Rattle.uplink.proofs.feed.Statement.{statement}
+use Rattle.uplink.proofs.feed.Tie as tie
+
+abbrev Inv-loop : tie.InvT-loop
+Inv-loop fragment from line₀ len₀ over₀ i₀ line len over i = Feeding fragment from (held (reader line₀ len₀ over₀)) line len over i
+
+abbrev μ-loop : tie.MeasureT-loop
+μ-loop fragment from line₀ len₀ over₀ i₀ line len over i = length fragment - i
+
+loop-holds : tie.Need-loop-holds Inv-loop μ-loop
+loop-holds c = let h : length (c .before .before .args .reader .line) ≡ 64 = search needs in feeding-none _ _ _ _ _ (sym h) (c .before .before .pre)
+
+shared-slice-read-b : tie.Need-shared-slice-read-b Inv-loop μ-loop
+shared-slice-read-b c = search needs
+
+held-line-requires : tie.Need-held-line-requires Inv-loop μ-loop
+held-line-requires c κs = c .before .before .before .loop .inv .sound
+
+new-reader-requires : tie.Need-new-reader-requires Inv-loop μ-loop
+new-reader-requires c κs = search needs
+
+add-t17 : tie.Need-add-t17 Inv-loop μ-loop
+add-t17 c = search needs
+
+returns : tie.Need-returns Inv-loop μ-loop
+returns c = feeding-lf (c .before .before .before .before .before .loop .inv) (c .before .before .before .before .loop-test .taken) (c .before .before .if1 .taken) (c .before .held-line .ensures) (c .new-reader .ensures)
+
+add-i : tie.Need-add-i Inv-loop μ-loop
+add-i c = search needs
+
+array-write-line : tie.Need-array-write-line Inv-loop μ-loop
+array-write-line c = search needs
+
+add-len : tie.Need-add-len Inv-loop μ-loop
+add-len c = search needs
+
+loop-less : tie.Need-loop-less Inv-loop μ-loop
+loop-less c = omega arith
+
+loop-again : tie.Need-loop-again Inv-loop μ-loop
+loop-again c = feeding-byte (c .before .before .before .before .loop .inv) (c .before .before .before .loop-test .taken) (c .before .if1 .left) (c .if2 .taken)
+
+loop-less-2 : tie.Need-loop-less-2 Inv-loop μ-loop
+loop-less-2 c = omega arith
+
+loop-again-2 : tie.Need-loop-again-2 Inv-loop μ-loop
+loop-again-2 c = feeding-over (c .before .before .before .before .loop .inv) (c .before .before .before .loop-test .taken) (c .before .if1 .left) (c .if2 .left)
+
+returns-2 : tie.Need-returns-2 Inv-loop μ-loop
+returns-2 c = feeding-end (c .before .loop .inv) (c .loop-test .left)
+
+pub feed-spec : {M : Type 1} → statement M
+feed-spec =
+    tie.close
+    (tie.spec
+    Inv-loop
+    μ-loop
+    loop-holds
+    shared-slice-read-b
+    held-line-requires
+    new-reader-requires
+    add-t17
+    returns
+    add-i
+    array-write-line
+    add-len
+    loop-less
+    loop-again
+    loop-less-2
+    loop-again-2
+    returns-2)

@@ -1,0 +1,51 @@
+-- `uplink::read_numbers` meets its contract: each test is one of the definition's. Assumes nothing.
+use mathlib.Core.Path.{sym, _∙_}
+use borrow.Author.Needs.{needs}
+use Rattle.uplink.proofs.Parsing.{first-none, first-other, first-missing, first-then}
+use Rattle.uplink.proofs.read_numbers.Statement.{statement}
+use Rattle.uplink.proofs.read_numbers.Tie as tie
+
+returns : tie.Need-returns
+returns c = first-none _ _ (c .if1 .taken)
+
+shared-slice-read-if2 : tie.Need-shared-slice-read-if2
+shared-slice-read-if2 c = search needs
+
+returns-2 : tie.Need-returns-2
+returns-2 c = first-other _ _ (c .before .before .if1 .left) (c .if2 .taken)
+
+add-read-number : tie.Need-add-read-number
+add-read-number c = search needs
+
+read-number-requires : tie.Need-read-number-requires
+read-number-requires c κs = search needs
+
+enum-told : tie.Need-enum-told
+enum-told c = search needs
+
+enum-known-first : tie.Need-enum-known-first
+enum-known-first c = search needs
+
+read-second-requires : tie.Need-read-second-requires
+read-second-requires c κs = search needs
+
+returns-3 : tie.Need-returns-3
+returns-3 c = first-missing _ _ (c .before .before .before .before .before .if1 .left) (c .before .before .before .if2 .left) (sym (c .before .before .read-number .ensures) ∙ c .enum-told .given .1)
+
+returns-4 : tie.Need-returns-4
+returns-4 c = c .read-second .ensures ∙ first-then _ _ (c .before .before .before .before .before .before .before .if1 .left) (c .before .before .before .before .before .if2 .left) (sym (c .before .before .before .before .read-number .ensures) ∙ c .before .before .first .given .1)
+
+pub read-numbers-spec : {M : Type 1} → statement M
+read-numbers-spec =
+    tie.close
+    (tie.spec
+    returns
+    shared-slice-read-if2
+    returns-2
+    add-read-number
+    read-number-requires
+    enum-told
+    enum-known-first
+    read-second-requires
+    returns-3
+    returns-4)

@@ -1,0 +1,51 @@
+-- `uplink::read_second` meets its contract: each test is one of the definition's. Assumes nothing.
+use mathlib.Core.Path.{sym, _∙_}
+use borrow.Author.Needs.{needs}
+use Rattle.uplink.proofs.Parsing.{second-none, second-other, second-missing, second-last, second-more}
+use Rattle.uplink.proofs.read_second.Statement.{statement}
+use Rattle.uplink.proofs.read_second.Tie as tie
+
+returns : tie.Need-returns
+returns c = second-none _ _ _ (c .if1 .taken)
+
+shared-slice-read-if2 : tie.Need-shared-slice-read-if2
+shared-slice-read-if2 c = search needs
+
+returns-2 : tie.Need-returns-2
+returns-2 c = second-other _ _ _ (c .before .before .if1 .left) (c .if2 .taken)
+
+add-read-number : tie.Need-add-read-number
+add-read-number c = search needs
+
+read-number-requires : tie.Need-read-number-requires
+read-number-requires c κs = search needs
+
+enum-told : tie.Need-enum-told
+enum-told c = search needs
+
+enum-known-second : tie.Need-enum-known-second
+enum-known-second c = search needs
+
+returns-3 : tie.Need-returns-3
+returns-3 c = second-last _ _ _ (c .before .before .before .before .before .before .before .if1 .left) (c .before .before .before .before .before .if2 .left) (sym (c .before .before .before .before .read-number .ensures) ∙ c .before .before .second .given .1) (c .if3 .taken)
+
+returns-4 : tie.Need-returns-4
+returns-4 c = second-missing _ _ _ (c .before .before .before .before .before .if1 .left) (c .before .before .before .if2 .left) (sym (c .before .before .read-number .ensures) ∙ c .enum-told .given .1)
+
+returns-5 : tie.Need-returns-5
+returns-5 c = second-more _ _ _ (c .before .before .before .before .before .before .before .if1 .left) (c .before .before .before .before .before .if2 .left) (sym (c .before .before .before .before .read-number .ensures) ∙ c .before .before .second .given .1) (c .if3 .left)
+
+pub read-second-spec : {M : Type 1} → statement M
+read-second-spec =
+    tie.close
+    (tie.spec
+    returns
+    shared-slice-read-if2
+    returns-2
+    add-read-number
+    read-number-requires
+    enum-told
+    enum-known-second
+    returns-3
+    returns-4
+    returns-5)

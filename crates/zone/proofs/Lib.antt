@@ -1,0 +1,10 @@
+pub mod Rooms
+pub mod Words
+pub mod Links
+pub mod Chains
+pub mod Facts
+pub mod Decoded
+pub mod Scans
+pub mod Encoded
+pub mod Steps
+pub mod Figures

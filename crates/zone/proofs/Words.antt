@@ -1,0 +1,100 @@
+-- A zone's encoding, word by word: what the words are, and that they decide the encoding. Assumes nothing.
+use Prim.Native.Nat.{ℕ, zero, suc, _+_, _-_, _≤_, _<_}
+use mathlib.Core.Path.{_≡_, refl, sym, ap, _∙_}
+use mathlib.Core.List.{List, [], _∷_, _++_}
+use native.Mathlib.Omega.{arith}
+use lib.ListN.{length, getD, length-append, List·getD-append}
+use lib.Seq.{ext-getD, getD-append-add}
+use Rattle.lemmas.specs.Zeros.{zeros, Zero}
+use Rattle.lemmas.specs.ListFrom.{listFrom}
+use Rattle.lemmas.proofs.Cases.{by-ltb}
+use Rattle.lemmas.proofs.Zeros.{length-zeros, getD-zeros}
+use Rattle.lemmas.proofs.ListFrom.{length-listFrom, getD-listFrom}
+use Rattle.model.specs.Zone.{Zone, touched}
+use Rattle.zone.specs.Encoding.{zoneWords, headWords, slotCount, kindZone, linkTo, slotOf, zoneEncoding}
+
+-- The words w are those of the zone z.
+pub record Words (w : List ℕ) (z : Zone) : Type 0 where
+  pub size : length w ≡ zoneWords
+  pub kind : getD w 0 0 ≡ kindZone
+  pub class : getD w 1 0 ≡ z .class
+  pub handed : getD w 2 0 ≡ touched z
+  pub chained : getD w 3 0 ≡ length (z .chain)
+  pub first : getD w 4 0 ≡ linkTo (z .chain)
+  pub rest : Zero w 5 64
+  pub slots : (i : ℕ) → i < slotCount → getD w (headWords + i) 0 ≡ slotOf z i
+
+module _ (z : Zone) where
+  numbers : List ℕ
+  numbers = kindZone ∷ z .class ∷ touched z ∷ length (z .chain) ∷ linkTo (z .chain) ∷ []
+
+  tail : List ℕ
+  tail = zeros 59 ++ listFrom (slotOf z) 0 slotCount
+
+  length-tail : length tail ≡ 4155
+  unfolding tail
+  length-tail = omega (arith, length-append (zeros 59) (listFrom (slotOf z) 0 4096), length-zeros 59, length-listFrom (slotOf z) 0 4096)
+
+  tail-rest : (i : ℕ) → i < 59 → getD tail i 0 ≡ 0
+  unfolding tail
+  tail-rest i l = List·getD-append (zeros 59) (listFrom (slotOf z) 0 4096) 0 i (omega (arith, length-zeros 59)) ∙ getD-zeros 59 i
+
+  tail-slot : (i : ℕ) → i < 4096 → getD tail (59 + i) 0 ≡ slotOf z i
+  unfolding tail
+  tail-slot i l =
+      ap (λ (n : ℕ). getD tail (n + i) 0) (sym (length-zeros 59))
+      ∙ getD-append-add (zeros 59) (listFrom (slotOf z) 0 4096) i 0
+      ∙ getD-listFrom (slotOf z) 0 4096 i 0 l
+      ∙ ap (slotOf z) (omega arith)
+
+  encoded : zoneEncoding z ≡ numbers ++ tail
+  unfolding zoneEncoding numbers tail
+  encoded = refl
+
+  behind : (i : ℕ) → getD (numbers ++ tail) (5 + i) 0 ≡ getD tail i 0
+  unfolding numbers
+  behind i = getD-append-add numbers tail i 0
+
+  pub length-encoding : length (zoneEncoding z) ≡ zoneWords
+  unfolding numbers
+  length-encoding = ap length encoded ∙ omega (arith, length-append numbers tail, length-tail)
+
+  whole : Words (numbers ++ tail) z
+  unfolding numbers
+  whole =
+      record {
+        size = ap length (sym encoded) ∙ length-encoding;
+        kind = refl;
+        class = refl;
+        handed = refl;
+        chained = refl;
+        first = refl;
+        rest = record { at = λ i l k. ap (λ (n : ℕ). getD (numbers ++ tail) n 0) (let e : i ≡ 5 + (i - 5) = omega arith in e) ∙ behind (i - 5) ∙ tail-rest (i - 5) (omega arith) };
+        slots = λ i l. ap (λ (n : ℕ). getD (numbers ++ tail) n 0) (let e : 64 + i ≡ 5 + (59 + i) = omega arith in e) ∙ behind (59 + i) ∙ tail-slot i l;
+      }
+
+  pub encoding-words : Words (zoneEncoding z) z
+  encoding-words = rw encoded whole
+
+-- Two lists with the words of one zone are the same.
+module _ {v w : List ℕ} {z : Zone} (a : Words v z) (b : Words w z) where
+  each : (i : ℕ) → i < 4160 → getD v i 0 ≡ getD w i 0
+  each zero l = a .kind ∙ sym (b .kind)
+  each (suc zero) l = a .class ∙ sym (b .class)
+  each (suc (suc zero)) l = a .handed ∙ sym (b .handed)
+  each (suc (suc (suc zero))) l = a .chained ∙ sym (b .chained)
+  each (suc (suc (suc (suc zero)))) l = a .first ∙ sym (b .first)
+  each (suc (suc (suc (suc (suc n))))) l = far (suc (suc (suc (suc (suc n))))) (omega arith) l
+    where
+      far : (i : ℕ) → 5 ≤ i → i < 4160 → getD v i 0 ≡ getD w i 0
+      far i k l =
+          by-ltb (λ t. getD v i 0 ≡ getD w i 0) i 64 (λ h. a .rest .at i k h ∙ sym (b .rest .at i k h))
+          (λ h.
+          let e : i ≡ 64 + (i - 64) = omega arith in
+          ap (λ (n : ℕ). getD v n 0) e ∙ a .slots (i - 64) (omega arith) ∙ sym (b .slots (i - 64) (omega arith)) ∙ ap (λ (n : ℕ). getD w n 0) (sym e))
+
+  pub words-same : v ≡ w
+  words-same = ext-getD 0 v w (a .size ∙ sym (b .size)) (λ i l. each i (let s = a .size in omega arith))
+
+pub words-encoding : {w : List ℕ} {z : Zone} → Words w z → w ≡ zoneEncoding z
+words-encoding {w} {z} h = words-same h (encoding-words z)

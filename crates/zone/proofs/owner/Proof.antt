@@ -1,0 +1,29 @@
+-- `owner` meets its contract. Assumes nothing.
+use mathlib.Core.Path.{sym, _∙_}
+use native.Mathlib.Omega.{arith}
+use borrow.Author.Needs.{needs}
+use Rattle.zone.proofs.Figures.{zone-size, owner-far, owner-read, owner-live, owner-none}
+use Rattle.zone.proofs.owner.Statement.{statement}
+use Rattle.zone.proofs.owner.Tie as tie
+
+returns : tie.Need-returns
+returns c = owner-far _ (c .before .pre) _ (c .if1 .taken)
+
+add-slot : tie.Need-add-slot
+add-slot c = search needs
+
+mul-slot : tie.Need-mul-slot
+mul-slot c = search needs
+
+shared-slice-read-slot : tie.Need-shared-slice-read-slot
+shared-slice-read-slot c = omega (arith, zone-size _ (c .before .before .pre))
+
+returns-2 : tie.Need-returns-2
+returns-2 c = sym (owner-live _ (c .if2 .taken)) ∙ owner-read _ (c .before .before .before .pre) _ (c .before .before .if1 .left)
+
+returns-3 : tie.Need-returns-3
+returns-3 c = sym (owner-none _ (c .if2 .left)) ∙ owner-read _ (c .before .before .before .pre) _ (c .before .before .if1 .left)
+
+pub owner-spec : {M : Type 1} → statement M
+owner-spec =
+    tie.close (tie.spec returns add-slot mul-slot shared-slice-read-slot returns-2 returns-3)

@@ -1,0 +1,4 @@
+pub mod Encoding
+pub mod Decoding
+pub mod Live
+pub mod Stores
