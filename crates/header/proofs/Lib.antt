@@ -1,0 +1,9 @@
+pub mod Keys
+pub mod Entries
+pub mod Counts
+pub mod Facts
+pub mod Encoded
+pub mod Exact
+pub mod Scans
+pub mod Steps
+pub mod Kept

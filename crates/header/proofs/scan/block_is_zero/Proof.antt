@@ -1,0 +1,54 @@
+-- `scan::block_is_zero` meets its contract. The loop's invariant: what is gathered is zero where every word so far is. Assumes nothing.
+use Prim.Native.Nat.{_≤_, _-_}
+use mathlib.Core.Path.{_≡_, sym}
+use native.Mathlib.Omega.{arith}
+use lib.Dec.{eqb}
+use lib.ListN.{length, take}
+use borrow.Author.Needs.{needs}
+use Rattle.lemmas.specs.Every.{every}
+use Rattle.lemmas.specs.Zeros.{isZero}
+use Rattle.lemmas.proofs.Bits.{or-more}
+use Rattle.lemmas.proofs.Every.{every-nil, every-done}
+use Rattle.header.proofs.scan.block_is_zero.Statement.{statement}
+use Rattle.header.proofs.scan.block_is_zero.Tie as tie
+
+abbrev Inv-loop : tie.InvT-loop
+Inv-loop s seen₀ i₀ seen i = (i ≤ length s) × (eqb seen 0 ≡ every isZero (take i s))
+
+abbrev μ-loop : tie.MeasureT-loop
+μ-loop s seen₀ i₀ seen i = length s - i
+
+loop-holds : tie.Need-loop-holds Inv-loop μ-loop
+loop-holds c = (omega arith, sym (every-nil isZero))
+
+mul-seen : tie.Need-mul-seen Inv-loop μ-loop
+mul-seen c = search needs
+
+shared-slice-read-seen : tie.Need-shared-slice-read-seen Inv-loop μ-loop
+shared-slice-read-seen c = search needs
+
+add-i : tie.Need-add-i Inv-loop μ-loop
+add-i c = search needs
+
+loop-less : tie.Need-loop-less Inv-loop μ-loop
+loop-less c = search needs
+
+loop-again : tie.Need-loop-again Inv-loop μ-loop
+loop-again c = (omega arith, or-more (c .before .before .before .args .s .now) (c .before .before .loop .i) 0 (c .before .before .loop .seen) (omega arith) (c .before .before .loop .inv .1))
+
+returns : tie.Need-returns Inv-loop μ-loop
+returns c = every-done isZero _ _ (c .loop-test .left) (c .before .loop .inv .1)
+
+pub block-is-zero-spec : {M : Type 1} → statement M
+block-is-zero-spec =
+    tie.close
+    (tie.spec
+    Inv-loop
+    μ-loop
+    loop-holds
+    mul-seen
+    shared-slice-read-seen
+    add-i
+    loop-less
+    loop-again
+    returns)

@@ -1,0 +1,94 @@
+-- `scan::is_zero` meets its contract. The loop's invariant: every word before `i` is zero. Assumes nothing.
+use Prim.Native.Nat.{_+_, _≤_, _-_}
+use mathlib.Core.Bool.{true}
+use mathlib.Core.Path.{_≡_, sym, _∙_}
+use native.Mathlib.Omega.{arith}
+use lib.ListN.{length, take}
+use borrow.Author.Needs.{needs}
+use borrow.Author.Tests.{not-true, not-false}
+use Rattle.lemmas.specs.Every.{every}
+use Rattle.lemmas.specs.Zeros.{isZero}
+use Rattle.lemmas.proofs.Every.{every-nil, every-block, every-block-not, every-block-last}
+use Rattle.header.proofs.scan.is_zero.Statement.{statement}
+use Rattle.header.proofs.scan.is_zero.Tie as tie
+
+abbrev Inv-loop : tie.InvT-loop
+Inv-loop s i₀ i = (i ≤ length s) × (every isZero (take i s) ≡ true)
+
+abbrev μ-loop : tie.MeasureT-loop
+μ-loop s i₀ i = length s - i
+
+loop-holds : tie.Need-loop-holds Inv-loop μ-loop
+loop-holds c = (omega arith, every-nil isZero)
+
+add-loop : tie.Need-add-loop Inv-loop μ-loop
+add-loop c = search needs
+
+add-end : tie.Need-add-end Inv-loop μ-loop
+add-end c = search needs
+
+mul-block-is-zero : tie.Need-mul-block-is-zero Inv-loop μ-loop
+mul-block-is-zero c = search needs
+
+sub-block-is-zero : tie.Need-sub-block-is-zero Inv-loop μ-loop
+sub-block-is-zero c = search needs
+
+part-block-is-zero-start : tie.Need-part-block-is-zero-start Inv-loop μ-loop
+part-block-is-zero-start c = search needs
+
+part-block-is-zero-end : tie.Need-part-block-is-zero-end Inv-loop μ-loop
+part-block-is-zero-end c = search needs
+
+block-is-zero-requires : tie.Need-block-is-zero-requires Inv-loop μ-loop
+block-is-zero-requires c κs = search needs
+
+returns : tie.Need-returns Inv-loop μ-loop
+returns c = sym (every-block-not isZero (c .before .before .before .before .before .before .args .s .now) (c .before .before .before .before .loop .i) (c .before .before .before .before .loop .i + 64 - c .before .before .before .before .loop .i) (sym (c .before .block-is-zero .ensures) ∙ not-true _ (c .if1 .taken)))
+
+loop-less : tie.Need-loop-less Inv-loop μ-loop
+loop-less c = search needs
+
+loop-again : tie.Need-loop-again Inv-loop μ-loop
+loop-again c = (omega arith, every-block isZero (c .before .before .before .before .before .before .args .s .now) (c .before .before .before .before .loop .i) (c .before .before .before .before .loop .i + 64 - c .before .before .before .before .loop .i) (c .before .before .before .before .loop .i + 64) (omega arith) (c .before .before .before .before .loop .inv .1) (sym (c .before .block-is-zero .ensures) ∙ not-false _ (c .if1 .left)))
+
+mul-block-is-zero-2 : tie.Need-mul-block-is-zero-2 Inv-loop μ-loop
+mul-block-is-zero-2 c = search needs
+
+sub-block-is-zero-2 : tie.Need-sub-block-is-zero-2 Inv-loop μ-loop
+sub-block-is-zero-2 c = search needs
+
+part-block-is-zero-start-2 : tie.Need-part-block-is-zero-start-2 Inv-loop μ-loop
+part-block-is-zero-start-2 c = search needs
+
+part-block-is-zero-end-2 : tie.Need-part-block-is-zero-end-2 Inv-loop μ-loop
+part-block-is-zero-end-2 c = search needs
+
+block-is-zero-requires-2 : tie.Need-block-is-zero-requires-2 Inv-loop μ-loop
+block-is-zero-requires-2 c κs = search needs
+
+returns-2 : tie.Need-returns-2 Inv-loop μ-loop
+returns-2 c = c .block-is-zero2 .ensures ∙ every-block-last isZero (c .before .before .before .before .before .args .s .now) (c .before .before .before .loop .i) (length (c .before .before .before .before .before .args .s .now) - c .before .before .before .loop .i) (omega arith) (c .before .before .before .loop .inv .1)
+
+pub is-zero-spec : {M : Type 1} → statement M
+is-zero-spec =
+    tie.close
+    (tie.spec
+    Inv-loop
+    μ-loop
+    loop-holds
+    add-loop
+    add-end
+    mul-block-is-zero
+    sub-block-is-zero
+    part-block-is-zero-start
+    part-block-is-zero-end
+    block-is-zero-requires
+    returns
+    loop-less
+    loop-again
+    mul-block-is-zero-2
+    sub-block-is-zero-2
+    part-block-is-zero-start-2
+    part-block-is-zero-end-2
+    block-is-zero-requires-2
+    returns-2)

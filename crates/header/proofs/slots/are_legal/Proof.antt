@@ -1,0 +1,91 @@
+-- `slots::are_legal` meets its contract. The loop's invariant: the slots from `i` on are legal behind `class` where all are. Assumes nothing.
+use Prim.Native.Nat.{_≤_, _-_}
+use mathlib.Core.Path.{_≡_, refl, _∙_}
+use native.Mathlib.Omega.{arith}
+use lib.ListN.{length, drop}
+use borrow.Author.Needs.{needs}
+use Rattle.header.specs.Slots.{legalSlots}
+use Rattle.header.proofs.Scans.{legal-end, legal-zero, legal-large, legal-falls, legal-next}
+use Rattle.header.proofs.slots.are_legal.Statement.{statement}
+use Rattle.header.proofs.slots.are_legal.Tie as tie
+
+abbrev Inv-loop : tie.InvT-loop
+Inv-loop slots limit class₀ i₀ class i = (i ≤ length slots) × (legalSlots limit class (drop i slots) ≡ legalSlots limit 0 slots)
+
+abbrev μ-loop : tie.MeasureT-loop
+μ-loop slots limit class₀ i₀ class i = length slots - i
+
+loop-holds : tie.Need-loop-holds Inv-loop μ-loop
+loop-holds c = (omega arith, refl)
+
+mul-slot : tie.Need-mul-slot Inv-loop μ-loop
+mul-slot c = search needs
+
+shared-slice-read-slot : tie.Need-shared-slice-read-slot Inv-loop μ-loop
+shared-slice-read-slot c = search needs
+
+add-behind : tie.Need-add-behind Inv-loop μ-loop
+add-behind c = search needs
+
+mul-is-zero : tie.Need-mul-is-zero Inv-loop μ-loop
+mul-is-zero c = search needs
+
+sub-is-zero : tie.Need-sub-is-zero Inv-loop μ-loop
+sub-is-zero c = search needs
+
+part-is-zero-start : tie.Need-part-is-zero-start Inv-loop μ-loop
+part-is-zero-start c = search needs
+
+part-is-zero-end : tie.Need-part-is-zero-end Inv-loop μ-loop
+part-is-zero-end c = search needs
+
+is-zero-requires : tie.Need-is-zero-requires Inv-loop μ-loop
+is-zero-requires c κs = search needs
+
+returns : tie.Need-returns Inv-loop μ-loop
+returns c = c .is-zero .ensures ∙ legal-zero (c .before .before .before .before .before .before .before .args .limit) (c .before .before .before .before .before .loop .class) (c .before .before .before .before .before .before .before .args .slots .now) (c .before .before .before .before .before .loop .i) (c .before .before .before .before .loop-test .taken) (c .before .before .if1 .taken) ∙ c .before .before .before .before .before .loop .inv .1
+
+returns-2 : tie.Need-returns-2 Inv-loop μ-loop
+returns-2 c = legal-large (c .before .before .before .before .before .before .args .limit) (c .before .before .before .before .loop .class) (c .before .before .before .before .before .before .args .slots .now) (c .before .before .before .before .loop .i) (c .before .before .before .loop-test .taken) (c .before .if1 .left) (c .if2 .taken) ∙ c .before .before .before .before .loop .inv .1
+
+sub-next : tie.Need-sub-next Inv-loop μ-loop
+sub-next c = search needs
+
+returns-3 : tie.Need-returns-3 Inv-loop μ-loop
+returns-3 c = legal-falls (c .before .before .before .before .before .before .before .args .limit) (c .before .before .before .before .before .loop .class) (c .before .before .before .before .before .before .before .args .slots .now) (c .before .before .before .before .before .loop .i) (c .before .before .before .before .loop-test .taken) (c .before .before .if1 .left) (c .before .if2 .left) (c .if3 .taken) ∙ c .before .before .before .before .before .loop .inv .1
+
+add-i : tie.Need-add-i Inv-loop μ-loop
+add-i c = search needs
+
+loop-less : tie.Need-loop-less Inv-loop μ-loop
+loop-less c = search needs
+
+loop-again : tie.Need-loop-again Inv-loop μ-loop
+loop-again c = (omega arith, legal-next (c .before .before .before .before .before .before .before .args .limit) (c .before .before .before .before .before .loop .class) (c .before .before .before .before .before .before .before .args .slots .now) (c .before .before .before .before .before .loop .i) (c .before .before .before .before .loop-test .taken) (c .before .before .if1 .left) (c .before .if2 .left) (c .if3 .left) ∙ c .before .before .before .before .before .loop .inv .1)
+
+returns-4 : tie.Need-returns-4 Inv-loop μ-loop
+returns-4 c = legal-end (c .before .before .before .args .limit) (c .before .loop .class) (c .before .before .before .args .slots .now) (c .before .loop .i) (c .loop-test .left) ∙ c .before .loop .inv .1
+
+pub are-legal-spec : {M : Type 1} → statement M
+are-legal-spec =
+    tie.close
+    (tie.spec
+    Inv-loop
+    μ-loop
+    loop-holds
+    mul-slot
+    shared-slice-read-slot
+    add-behind
+    mul-is-zero
+    sub-is-zero
+    part-is-zero-start
+    part-is-zero-end
+    is-zero-requires
+    returns
+    returns-2
+    sub-next
+    returns-3
+    add-i
+    loop-less
+    loop-again
+    returns-4)

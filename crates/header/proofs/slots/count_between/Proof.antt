@@ -1,0 +1,62 @@
+-- `slots::count_between` meets its contract. The loop's invariant: `n` is the count over the slots so far. Assumes nothing.
+use Prim.Native.Nat.{ℕ, _<_, _≤_, _-_}
+use mathlib.Core.Logic.{⊎-elim}
+use mathlib.Core.List.{List}
+use mathlib.Core.Path.{_≡_, sym, _∙_}
+use native.Mathlib.Omega.{arith}
+use lib.ListN.{length, take}
+use borrow.Author.Needs.{needs}
+use Rattle.lemmas.specs.Every.{count}
+use Rattle.lemmas.proofs.Every.{count-nil, count-pass, count-fail, count-done}
+use Rattle.header.specs.Slots.{holds}
+use Rattle.header.proofs.slots.count_between.Statement.{statement}
+use Rattle.header.proofs.slots.count_between.Tie as tie
+
+abbrev Inv-loop : tie.InvT-loop
+Inv-loop slots low high n₀ i₀ n i = (i ≤ length slots) × (n ≤ i) × (n ≡ count (holds low high) (take i slots))
+
+abbrev μ-loop : tie.MeasureT-loop
+μ-loop slots low high n₀ i₀ n i = length slots - i
+
+loop-holds : tie.Need-loop-holds Inv-loop μ-loop
+loop-holds c = (omega arith, omega arith, sym (count-nil (holds (c .before .args .low) (c .before .args .high))))
+
+mul-holds : tie.Need-mul-holds Inv-loop μ-loop
+mul-holds c = search needs
+
+shared-slice-read-holds : tie.Need-shared-slice-read-holds Inv-loop μ-loop
+shared-slice-read-holds c = search needs
+
+holds-requires : tie.Need-holds-requires Inv-loop μ-loop
+holds-requires c κs = search needs
+
+add-n : tie.Need-add-n Inv-loop μ-loop
+add-n c = search needs
+
+add-i : tie.Need-add-i Inv-loop μ-loop
+add-i c = search needs
+
+loop-less : tie.Need-loop-less Inv-loop μ-loop
+loop-less c = search needs
+
+loop-again : tie.Need-loop-again Inv-loop μ-loop
+loop-again c = let s : List ℕ = c .before .before .before .before .before .before .args .slots .now in let i : ℕ = c .before .before .before .before .loop .i in let h : i < length s = omega arith in let was = c .before .before .before .before .loop .inv in let test = holds (c .before .before .before .before .before .before .args .low) (c .before .before .before .before .before .before .args .high) in (omega arith, ⊎-elim (λ w. omega arith) (λ w. omega arith) (c .if1 .came), ⊎-elim (λ w. w .1 ∙ count-pass test s i 0 h (sym (c .before .holds .ensures) ∙ w .0 .taken) (was .2)) (λ w. w .1 ∙ count-fail test s i 0 h (sym (c .before .holds .ensures) ∙ w .0 .left) (was .2)) (c .if1 .came))
+
+returns : tie.Need-returns Inv-loop μ-loop
+returns c = count-done (holds (c .before .before .before .args .low) (c .before .before .before .args .high)) _ _ (c .loop-test .left) (c .before .loop .inv .2)
+
+pub count-between-spec : {M : Type 1} → statement M
+count-between-spec =
+    tie.close
+    (tie.spec
+    Inv-loop
+    μ-loop
+    loop-holds
+    mul-holds
+    shared-slice-read-holds
+    holds-requires
+    add-n
+    add-i
+    loop-less
+    loop-again
+    returns)

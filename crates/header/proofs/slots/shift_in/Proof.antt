@@ -1,0 +1,63 @@
+-- `slots::shift_in` meets its contract. The loop's invariant: what is left to shift leads to the same slots. Assumes nothing.
+use Prim.Native.Nat.{_≤_, _<_, _-_}
+use mathlib.Core.Path.{_≡_, sym, _∙_}
+use native.Mathlib.Omega.{arith}
+use lib.ListN.{length, length-set}
+use borrow.Author.Needs.{needs}
+use Rattle.header.specs.Slots.{shiftedIn}
+use Rattle.header.proofs.Scans.{shift-more, shift-done}
+use Rattle.header.proofs.slots.shift_in.Statement.{statement}
+use Rattle.header.proofs.slots.shift_in.Tie as tie
+
+abbrev Inv-loop : tie.InvT-loop
+Inv-loop slots₀ at v carry₀ i₀ slots carry i = (at ≤ i) × (i ≤ length slots₀) × (length slots ≡ length slots₀) × (shiftedIn i carry slots ≡ shiftedIn at v slots₀)
+
+abbrev μ-loop : tie.MeasureT-loop
+μ-loop slots₀ at v carry₀ i₀ slots carry i = length slots₀ - i
+
+loop-holds : tie.Need-loop-holds Inv-loop μ-loop
+loop-holds c = search needs
+
+mul-next : tie.Need-mul-next Inv-loop μ-loop
+mul-next c = search needs
+
+slice-read-next : tie.Need-slice-read-next Inv-loop μ-loop
+slice-read-next c = search needs
+
+mul-slots : tie.Need-mul-slots Inv-loop μ-loop
+mul-slots c = search needs
+
+slice-write-slots : tie.Need-slice-write-slots Inv-loop μ-loop
+slice-write-slots c = search needs
+
+add-i : tie.Need-add-i Inv-loop μ-loop
+add-i c = search needs
+
+loop-less : tie.Need-loop-less Inv-loop μ-loop
+loop-less c = search needs
+
+loop-again : tie.Need-loop-again Inv-loop μ-loop
+loop-again c = let h : c .before .before .loop .i < length (c .before .before .loop .slots) = omega arith in (omega arith, omega arith, simp length-set (c .before .before .loop .inv .2), shift-more _ _ _ h ∙ c .before .before .loop .inv .3)
+
+same-length : tie.Need-same-length Inv-loop μ-loop
+same-length c = search needs
+
+returns : tie.Need-returns Inv-loop μ-loop
+returns c = let h : length (c .before .loop .slots) ≤ c .before .loop .i = omega arith in sym (shift-done _ _ _ h) ∙ c .before .loop .inv .3
+
+pub shift-in-spec : {M : Type 1} → statement M
+shift-in-spec =
+    tie.close
+    (tie.spec
+    Inv-loop
+    μ-loop
+    loop-holds
+    mul-next
+    slice-read-next
+    mul-slots
+    slice-write-slots
+    add-i
+    loop-less
+    loop-again
+    same-length
+    returns)

@@ -1,0 +1,36 @@
+-- `header::spare_count` meets its contract. Assumes nothing.
+use mathlib.Core.Path.{_∙_}
+use native.Mathlib.Omega.{arith}
+use borrow.Author.Needs.{needs}
+use Rattle.header.proofs.Steps.{header-length, spare-most, spare-length}
+use Rattle.header.proofs.spare_count.Statement.{statement}
+use Rattle.header.proofs.spare_count.Tie as tie
+
+sub-count-between : tie.Need-sub-count-between
+sub-count-between c = search needs
+
+part-count-between-start : tie.Need-part-count-between-start
+part-count-between-start c = search needs
+
+part-count-between-end : tie.Need-part-count-between-end
+part-count-between-end c = omega (arith, header-length (c .before .pre))
+
+count-between-requires : tie.Need-count-between-requires
+count-between-requires c κs = search needs
+
+cast-result : tie.Need-cast-result
+cast-result c = omega (arith, c .count-between .ensures, spare-most (c .before .before .before .pre) 0 256)
+
+returns : tie.Need-returns
+returns c = c .count-between .ensures ∙ spare-length (c .before .before .before .pre)
+
+pub spare-count-spec : {M : Type 1} → statement M
+spare-count-spec =
+    tie.close
+    (tie.spec
+    sub-count-between
+    part-count-between-start
+    part-count-between-end
+    count-between-requires
+    cast-result
+    returns)

@@ -1,0 +1,73 @@
+-- Laws of the segments' words: their lengths, what their first words say, and what stands behind a segment. Assumes nothing.
+use Prim.Native.Nat.{ℕ, zero, suc, _+_, _-_, _*_, _≤_, _<_}
+use mathlib.Core.Path.{_≡_, refl, sym, ap, _∙_, subst}
+use mathlib.Core.List.{List, [], _∷_, _++_, append-assoc, append-nil}
+use native.Mathlib.Omega.{arith}
+use lib.ListN.{length, getD, take, drop, length-append}
+use lib.Seq.{drop-at, take-at}
+use Rattle.lemmas.proofs.Zeros.{length-zeros}
+use Rattle.model.specs.Arena.{Segment, run, direct, zone, pages, total, Each}
+use Rattle.model.specs.Zone.{Zone}
+use Rattle.model.specs.Valid.{ValidZone, ValidSegment}
+use Rattle.model.proofs.Arena.{total-append, each-append}
+use Rattle.zone.specs.Encoding.{zoneEncoding}
+use Rattle.zone.proofs.Words.{length-encoding}
+use Rattle.pages.specs.Encoding.{kindOf, segmentEncoding, segmentsEncoding, Writable}
+
+pub length-segment : (x : Segment Zone) → 0 < pages x → length (segmentEncoding x) ≡ 520 * pages x
+unfolding segmentEncoding
+length-segment (run n) h = omega (arith, length-zeros (520 * n - 2))
+length-segment (direct n g) h = omega (arith, length-zeros (520 * n - 3))
+length-segment (zone z) h = length-encoding z
+
+pub length-segments : (m : List (Segment Zone)) → Each Writable m → length (segmentsEncoding m) ≡ 520 * total m
+unfolding segmentsEncoding
+length-segments [] h = refl
+length-segments (x ∷ r) h = omega (arith, length-append (segmentEncoding x) (segmentsEncoding r), length-segment x (h .0 .0), length-segments r (h .1))
+
+pub encoding-append : (a b : List (Segment Zone)) → segmentsEncoding (a ++ b) ≡ segmentsEncoding a ++ segmentsEncoding b
+unfolding segmentsEncoding
+encoding-append [] b = refl
+encoding-append (x ∷ a) b = ap (λ l. segmentEncoding x ++ l) (encoding-append a b) ∙ sym (append-assoc (segmentEncoding x) (segmentsEncoding a) (segmentsEncoding b))
+
+pub encoding-one : (x : Segment Zone) → segmentsEncoding (x ∷ []) ≡ segmentEncoding x
+unfolding segmentsEncoding
+encoding-one x = append-nil (segmentEncoding x)
+
+-- The first words.
+pub kind-is : (x : Segment Zone) (w : List ℕ) → getD (segmentEncoding x ++ w) 0 0 ≡ kindOf x
+unfolding segmentEncoding zoneEncoding
+kind-is (run n) w = refl
+kind-is (direct n g) w = refl
+kind-is (zone z) w = refl
+
+pub size-is : (x : Segment Zone) (w : List ℕ) → (kindOf x ≡ 3 → ⊥) → getD (segmentEncoding x ++ w) 1 0 ≡ pages x
+unfolding segmentEncoding
+size-is (run n) w h = refl
+size-is (direct n g) w h = refl
+size-is (zone z) w h = absurd (h refl)
+
+pub zone-size : (x : Segment Zone) → kindOf x ≡ 3 → pages x ≡ 8
+zone-size (run n) h = absurd (omega arith)
+zone-size (direct n g) h = absurd (omega arith)
+zone-size (zone z) h = refl
+
+pub pages-most : (x : Segment Zone) (a b : List (Segment Zone)) (m : List (Segment Zone)) → m ≡ a ++ (x ∷ b) → total a + pages x ≤ total m
+pages-most x a b m e = omega (arith, ap (λ l. total l) e, total-append a (x ∷ b))
+
+-- What stands behind a segment.
+pub drop-segment : (x : Segment Zone) (w : List ℕ) → 0 < pages x → drop (520 * pages x) (segmentEncoding x ++ w) ≡ w
+drop-segment x w h = drop-at (segmentEncoding x) w (520 * pages x) (length-segment x h)
+
+-- The parts of a sound list.
+pub each-left : (a b : List (Segment Zone)) → Each Writable (a ++ b) → Each Writable a
+each-left [] b h = tt
+each-left (x ∷ a) b h = (h .0, each-left a b (h .1))
+
+pub each-right : (a b : List (Segment Zone)) → Each Writable (a ++ b) → Each Writable b
+each-right [] b h = h
+each-right (x ∷ a) b h = each-right a b (h .1)
+
+pub zone-first : (z : Zone) → getD (zoneEncoding z) 0 0 ≡ 3
+unfolding zoneEncoding
+zone-first z = refl

@@ -1,0 +1,181 @@
+-- The test of segments' words is exact: one segment, and all of them. Assumes nothing.
+use Prim.Native.Nat.{ℕ, zero, suc, _+_, _-_, _*_, _≤_, _<_}
+use mathlib.Core.Path.{_≡_, refl, sym, ap, _∙_, subst}
+use mathlib.Core.List.{List, [], _∷_, _++_}
+use mathlib.Core.Bool.{Bool, true, false, cond, _&&_, not}
+use native.Mathlib.Omega.{arith}
+use lib.Dec.{leb, eqb}
+use lib.ListN.{length, getD, take, drop, length-append, List·getD-append}
+use lib.Seq.{length-take-le, getD-take, take-at, take-take}
+use borrow.Author.Tests.{leb-true, le-leb, lt-leb, eqb-true, eqb-false, eq-eqb, ne-eqb}
+use Rattle.lemmas.specs.Every.{every}
+use Rattle.lemmas.specs.Parts.{mid}
+use Rattle.lemmas.specs.Zeros.{zeros, isZero, Zero}
+use Rattle.lemmas.proofs.Cases.{bool, true-false, and-left, and-right, and-both, and-false}
+use Rattle.lemmas.proofs.Every.{every-at, every-of}
+use Rattle.lemmas.proofs.Parts.{length-mid, getD-mid}
+use Rattle.model.specs.Arena.{Segment, run, direct, zone, pages}
+use Rattle.model.specs.Zone.{Zone}
+use Rattle.model.specs.Valid.{ValidZone}
+use Rattle.zone.specs.Encoding.{zoneEncoding}
+use Rattle.zone.specs.Decoding.{isZone}
+use Rattle.zone.proofs.Encoded.{zone-iff, encoding-zone}
+use Rattle.pages.specs.Encoding.{kindOf, segmentEncoding, Writable}
+use Rattle.pages.specs.Places.{Blank}
+use Rattle.pages.specs.Legal.{zeroFrom, sizeIf, groupIn, sizeAt}
+use Rattle.pages.proofs.Laws.{length-segment, zone-first}
+use Rattle.pages.proofs.Words.{run-zero, direct-zero, run-words, direct-words}
+
+-- Words of at least n pages.
+abbrev pub Long : ℕ → List ℕ → Type 0
+Long n w = (520 * n ≤ length w) × (n ≤ 256)
+
+-- Zero words, tested and told.
+zero-is : (i k : ℕ) (w : List ℕ) → 520 * k ≤ length w → i ≤ 520 * k → zeroFrom i k w ≡ true → Zero (take (520 * k) w) i (520 * k)
+zero-is i k w l h t = record {
+  at = λ j a b.
+      let m : j - i < length (mid i (520 * k - i) w) = omega (arith, length-mid i (520 * k - i) w (omega arith)) in
+      getD-take (520 * k) w j 0 b ∙ ap (λ q. getD w q 0) (let e : j ≡ i + (j - i) = omega arith in e) ∙ sym (getD-mid i (520 * k - i) w (j - i) 0 (omega arith)) ∙ eqb-true (getD (mid i (520 * k - i) w) (j - i) 0) 0 (every-at isZero (mid i (520 * k - i) w) (j - i) 0 t m);
+}
+
+is-zero : (i k : ℕ) (w : List ℕ) → 520 * k ≤ length w → i ≤ 520 * k → Zero (take (520 * k) w) i (520 * k) → zeroFrom i k w ≡ true
+is-zero i k w l h z = every-of isZero (mid i (520 * k - i) w) 0 (λ j a.
+    let q : j < 520 * k - i = omega (arith, length-mid i (520 * k - i) w (omega arith)) in
+    eq-eqb (getD (mid i (520 * k - i) w) j 0) 0 (getD-mid i (520 * k - i) w j 0 q ∙ sym (getD-take (520 * k) w (i + j) 0 (omega arith)) ∙ z .at (i + j) (omega arith) (omega arith)))
+
+front : (k i : ℕ) (w : List ℕ) → i < 520 * k → getD (take (520 * k) w) i 0 ≡ getD w i 0
+front k i w h = getD-take (520 * k) w i 0 h
+
+blank : (i k n : ℕ) (w : List ℕ) → Long n w → 1 ≤ k → k ≤ n → Zero (take (520 * k) w) i (520 * k) → Blank (take (520 * k) w) i k
+blank i k n w l a b z = record { long = length-take-le (520 * k) w (omega (arith, l .0)); some = a; most = omega (arith, l .1); zero = z }
+
+-- A valid segment of at most n pages with which words begin.
+pub record Leads (n : ℕ) (w : List ℕ) (x : Segment Zone) : Type 0 where
+  pub ok : Writable x
+  pub within : pages x ≤ n
+  pub words : take (520 * pages x) w ≡ segmentEncoding x
+
+module _ (n : ℕ) (w : List ℕ) (long : Long n w) where
+  size-if : (t : Bool) → 0 < sizeIf n w t → (1 ≤ getD w 1 0) × (getD w 1 0 ≤ n) × (t ≡ true) × (sizeIf n w t ≡ getD w 1 0)
+  size-if t h = bool (leb 1 (getD w 1 0) && leb (getD w 1 0) n && t)
+      (λ e. let a = and-left (leb 1 (getD w 1 0) && leb (getD w 1 0) n) t e in (leb-true 1 (getD w 1 0) (and-left (leb 1 (getD w 1 0)) (leb (getD w 1 0) n) a), leb-true (getD w 1 0) n (and-right (leb 1 (getD w 1 0)) (leb (getD w 1 0) n) a), and-right (leb 1 (getD w 1 0) && leb (getD w 1 0) n) t e, rw e))
+      (λ e. absurd (let z : 0 < 0 = rw e at h in omega arith))
+
+  if-size : (t : Bool) → 1 ≤ getD w 1 0 → getD w 1 0 ≤ n → t ≡ true → sizeIf n w t ≡ getD w 1 0
+  if-size t a b e = rw (le-leb 1 (getD w 1 0) a, le-leb (getD w 1 0) n b, e)
+
+  -- What is found is such a segment.
+  pub size-leads : 0 < sizeAt n w → (x : Segment Zone) × Leads n w x × (sizeAt n w ≡ pages x)
+  unfolding sizeAt segmentEncoding
+  size-leads = bool (eqb (getD w 0 0) 3)
+      (λ t. rw t (bool (leb 8 n && isZone (take 4160 w))
+      (λ u. rw u (λ _. as-zone (leb-true 8 n (and-left (leb 8 n) (isZone (take 4160 w)) u)) (zone-iff (take 4160 w) .0 (and-right (leb 8 n) (isZone (take 4160 w)) u))))
+      (λ u. rw u (λ h. absurd (omega arith)))))
+      (λ t. rw t (bool (eqb (getD w 0 0) 1)
+      (λ u. rw u (λ h. as-run (eqb-true (getD w 0 0) 1 u) (size-if (zeroFrom 2 (getD w 1 0) w) h)))
+      (λ u. rw u (bool (eqb (getD w 0 0) 2)
+      (λ v. rw v (λ h. as-direct (eqb-true (getD w 0 0) 2 v) (size-if (groupIn w && zeroFrom 3 (getD w 1 0) w) h)))
+      (λ v. rw v (λ h. absurd (omega arith)))))))
+    where
+      as-zone : 8 ≤ n → (z : Zone) × ValidZone z × (take 4160 w ≡ zoneEncoding z) → (x : Segment Zone) × Leads n w x × (8 ≡ pages x)
+      as-zone h f = (zone (f .0), record { ok = (omega arith, f .1); within = h; words = f .2 }, refl)
+
+      as-run : getD w 0 0 ≡ 1 → (1 ≤ getD w 1 0) × (getD w 1 0 ≤ n) × (zeroFrom 2 (getD w 1 0) w ≡ true) × (sizeIf n w (zeroFrom 2 (getD w 1 0) w) ≡ getD w 1 0) → (x : Segment Zone) × Leads n w x × (sizeIf n w (zeroFrom 2 (getD w 1 0) w) ≡ pages x)
+      as-run k f =
+          let len = getD w 1 0 in
+          (run len, record { ok = (f .0, tt); within = f .1; words = run-words (take (520 * len) w) len (blank 2 len n w long (f .0) (f .1) (zero-is 2 len w (omega (arith, long .0, f .1)) (omega (arith, f .0)) (f .2))) (front len 0 w (omega (arith, f .0)) ∙ k) (front len 1 w (omega (arith, f .0))) }, f .3)
+
+      as-direct : getD w 0 0 ≡ 2 → (1 ≤ getD w 1 0) × (getD w 1 0 ≤ n) × ((groupIn w && zeroFrom 3 (getD w 1 0) w) ≡ true) × (sizeIf n w (groupIn w && zeroFrom 3 (getD w 1 0) w) ≡ getD w 1 0) → (x : Segment Zone) × Leads n w x × (sizeIf n w (groupIn w && zeroFrom 3 (getD w 1 0) w) ≡ pages x)
+      as-direct k f =
+          let len = getD w 1 0 in
+          let g = getD w 2 0 in
+          let gs = and-left (groupIn w) (zeroFrom 3 len w) (f .2) in
+          (direct len g, record { ok = (f .0, (f .0, leb-true 1 g (and-left (leb 1 g) (leb g 12) gs), leb-true g 12 (and-right (leb 1 g) (leb g 12) gs))); within = f .1; words = direct-words (take (520 * len) w) len g (blank 3 len n w long (f .0) (f .1) (zero-is 3 len w (omega (arith, long .0, f .1)) (omega (arith, f .0)) (and-right (groupIn w) (zeroFrom 3 len w) (f .2)))) (front len 0 w (omega (arith, f .0)) ∙ k) (front len 1 w (omega (arith, f .0))) (front len 2 w (omega (arith, f .0))) }, f .3)
+
+  -- Such a segment is found.
+  pub leads-size : (x : Segment Zone) → Leads n w x → sizeAt n w ≡ pages x
+  unfolding sizeAt segmentEncoding
+  leads-size (run len) l =
+      let word : (i : ℕ) → i < 520 * len → getD w i 0 ≡ getD (segmentEncoding (run len)) i 0 = λ i h. sym (front len i w h) ∙ ap (λ v. getD v i 0) (l .words) in
+      let k = word 0 (omega (arith, l .ok .0)) in
+      let s = word 1 (omega (arith, l .ok .0)) in
+      rw (ne-eqb (getD w 0 0) 3 (λ e. omega arith), eq-eqb (getD w 0 0) 1 k)
+      (if-size (zeroFrom 2 (getD w 1 0) w) (omega (arith, l .ok .0)) (omega (arith, l .within)) (subst (λ q. zeroFrom 2 q w ≡ true) (sym s) (is-zero 2 len w (omega (arith, long .0, l .within)) (omega (arith, l .ok .0)) (subst (λ v. Zero v 2 (520 * len)) (sym (l .words)) (run-zero len)))) ∙ s)
+  leads-size (direct len g) l =
+      let word : (i : ℕ) → i < 520 * len → getD w i 0 ≡ getD (segmentEncoding (direct len g)) i 0 = λ i h. sym (front len i w h) ∙ ap (λ v. getD v i 0) (l .words) in
+      let k = word 0 (omega (arith, l .ok .0)) in
+      let s = word 1 (omega (arith, l .ok .0)) in
+      let t = word 2 (omega (arith, l .ok .0)) in
+      rw (ne-eqb (getD w 0 0) 3 (λ e. omega arith), ne-eqb (getD w 0 0) 1 (λ e. omega arith), eq-eqb (getD w 0 0) 2 k)
+      (if-size (groupIn w && zeroFrom 3 (getD w 1 0) w) (omega (arith, l .ok .0)) (omega (arith, l .within))
+      (and-both (groupIn w) (zeroFrom 3 (getD w 1 0) w) (and-both (leb 1 (getD w 2 0)) (leb (getD w 2 0) 12) (le-leb 1 (getD w 2 0) (omega (arith, l .ok .1 .1))) (le-leb (getD w 2 0) 12 (omega (arith, l .ok .1 .2))))
+      (subst (λ q. zeroFrom 3 q w ≡ true) (sym s) (is-zero 3 len w (omega (arith, long .0, l .within)) (omega (arith, l .ok .0)) (subst (λ v. Zero v 3 (520 * len)) (sym (l .words)) (direct-zero len g))))) ∙ s)
+  leads-size (zone z) l =
+      let k : getD w 0 0 ≡ 3 = sym (front 8 0 w (omega arith)) ∙ ap (λ v. getD v 0 0) (l .words) ∙ zone-first z in
+      rw (eq-eqb (getD w 0 0) 3 k, le-leb 8 n (l .within), ap isZone (l .words) ∙ encoding-zone z (l .ok .1))
+
+-- The same as the code finds it, case by case -------------------------------------------------------------------------------------
+
+module _ (n : ℕ) (w : List ℕ) where
+  pub size-zone : getD w 0 0 ≡ 3 → cond (leb 8 n && isZone (take 4160 w)) 8 0 ≡ sizeAt n w
+  unfolding sizeAt
+  size-zone k = rw (eq-eqb (getD w 0 0) 3 k)
+
+  pub size-other : (getD w 0 0 ≡ 3 → ⊥) → (getD w 0 0 ≡ 1 → ⊥) → (getD w 0 0 ≡ 2 → ⊥) → 0 ≡ sizeAt n w
+  unfolding sizeAt
+  size-other a b c = rw (ne-eqb (getD w 0 0) 3 a, ne-eqb (getD w 0 0) 1 b, ne-eqb (getD w 0 0) 2 c)
+
+  -- A length that is none, or too large.
+  no-size : (t : Bool) → (leb 1 (getD w 1 0) && leb (getD w 1 0) n) ≡ false → sizeIf n w t ≡ 0
+  no-size t e = rw e
+
+  pub size-none : (getD w 0 0 ≡ 3 → ⊥) → (leb 1 (getD w 1 0) && leb (getD w 1 0) n) ≡ false → 0 ≡ sizeAt n w
+  unfolding sizeAt
+  size-none a e = rw (ne-eqb (getD w 0 0) 3 a) (bool (eqb (getD w 0 0) 1)
+      (λ t. rw t (sym (no-size (zeroFrom 2 (getD w 1 0) w) e)))
+      (λ t. rw t (bool (eqb (getD w 0 0) 2) (λ u. rw u (sym (no-size (groupIn w && zeroFrom 3 (getD w 1 0) w) e))) (λ u. rw u))))
+
+  pub size-zero : (getD w 0 0 ≡ 3 → ⊥) → getD w 1 0 ≡ 0 → 0 ≡ sizeAt n w
+  size-zero a e = size-none a (rw (lt-leb 1 (getD w 1 0) (omega arith)))
+
+  pub size-large : (getD w 0 0 ≡ 3 → ⊥) → n < getD w 1 0 → 0 ≡ sizeAt n w
+  size-large a h = size-none a (rw (lt-leb (getD w 1 0) n h) (and-false (leb 1 (getD w 1 0))))
+
+  module _ (some : getD w 1 0 ≡ 0 → ⊥) (most : getD w 1 0 ≤ n) where
+    sized : (t : Bool) → cond t (getD w 1 0) 0 ≡ sizeIf n w t
+    sized t = rw (le-leb 1 (getD w 1 0) (omega (arith, some)), le-leb (getD w 1 0) n most)
+
+    pub size-run : getD w 0 0 ≡ 1 → cond (zeroFrom 2 (getD w 1 0) w) (getD w 1 0) 0 ≡ sizeAt n w
+    unfolding sizeAt
+    size-run k = rw (ne-eqb (getD w 0 0) 3 (λ e. omega arith), eq-eqb (getD w 0 0) 1 k) (sized (zeroFrom 2 (getD w 1 0) w))
+
+    direct-is : getD w 0 0 ≡ 2 → sizeIf n w (groupIn w && zeroFrom 3 (getD w 1 0) w) ≡ sizeAt n w
+    unfolding sizeAt
+    direct-is k = rw (ne-eqb (getD w 0 0) 3 (λ e. omega arith), ne-eqb (getD w 0 0) 1 (λ e. omega arith), eq-eqb (getD w 0 0) 2 k)
+
+    pub size-group : getD w 0 0 ≡ 2 → groupIn w ≡ false → 0 ≡ sizeAt n w
+    size-group k e = sym at-if ∙ direct-is k
+      where
+        at-if : sizeIf n w (groupIn w && zeroFrom 3 (getD w 1 0) w) ≡ 0
+        at-if = rw e (zero-if (leb 1 (getD w 1 0) && leb (getD w 1 0) n))
+          where
+            zero-if : (t : Bool) → cond (t && false) (getD w 1 0) 0 ≡ 0
+            zero-if true = refl
+            zero-if false = refl
+
+    pub size-direct : getD w 0 0 ≡ 2 → groupIn w ≡ true → cond (zeroFrom 3 (getD w 1 0) w) (getD w 1 0) 0 ≡ sizeAt n w
+    size-direct k e = sized (zeroFrom 3 (getD w 1 0) w) ∙ ap (λ t. sizeIf n w (t && zeroFrom 3 (getD w 1 0) w)) (sym e) ∙ direct-is k
+
+-- The group of a direct block.
+pub group-none : (w : List ℕ) → getD w 2 0 ≡ 0 → groupIn w ≡ false
+group-none w e = rw (lt-leb 1 (getD w 2 0) (omega arith))
+
+pub group-large : (w : List ℕ) → 12 < getD w 2 0 → groupIn w ≡ false
+group-large w h = rw (lt-leb (getD w 2 0) 12 h) (and-false (leb 1 (getD w 2 0)))
+
+pub group-some : (w : List ℕ) → (getD w 2 0 ≡ 0 → ⊥) → getD w 2 0 ≤ 12 → groupIn w ≡ true
+group-some w a b = and-both (leb 1 (getD w 2 0)) (leb (getD w 2 0) 12) (le-leb 1 (getD w 2 0) (omega (arith, a))) (le-leb (getD w 2 0) 12 b)
+
+-- What the code's test and length make.
+pub tested : (i : ℕ) (w : List ℕ) (t : Bool) (len r : ℕ) → r ≡ cond t len 0 → len ≡ getD w 1 0 → t ≡ zeroFrom i len w → r ≡ cond (zeroFrom i (getD w 1 0) w) (getD w 1 0) 0
+tested i w t len r e l z = e ∙ (λ j. cond ((z ∙ ap (λ k. zeroFrom i k w) l) j) (l j) 0)

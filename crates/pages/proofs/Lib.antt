@@ -1,0 +1,13 @@
+pub mod Laws
+pub mod Decoded
+pub mod Walk
+pub mod Search
+pub mod Words
+pub mod Halves
+pub mod Cuts
+pub mod Middle
+pub mod Fused
+pub mod Given
+pub mod Legal
+pub mod AllLegal
+pub mod Checking

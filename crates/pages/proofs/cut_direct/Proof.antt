@@ -1,0 +1,63 @@
+-- `cut_direct` meets its contract. Assumes nothing.
+use Rattle.pages.proofs.Cuts.{whole-length, rest-zero, cut-made, low-blank}
+use Rattle.pages.proofs.Laws.{length-segment}
+use Rattle.model.specs.Arena.{run, direct}
+use lib.ListN.{length}
+use mathlib.Core.Path.{sym, ap, refl}
+use native.Mathlib.Omega.{arith}
+use borrow.Author.Needs.{needs}
+use Rattle.pages.proofs.cut_direct.Statement.{statement}
+use Rattle.pages.proofs.cut_direct.Tie as tie
+
+mul-m : tie.Need-mul-m
+mul-m c = search needs
+
+slice-relend-prefix-put-direct : tie.Need-slice-relend-prefix-put-direct
+slice-relend-prefix-put-direct c = let h = c .before .pre in omega (arith, ap length (h .0), length-segment (run (c .before .args .len)) (omega arith), h .1, h .2, h .3)
+
+slice-aggregate-put-direct : tie.Need-slice-aggregate-put-direct
+slice-aggregate-put-direct c = let h = c .before .before .pre in sym ((low-blank _ _ _ (h .0) (h .1) (h .2) (h .3)) .long)
+
+put-direct-requires : tie.Need-put-direct-requires
+put-direct-requires c κs = let h = c .before .before .pre in low-blank _ _ _ (h .0) (h .1) (h .2) (h .3)
+
+mul-put-rest : tie.Need-mul-put-rest
+mul-put-rest c = search needs
+
+sub-put-rest : tie.Need-sub-put-rest
+sub-put-rest c = let h = c .before .before .before .before .before .pre in omega (arith, h .2, whole-length _ _ _ _ (direct _ _) (h .0) (h .1) (h .2) (h .3) refl (c .before .before .put-direct .ensures))
+
+part-put-rest-start : tie.Need-part-put-rest-start
+part-put-rest-start c = let h = c .before .before .before .before .before .pre in omega (arith, h .2, whole-length _ _ _ _ (direct _ _) (h .0) (h .1) (h .2) (h .3) refl (c .before .before .put-direct .ensures))
+
+part-put-rest-end : tie.Need-part-put-rest-end
+part-put-rest-end c = let h = c .before .before .before .before .before .pre in omega (arith, h .2, whole-length _ _ _ _ (direct _ _) (h .0) (h .1) (h .2) (h .3) refl (c .before .before .put-direct .ensures))
+
+sub-put-rest-2 : tie.Need-sub-put-rest-2
+sub-put-rest-2 c = search needs
+
+put-rest-requires : tie.Need-put-rest-requires
+put-rest-requires c κs = let h = c .before .before .before .before .before .before .pre in (rest-zero _ _ _ _ (direct _ _) (h .0) (h .1) (h .2) (h .3) refl (c .before .before .before .put-direct .ensures), omega (arith, h .3))
+
+same-length : tie.Need-same-length
+same-length c = search needs
+
+returns : tie.Need-returns
+returns c = let h = c .before .before .before .before .before .before .before .before .before .pre in cut-made _ _ _ _ (direct _ _) (h .0) (h .1) (h .2) (h .3) refl (c .before .before .before .before .before .before .put-direct .ensures) _ (c .before .before .put-rest .ensures)
+
+pub cut-direct-spec : {M : Type 1} → statement M
+cut-direct-spec =
+    tie.close
+    (tie.spec
+    mul-m
+    slice-relend-prefix-put-direct
+    slice-aggregate-put-direct
+    put-direct-requires
+    mul-put-rest
+    sub-put-rest
+    part-put-rest-start
+    part-put-rest-end
+    sub-put-rest-2
+    put-rest-requires
+    same-length
+    returns)

@@ -1,0 +1,64 @@
+-- `cut_zone` meets its contract. Assumes nothing.
+use Rattle.model.specs.Zone.{newZone}
+use Rattle.pages.proofs.Cuts.{zone-made, whole-length, rest-zero, cut-made, low-blank}
+use Rattle.pages.proofs.Laws.{length-segment}
+use Rattle.model.specs.Arena.{run, zone}
+use lib.ListN.{length}
+use mathlib.Core.Path.{sym, ap, refl}
+use native.Mathlib.Omega.{arith}
+use borrow.Author.Needs.{needs}
+use Rattle.pages.proofs.cut_zone.Statement.{statement}
+use Rattle.pages.proofs.cut_zone.Tie as tie
+
+mul-m : tie.Need-mul-m
+mul-m c = search needs
+
+slice-relend-prefix-set-up : tie.Need-slice-relend-prefix-set-up
+slice-relend-prefix-set-up c = let h = c .before .pre in omega (arith, ap length (h .0), length-segment (run (c .before .args .len)) (omega (arith, h .1)), h .1, h .2)
+
+slice-aggregate-set-up : tie.Need-slice-aggregate-set-up
+slice-aggregate-set-up c = let h = c .before .before .pre in sym ((low-blank _ _ 8 (h .0) (omega arith) (h .1) (h .2)) .long)
+
+set-up-requires : tie.Need-set-up-requires
+set-up-requires c κs = let h = c .before .before .pre in ((low-blank _ _ 8 (h .0) (omega arith) (h .1) (h .2)) .long, h .3)
+
+mul-put-rest : tie.Need-mul-put-rest
+mul-put-rest c = search needs
+
+sub-put-rest : tie.Need-sub-put-rest
+sub-put-rest c = let h = c .before .before .before .before .before .pre in omega (arith, h .1, whole-length _ _ _ 8 (zone (newZone (c .before .before .before .before .before .args .class) (c .before .before .before .before .before .args .group))) (h .0) (omega arith) (h .1) (h .2) refl (zone-made (newZone (c .before .before .before .before .before .args .class) (c .before .before .before .before .before .args .group)) (c .before .before .set-up .ensures)))
+
+part-put-rest-start : tie.Need-part-put-rest-start
+part-put-rest-start c = let h = c .before .before .before .before .before .pre in omega (arith, h .1, whole-length _ _ _ 8 (zone (newZone (c .before .before .before .before .before .args .class) (c .before .before .before .before .before .args .group))) (h .0) (omega arith) (h .1) (h .2) refl (zone-made (newZone (c .before .before .before .before .before .args .class) (c .before .before .before .before .before .args .group)) (c .before .before .set-up .ensures)))
+
+part-put-rest-end : tie.Need-part-put-rest-end
+part-put-rest-end c = let h = c .before .before .before .before .before .pre in omega (arith, h .1, whole-length _ _ _ 8 (zone (newZone (c .before .before .before .before .before .args .class) (c .before .before .before .before .before .args .group))) (h .0) (omega arith) (h .1) (h .2) refl (zone-made (newZone (c .before .before .before .before .before .args .class) (c .before .before .before .before .before .args .group)) (c .before .before .set-up .ensures)))
+
+sub-put-rest-2 : tie.Need-sub-put-rest-2
+sub-put-rest-2 c = search needs
+
+put-rest-requires : tie.Need-put-rest-requires
+put-rest-requires c κs = let h = c .before .before .before .before .before .before .pre in (rest-zero _ _ _ 8 (zone (newZone (c .before .before .before .before .before .before .args .class) (c .before .before .before .before .before .before .args .group))) (h .0) (omega arith) (h .1) (h .2) refl (zone-made (newZone (c .before .before .before .before .before .before .args .class) (c .before .before .before .before .before .before .args .group)) (c .before .before .before .set-up .ensures)), omega (arith, h .2))
+
+same-length : tie.Need-same-length
+same-length c = search needs
+
+returns : tie.Need-returns
+returns c = let h = c .before .before .before .before .before .before .before .before .before .pre in cut-made _ _ _ 8 (zone (newZone (c .before .before .before .before .before .before .before .before .before .args .class) (c .before .before .before .before .before .before .before .before .before .args .group))) (h .0) (omega arith) (h .1) (h .2) refl (zone-made (newZone (c .before .before .before .before .before .before .before .before .before .args .class) (c .before .before .before .before .before .before .before .before .before .args .group)) (c .before .before .before .before .before .before .set-up .ensures)) _ (c .before .before .put-rest .ensures)
+
+pub cut-zone-spec : {M : Type 1} → statement M
+cut-zone-spec =
+    tie.close
+    (tie.spec
+    mul-m
+    slice-relend-prefix-set-up
+    slice-aggregate-set-up
+    set-up-requires
+    mul-put-rest
+    sub-put-rest
+    part-put-rest-start
+    part-put-rest-end
+    sub-put-rest-2
+    put-rest-requires
+    same-length
+    returns)

@@ -1,0 +1,62 @@
+-- Places among the segments, as the code names them: by page, and with the free run that ends there. Assumes nothing.
+use Prim.Native.Nat.{ℕ, _+_, _*_, _<_, _≤_}
+use mathlib.Core.Path.{_≡_}
+use mathlib.Core.List.{List, [], _∷_, _++_}
+use mathlib.Core.Option.{Option, none, some}
+use mathlib.Core.Bool.{Bool, true, false, cond}
+use lib.Dec.{ltb}
+use lib.ListN.{length}
+use Rattle.lemmas.specs.Zeros.{Zero}
+use Rattle.model.specs.Arena.{Segment, run, direct, zone, pages, total}
+use Rattle.model.specs.Zone.{Zone}
+use Rattle.model.specs.Pages.{FreeRun}
+use Rattle.model.specs.Perform.{pageWords}
+use Rattle.pages.specs.declared.Found.{Found}
+use Rattle.pages.specs.declared.Found.the-variants.{Run, Nothing}
+use Rattle.pages.specs.declared.Spot.{Spot}
+use Rattle.pages.specs.declared.Spot.the-variants.{Segment as At, Nowhere}
+use Rattle.pages.specs.Encoding.{kindOf}
+
+-- What the search for pages found.
+abbrev pub found : Option FreeRun → Found
+found none = Nothing
+found (some h) = Run (h .page) (h .size)
+
+-- The pages of a segment that is a run, else 0.
+abbrev pub runPages : Segment Zone → ℕ
+runPages (run n) = n
+runPages (direct n g) = 0
+runPages (zone z) = 0
+
+-- The pages of the run that ends a list of segments, else 0. (b: for no segments.)
+abbrev pub runAtEnd : ℕ → List (Segment Zone) → ℕ
+runAtEnd b [] = b
+runAtEnd b (x ∷ r) = runAtEnd (runPages x) r
+
+-- The pages of the run that begins a list of segments, else 0.
+abbrev pub runAtStart : List (Segment Zone) → ℕ
+runAtStart [] = 0
+runAtStart (x ∷ r) = runPages x
+
+-- The segment x begins at the page p, and a run of b pages (0: none) ends there.
+pub record Stands (m : List (Segment Zone)) (p b : ℕ) (x : Segment Zone) : Type 0 where
+  pub before : List (Segment Zone)
+  pub behind : List (Segment Zone)
+  pub whole : m ≡ before ++ (x ∷ behind)
+  pub starts : total before ≡ p
+  pub ends : runAtEnd 0 before ≡ b
+
+-- The segment that holds the page q: its first page, its kind, its pages, and the pages of the run that ends where it begins. The
+-- list begins at page p, behind a run of b pages.
+unfoldable pub spotFrom : ℕ → ℕ → ℕ → List (Segment Zone) → Spot
+spotFrom q b p [] = Nowhere
+spotFrom q b p (x ∷ r) =
+    let rest = spotFrom q (runPages x) (p + pages x) r in
+    cond (ltb q (p + pages x)) (At p (kindOf x) (pages x) b) rest
+
+-- Words of n pages that are zero from word k on.
+pub record Blank (w : List ℕ) (k n : ℕ) : Type 0 where
+  pub long : length w ≡ pageWords * n
+  pub some : 0 < n
+  pub most : n ≤ 256
+  pub zero : Zero w k (pageWords * n)
