@@ -1,6 +1,5 @@
 -- What the keys in a range are, counted: a class's list, one zone, the classes below one. Assumes nothing.
--- Two tests that agree count the same.
-use Prim.Native.Nat.{ℕ, _+_, _*_, _<_}
+use Prim.Native.Nat.{ℕ, _+_, _<_}
 use mathlib.Core.Path.{_≡_, refl, sym, ap, _∙_}
 use mathlib.Core.Bool.{Bool, false, cond, _&&_}
 use mathlib.Core.List.{List, [], _∷_, _++_, map}
@@ -15,10 +14,11 @@ use Rattle.lemmas.proofs.Cases.{by-eqb, by-ltb, by-leb, and-both}
 use Rattle.lemmas.proofs.Every.{every-of-members, count-all}
 use Rattle.lemmas.proofs.Keep.{length-keep}
 use Rattle.lemmas.proofs.Times.{times-append, times-absent}
-use Rattle.header.specs.Keys.{key, classIn, pageIn, keysOf, ofClass, belowClass, listIn, placeOf}
+use Rattle.header.specs.Keys.{key, classIn, pageIn, keysOf, ofClass, belowClass, listIn, placeOf, mostPages}
 use Rattle.header.proofs.Keys.{Below, Pages, class-list, keysBefore, keysBehind, keys-parts, before-below, behind-above}
 use Rattle.header.proofs.Entries.{between}
 
+-- Two tests that agree count the same.
 count-same : (p q : ℕ → Bool) (l : List ℕ) → ((x : ℕ) → p x ≡ q x) → count p l ≡ count q l
 unfolding count
 count-same p q [] h = refl
@@ -43,30 +43,30 @@ pub count-one : (v : ℕ) (l : List ℕ) → count (between v (v + 1)) l ≡ tim
 unfolding times
 count-one v l = count-same (between v (v + 1)) (λ x. eqb v x) l (between-one v)
 
-between-class : (c q : ℕ) → between (256 * c) (256 * c + 256) q ≡ ofClass c q
+between-class : (c q : ℕ) → between (key c 0) (key c mostPages) q ≡ ofClass c q
 between-class c q =
-    by-eqb (λ t. between (256 * c) (256 * c + 256) q ≡ t) (classIn q) c
-    (λ e. and-both (leb (256 * c) q) (ltb q (256 * c + 256)) (le-leb (256 * c) q (omega arith)) (lt-ltb q (256 * c + 256) (omega arith)))
+    by-eqb (λ t. between (key c 0) (key c mostPages) q ≡ t) (classIn q) c
+    (λ e. and-both (leb (key c 0) q) (ltb q (key c mostPages)) (le-leb (key c 0) q (omega arith)) (lt-ltb q (key c mostPages) (omega arith)))
     (λ n.
-    by-leb (λ t. (t && ltb q (256 * c + 256)) ≡ false) (256 * c) q
-    (λ l. le-ltb q (256 * c + 256) (omega arith)) (λ l. refl))
+    by-leb (λ t. (t && ltb q (key c mostPages)) ≡ false) (key c 0) q
+    (λ l. le-ltb q (key c mostPages) (omega arith)) (λ l. refl))
 
-between-below : (c q : ℕ) → between 0 (256 * c) q ≡ belowClass c q
+between-below : (c q : ℕ) → between 0 (key c 0) q ≡ belowClass c q
 between-below c q =
     rw (le-leb 0 q (omega arith))
-    (by-ltb (λ t. t ≡ belowClass c q) q (256 * c) (λ l. sym (lt-ltb (classIn q) c (omega arith))) (λ l. sym (le-ltb (classIn q) c (omega arith))))
+    (by-ltb (λ t. t ≡ belowClass c q) q (key c 0) (λ l. sym (lt-ltb (classIn q) c (omega arith))) (λ l. sym (le-ltb (classIn q) c (omega arith))))
 
 -- ---- the keys of the class lists
 
 -- Where the keys of class c begin.
-pub count-place : (c : ℕ) (ls : List (List ℕ)) → count (between 0 (256 * c)) (keysOf ls) ≡ placeOf c (keysOf ls)
-count-place c ls = count-same (between 0 (256 * c)) (belowClass c) (keysOf ls) (between-below c)
+pub count-place : (c : ℕ) (ls : List (List ℕ)) → count (between 0 (key c 0)) (keysOf ls) ≡ placeOf c (keysOf ls)
+count-place c ls = count-same (between 0 (key c 0)) (belowClass c) (keysOf ls) (between-below c)
 
 module _ (c : ℕ) (ls : List (List ℕ)) (there : c < length ls) (pages : Pages ls) where
-  pub count-class : count (between (256 * c) (256 * c + 256)) (keysOf ls) ≡ length (getD ls c [])
+  pub count-class : count (between (key c 0) (key c mostPages)) (keysOf ls) ≡ length (getD ls c [])
   unfolding listIn
   count-class =
-      count-same (between (256 * c) (256 * c + 256)) (ofClass c) (keysOf ls) (between-class c)
+      count-same (between (key c 0) (key c mostPages)) (ofClass c) (keysOf ls) (between-class c)
       ∙ sym (length-keep (ofClass c) (keysOf ls))
       ∙ sym (length-map (keep (ofClass c) (keysOf ls)) pageIn)
       ∙ ap length (class-list c ls pages there)
@@ -81,7 +81,7 @@ module _ (c : ℕ) (ls : List (List ℕ)) (there : c < length ls) (pages : Pages
       same-key x = by-eqb (λ t. eqb (key c p) (key c x) ≡ t) p x (λ e. eq-eqb (key c p) (key c x) (omega arith)) (λ n. ne-eqb (key c p) (key c x) (λ e. n (omega arith)))
 
   -- How often a zone stands on its class's list.
-  pub times-class : (p : ℕ) → p < 256 → times (key c p) (keysOf ls) ≡ times p (getD ls c [])
+  pub times-class : (p : ℕ) → p < mostPages → times (key c p) (keysOf ls) ≡ times p (getD ls c [])
   times-class p h =
       let l : List ℕ = map (key c) (getD ls c []) in
       ap (times (key c p)) (keys-parts c ls there)

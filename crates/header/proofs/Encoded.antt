@@ -1,5 +1,4 @@
 -- The header's words, part by part, and that they are read back. Assumes nothing.
--- ---- lists in four pieces
 use Prim.Native.Nat.{ℕ, _+_}
 use mathlib.Core.Path.{_≡_, refl, sym, ap, _∙_}
 use mathlib.Core.List.{List, [], _∷_, _++_, append-assoc, append-nil}
@@ -11,9 +10,11 @@ use Rattle.lemmas.proofs.Parts.{mid-at, put-at}
 use Rattle.lemmas.proofs.Zeros.{length-zeros}
 use Rattle.header.specs.Keys.{keysOf, listsOf}
 use Rattle.header.specs.Slots.{slots, entriesIn}
-use Rattle.header.specs.Encoding.{magic, headerEncoding, Fits, pagesIn, spareIn, listsIn}
+use Rattle.header.specs.Encoding.{magic, headerEncoding, Fits, pagesIn, spareIn, listsIn, headerWords, spareSlots, listSlots, restWords, atSpare, atLists, atRest}
 use Rattle.header.proofs.Keys.{lists-keys}
 use Rattle.header.proofs.Entries.{length-slots, entries-slots}
+
+-- ---- lists in four pieces
 
 module _ (a b c d : List ℕ) (i k : ℕ) where
   third-part : length a + length b ≡ i → length c ≡ k → mid i k (a ++ (b ++ (c ++ d))) ≡ c
@@ -29,37 +30,37 @@ module _ (a b c d : List ℕ) (i k : ℕ) where
 -- ---- the parts of the header
 
 module _ (n : ℕ) (spare : List ℕ) (lists : List (List ℕ)) where
-  pub length-header : length (headerEncoding n spare lists) ≡ 1024
+  pub length-header : length (headerEncoding n spare lists) ≡ headerWords
   unfolding headerEncoding
   length-header =
-      omega (arith, length-append (slots 2 spare) (slots 32 (keysOf lists) ++ zeros 988), length-append (slots 32 (keysOf lists)) (zeros 988), length-slots 2 spare, length-slots 32 (keysOf lists), length-zeros 988)
+      omega (arith, length-append (slots spareSlots spare) (slots listSlots (keysOf lists) ++ zeros restWords), length-append (slots listSlots (keysOf lists)) (zeros restWords), length-slots spareSlots spare, length-slots listSlots (keysOf lists), length-zeros restWords)
 
-  pub spare-part : mid 2 2 (headerEncoding n spare lists) ≡ slots 2 spare
+  pub spare-part : mid atSpare spareSlots (headerEncoding n spare lists) ≡ slots spareSlots spare
   unfolding headerEncoding
-  spare-part = mid-at (magic ∷ n ∷ []) (slots 2 spare) (slots 32 (keysOf lists) ++ zeros 988) 2 2 refl (length-slots 2 spare)
+  spare-part = mid-at (magic ∷ n ∷ []) (slots spareSlots spare) (slots listSlots (keysOf lists) ++ zeros restWords) atSpare spareSlots refl (length-slots spareSlots spare)
 
-  pub put-spare : (v : List ℕ) → putMid 2 2 (headerEncoding n spare lists) v ≡ (magic ∷ n ∷ []) ++ (v ++ (slots 32 (keysOf lists) ++ zeros 988))
+  pub put-spare : (v : List ℕ) → putMid atSpare spareSlots (headerEncoding n spare lists) v ≡ (magic ∷ n ∷ []) ++ (v ++ (slots listSlots (keysOf lists) ++ zeros restWords))
   unfolding headerEncoding
-  put-spare v = put-at (magic ∷ n ∷ []) (slots 2 spare) (slots 32 (keysOf lists) ++ zeros 988) v 2 2 refl (length-slots 2 spare)
+  put-spare v = put-at (magic ∷ n ∷ []) (slots spareSlots spare) (slots listSlots (keysOf lists) ++ zeros restWords) v atSpare spareSlots refl (length-slots spareSlots spare)
 
-  pub lists-part : mid 4 32 (headerEncoding n spare lists) ≡ slots 32 (keysOf lists)
+  pub lists-part : mid atLists listSlots (headerEncoding n spare lists) ≡ slots listSlots (keysOf lists)
   unfolding headerEncoding
   lists-part =
-      third-part (magic ∷ n ∷ []) (slots 2 spare) (slots 32 (keysOf lists)) (zeros 988) 4 32 (omega (arith, length-slots 2 spare)) (length-slots 32 (keysOf lists))
+      third-part (magic ∷ n ∷ []) (slots spareSlots spare) (slots listSlots (keysOf lists)) (zeros restWords) atLists listSlots (omega (arith, length-slots spareSlots spare)) (length-slots listSlots (keysOf lists))
 
-  pub put-lists : (v : List ℕ) → putMid 4 32 (headerEncoding n spare lists) v ≡ (magic ∷ n ∷ []) ++ (slots 2 spare ++ (v ++ zeros 988))
+  pub put-lists : (v : List ℕ) → putMid atLists listSlots (headerEncoding n spare lists) v ≡ (magic ∷ n ∷ []) ++ (slots spareSlots spare ++ (v ++ zeros restWords))
   unfolding headerEncoding
   put-lists v =
-      put-third (magic ∷ n ∷ []) (slots 2 spare) (slots 32 (keysOf lists)) (zeros 988) 4 32 v (omega (arith, length-slots 2 spare)) (length-slots 32 (keysOf lists))
+      put-third (magic ∷ n ∷ []) (slots spareSlots spare) (slots listSlots (keysOf lists)) (zeros restWords) atLists listSlots v (omega (arith, length-slots spareSlots spare)) (length-slots listSlots (keysOf lists))
 
-  pub rest-part : mid 36 988 (headerEncoding n spare lists) ≡ zeros 988
+  pub rest-part : mid atRest restWords (headerEncoding n spare lists) ≡ zeros restWords
   unfolding headerEncoding
   rest-part =
-      ap (mid 36 988)
-      (ap (λ (l : List ℕ). (magic ∷ n ∷ []) ++ (slots 2 spare ++ l)) (ap (λ (l : List ℕ). slots 32 (keysOf lists) ++ l) (sym (append-nil (zeros 988))))
-      ∙ ap (λ (l : List ℕ). (magic ∷ n ∷ []) ++ l) (sym (append-assoc (slots 2 spare) (slots 32 (keysOf lists)) (zeros 988 ++ []))))
-      ∙ third-part (magic ∷ n ∷ []) (slots 2 spare ++ slots 32 (keysOf lists)) (zeros 988) [] 36 988
-      (omega (arith, length-append (slots 2 spare) (slots 32 (keysOf lists)), length-slots 2 spare, length-slots 32 (keysOf lists))) (length-zeros 988)
+      ap (mid atRest restWords)
+      (ap (λ (l : List ℕ). (magic ∷ n ∷ []) ++ (slots spareSlots spare ++ l)) (ap (λ (l : List ℕ). slots listSlots (keysOf lists) ++ l) (sym (append-nil (zeros restWords))))
+      ∙ ap (λ (l : List ℕ). (magic ∷ n ∷ []) ++ l) (sym (append-assoc (slots spareSlots spare) (slots listSlots (keysOf lists)) (zeros restWords ++ []))))
+      ∙ third-part (magic ∷ n ∷ []) (slots spareSlots spare ++ slots listSlots (keysOf lists)) (zeros restWords) [] atRest restWords
+      (omega (arith, length-append (slots spareSlots spare) (slots listSlots (keysOf lists)), length-slots spareSlots spare, length-slots listSlots (keysOf lists))) (length-zeros restWords)
 
   -- ---- reading back
 
@@ -74,9 +75,9 @@ module _ (n : ℕ) (spare : List ℕ) (lists : List (List ℕ)) where
   module _ (fits : Fits n spare lists) where
     pub spare-encoded : spareIn (headerEncoding n spare lists) ≡ spare
     unfolding spareIn
-    spare-encoded = ap entriesIn spare-part ∙ entries-slots 2 spare (fits .few)
+    spare-encoded = ap entriesIn spare-part ∙ entries-slots spareSlots spare (fits .few)
 
     pub lists-encoded : listsIn (headerEncoding n spare lists) ≡ lists
     unfolding listsIn
     lists-encoded =
-        ap listsOf (ap entriesIn lists-part ∙ entries-slots 32 (keysOf lists) (fits .room)) ∙ lists-keys lists (fits .classes) (fits .list-pages)
+        ap listsOf (ap entriesIn lists-part ∙ entries-slots listSlots (keysOf lists) (fits .room)) ∙ lists-keys lists (fits .classes) (fits .list-pages)

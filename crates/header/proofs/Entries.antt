@@ -1,5 +1,4 @@
 -- Laws of a list in slots: read back, tested, counted, with a number more and a number less. Assumes nothing.
--- ---- reading back
 use Prim.Native.Nat.{ℕ, zero, suc, _+_, _≤_, _<_}
 use mathlib.Core.Path.{_≡_, refl, sym, ap, _∙_}
 use mathlib.Core.Bool.{Bool, true, cond, _&&_}
@@ -20,6 +19,8 @@ use Rattle.lemmas.proofs.Distinct.{remove-here, remove-there, length-remove}
 use Rattle.header.specs.Keys.{classIn, putAt}
 use Rattle.header.specs.Slots.{slots, entriesIn, legalSlots, holds, pushed, shiftedIn, closedUp}
 use Rattle.header.proofs.Keys.{Below, below-cons, Rising}
+
+-- ---- reading back
 
 pub length-slots : (m : ℕ) (l : List ℕ) → length (slots m l) ≡ m
 unfolding slots

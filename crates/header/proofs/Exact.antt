@@ -1,6 +1,5 @@
 -- The test of a header is exact: it accepts the encodings, and what it accepts is the encoding of what is read from it.
 -- Assumes nothing.
--- ---- an encoding passes
 use Prim.Native.Nat.{ℕ, _≤_}
 use mathlib.Core.Path.{_≡_, refl, sym, ap, _∙_}
 use mathlib.Core.Logic.{_↔_}
@@ -14,13 +13,15 @@ use Rattle.lemmas.specs.Parts.{mid}
 use Rattle.lemmas.specs.Zeros.{zeros}
 use Rattle.lemmas.proofs.Parts.{mid-split, length-mid}
 use Rattle.lemmas.proofs.Zeros.{every-zeros, zeros-every}
-use Rattle.header.specs.Keys.{keysOf, listsOf}
+use Rattle.header.specs.Keys.{keysOf, listsOf, mostPages, keyLimit}
 use Rattle.header.specs.Slots.{slots, entriesIn}
-use Rattle.header.specs.Encoding.{magic, headerEncoding, Fits, pagesIn, spareIn, listsIn, Encodes, Header, isHeader}
+use Rattle.header.specs.Encoding.{magic, headerEncoding, Fits, pagesIn, spareIn, listsIn, Encodes, Header, isHeader, spareSlots, listSlots, restWords, atSpare, atLists, atRest}
 use Rattle.header.proofs.Keys.{keys-rising, keys-below, rising-pages, keys-lists, length-lists, lists-pages}
 use Rattle.header.proofs.Entries.{Legal, legal-of, slots-legal}
 use Rattle.header.proofs.Facts.{Facts, facts-of, of-facts}
 use Rattle.header.proofs.Encoded.{length-header, spare-part, lists-part, rest-part, pages-encoded, named-encoded, spare-encoded, lists-encoded}
+
+-- ---- an encoding passes
 
 pub encoding-facts : (n : ℕ) (spare : List ℕ) (lists : List (List ℕ)) → Fits n spare lists → Facts (headerEncoding n spare lists)
 encoding-facts n spare lists h =
@@ -29,48 +30,48 @@ encoding-facts n spare lists h =
       named = named-encoded n spare lists;
       least = rw pages-encoded (h .least);
       most = rw pages-encoded (h .most);
-      spare = rw spare-part (slots-legal 256 0 2 spare (h .few) (rising-pages spare (h .spare-pages)) (h .spare-pages));
-      lists = rw lists-part (slots-legal 16384 0 32 (keysOf lists) (h .room) (keys-rising lists (h .list-pages)) (keys-below lists (h .classes) (h .list-pages)));
-      rest = rw rest-part (every-zeros 988);
+      spare = rw spare-part (slots-legal mostPages 0 spareSlots spare (h .few) (rising-pages spare (h .spare-pages)) (h .spare-pages));
+      lists = rw lists-part (slots-legal keyLimit 0 listSlots (keysOf lists) (h .room) (keys-rising lists (h .list-pages)) (keys-below lists (h .classes) (h .list-pages)));
+      rest = rw rest-part (every-zeros restWords);
     }
 
 -- ---- what passes is an encoding
 
-header-split : (w : List ℕ) → w ≡ take 2 w ++ (mid 2 2 w ++ (mid 4 32 w ++ drop 36 w))
+header-split : (w : List ℕ) → w ≡ take atSpare w ++ (mid atSpare spareSlots w ++ (mid atLists listSlots w ++ drop atRest w))
 header-split w =
-    mid-split 2 2 w
-    ∙ ap (λ (l : List ℕ). take 2 w ++ (mid 2 2 w ++ l)) (sym (take-append-drop 32 (drop 4 w)) ∙ ap (λ (l : List ℕ). mid 4 32 w ++ l) (drop-drop 32 4 w))
+    mid-split atSpare spareSlots w
+    ∙ ap (λ (l : List ℕ). take atSpare w ++ (mid atSpare spareSlots w ++ l)) (sym (take-append-drop listSlots (drop atLists w)) ∙ ap (λ (l : List ℕ). mid atLists listSlots w ++ l) (drop-drop listSlots atLists w))
 
-front-two : (w : List ℕ) → 2 ≤ length w → take 2 w ≡ getD w 0 0 ∷ getD w 1 0 ∷ []
+front-two : (w : List ℕ) → 2 ≤ length w → take atSpare w ≡ getD w 0 0 ∷ getD w 1 0 ∷ []
 front-two [] h = absurd (not-suc-le-zero h)
 front-two (x ∷ []) h = absurd (omega arith)
 front-two (x ∷ y ∷ w) h = refl
 
 module _ (w : List ℕ) (h : Facts w) where
-  spare-legal : Legal 256 0 (mid 2 2 w)
-  spare-legal = legal-of 256 0 (mid 2 2 w) (h .spare)
+  spare-legal : Legal mostPages 0 (mid atSpare spareSlots w)
+  spare-legal = legal-of mostPages 0 (mid atSpare spareSlots w) (h .spare)
 
-  lists-legal : Legal 16384 0 (mid 4 32 w)
-  lists-legal = legal-of 16384 0 (mid 4 32 w) (h .lists)
+  lists-legal : Legal keyLimit 0 (mid atLists listSlots w)
+  lists-legal = legal-of keyLimit 0 (mid atLists listSlots w) (h .lists)
 
-  spare-size : length (mid 2 2 w) ≡ 2
-  spare-size = length-mid 2 2 w (let a = h .size in omega arith)
+  spare-size : length (mid atSpare spareSlots w) ≡ 2
+  spare-size = length-mid atSpare spareSlots w (let a = h .size in omega arith)
 
-  lists-size : length (mid 4 32 w) ≡ 32
-  lists-size = length-mid 4 32 w (let a = h .size in omega arith)
+  lists-size : length (mid atLists listSlots w) ≡ listSlots
+  lists-size = length-mid atLists listSlots w (let a = h .size in omega arith)
 
   -- The keys in the slots are those of the lists that are read.
-  keys-again : keysOf (listsOf (entriesIn (mid 4 32 w))) ≡ entriesIn (mid 4 32 w)
-  keys-again = keys-lists (entriesIn (mid 4 32 w)) (lists-legal .rising) (lists-legal .below)
+  keys-again : keysOf (listsOf (entriesIn (mid atLists listSlots w))) ≡ entriesIn (mid atLists listSlots w)
+  keys-again = keys-lists (entriesIn (mid atLists listSlots w)) (lists-legal .rising) (lists-legal .below)
 
-  head-again : take 2 w ≡ magic ∷ pagesIn w ∷ []
+  head-again : take atSpare w ≡ magic ∷ pagesIn w ∷ []
   head-again = front-two w (let a = h .size in omega arith) ∙ ap (λ (m : ℕ). m ∷ pagesIn w ∷ []) (h .named)
 
-  rest-again : drop 36 w ≡ zeros 988
+  rest-again : drop atRest w ≡ zeros restWords
   rest-again =
-      sym (take-all 988 (drop 36 w) (let a = h .size in simp length-drop (omega arith)))
-      ∙ zeros-every (mid 36 988 w) (h .rest)
-      ∙ ap zeros (length-mid 36 988 w (let a = h .size in omega arith))
+      sym (take-all restWords (drop atRest w) (let a = h .size in simp length-drop (omega arith)))
+      ∙ zeros-every (mid atRest restWords w) (h .rest)
+      ∙ ap zeros (length-mid atRest restWords w (let a = h .size in omega arith))
 
   header-fits : Fits (pagesIn w) (spareIn w) (listsIn w)
   unfolding spareIn listsIn
@@ -79,23 +80,23 @@ module _ (w : List ℕ) (h : Facts w) where
         least = h .least;
         most = h .most;
         few = let a = spare-size in let b = spare-legal .short in omega arith;
-        classes = length-lists (entriesIn (mid 4 32 w));
+        classes = length-lists (entriesIn (mid atLists listSlots w));
         room = let a = lists-size in let b = lists-legal .short in rw keys-again (omega arith);
         spare-pages = spare-legal .below;
-        list-pages = lists-pages (entriesIn (mid 4 32 w));
+        list-pages = lists-pages (entriesIn (mid atLists listSlots w));
       }
 
   header-words : w ≡ headerEncoding (pagesIn w) (spareIn w) (listsIn w)
   unfolding headerEncoding spareIn listsIn
   header-words =
-      let spare : mid 2 2 w ≡ slots 2 (entriesIn (mid 2 2 w)) = spare-legal .again ∙ ap (λ (m : ℕ). slots m (entriesIn (mid 2 2 w))) spare-size in
-      let lists : mid 4 32 w ≡ slots 32 (keysOf (listsOf (entriesIn (mid 4 32 w)))) =
-      lists-legal .again ∙ ap (λ (m : ℕ). slots m (entriesIn (mid 4 32 w))) lists-size ∙ ap (slots 32) (sym keys-again) in
+      let spare : mid atSpare spareSlots w ≡ slots spareSlots (entriesIn (mid atSpare spareSlots w)) = spare-legal .again ∙ ap (λ (m : ℕ). slots m (entriesIn (mid atSpare spareSlots w))) spare-size in
+      let lists : mid atLists listSlots w ≡ slots listSlots (keysOf (listsOf (entriesIn (mid atLists listSlots w)))) =
+      lists-legal .again ∙ ap (λ (m : ℕ). slots m (entriesIn (mid atLists listSlots w))) lists-size ∙ ap (slots listSlots) (sym keys-again) in
       header-split w
-      ∙ ap (λ (l : List ℕ). l ++ (mid 2 2 w ++ (mid 4 32 w ++ drop 36 w))) head-again
-      ∙ ap (λ (l : List ℕ). (magic ∷ pagesIn w ∷ []) ++ (l ++ (mid 4 32 w ++ drop 36 w))) spare
-      ∙ ap (λ (l : List ℕ). (magic ∷ pagesIn w ∷ []) ++ (slots 2 (entriesIn (mid 2 2 w)) ++ (l ++ drop 36 w))) lists
-      ∙ ap (λ (l : List ℕ). (magic ∷ pagesIn w ∷ []) ++ (slots 2 (entriesIn (mid 2 2 w)) ++ (slots 32 (keysOf (listsOf (entriesIn (mid 4 32 w)))) ++ l))) rest-again
+      ∙ ap (λ (l : List ℕ). l ++ (mid atSpare spareSlots w ++ (mid atLists listSlots w ++ drop atRest w))) head-again
+      ∙ ap (λ (l : List ℕ). (magic ∷ pagesIn w ∷ []) ++ (l ++ (mid atLists listSlots w ++ drop atRest w))) spare
+      ∙ ap (λ (l : List ℕ). (magic ∷ pagesIn w ∷ []) ++ (slots spareSlots (entriesIn (mid atSpare spareSlots w)) ++ (l ++ drop atRest w))) lists
+      ∙ ap (λ (l : List ℕ). (magic ∷ pagesIn w ∷ []) ++ (slots spareSlots (entriesIn (mid atSpare spareSlots w)) ++ (slots listSlots (keysOf (listsOf (entriesIn (mid atLists listSlots w)))) ++ l))) rest-again
 
   pub facts-header : Header w
   facts-header = record { words = header-words; fits = header-fits }
@@ -129,3 +130,9 @@ module _ {w : List ℕ} {n : ℕ} {spare : List ℕ} {lists : List (List ℕ)} (
 
   pub encodes-header : Header w
   encodes-header = check-header w encodes-check
+
+-- A second step works on what the first one left: what is made of the words read is made of what they encode.
+pub encodes-read {ℓ} : {A : Type ℓ} (f : ℕ → List ℕ → List (List ℕ) → A) {w : List ℕ} {n : ℕ} {spare : List ℕ} {lists : List (List ℕ)} → Encodes w n spare lists
+    → f (pagesIn w) (spareIn w) (listsIn w) ≡ f n spare lists
+encodes-read f {w} {n} {spare} {lists} h =
+    ap (λ (m : ℕ). f m (spareIn w) (listsIn w)) (pages-read h) ∙ ap (λ (l : List ℕ). f n l (listsIn w)) (spare-read h) ∙ ap (f n spare) (lists-read h)

@@ -13,48 +13,49 @@ use Rattle.lemmas.specs.Zeros.{zeros, isZero}
 use Rattle.lemmas.proofs.Cases.{and-left, and-right, refuted}
 use Rattle.lemmas.proofs.Zeros.{getD-zeros}
 use Rattle.header.specs.Slots.{legalSlots}
-use Rattle.header.specs.Encoding.{magic, isHeader}
+use Rattle.header.specs.Encoding.{magic, isHeader, headerWords, spareSlots, listSlots, restWords, atSpare, atLists, atRest}
+use Rattle.header.specs.Keys.{mostPages, keyLimit}
 
 pub record Facts (w : List ℕ) : Type 0 where
-  pub size : length w ≡ 1024
+  pub size : length w ≡ headerWords
   pub named : getD w 0 0 ≡ magic
   pub least : 1 ≤ getD w 1 0
-  pub most : getD w 1 0 ≤ 256
-  pub spare : legalSlots 256 0 (mid 2 2 w) ≡ true
-  pub lists : legalSlots 16384 0 (mid 4 32 w) ≡ true
-  pub rest : every isZero (mid 36 988 w) ≡ true
+  pub most : getD w 1 0 ≤ mostPages
+  pub spare : legalSlots mostPages 0 (mid atSpare spareSlots w) ≡ true
+  pub lists : legalSlots keyLimit 0 (mid atLists listSlots w) ≡ true
+  pub rest : every isZero (mid atRest restWords w) ≡ true
 
 pub facts-of : (w : List ℕ) → isHeader w ≡ true → Facts w
 unfolding isHeader
 facts-of w e =
-    let size = eqb (length w) 1024 in
+    let size = eqb (length w) headerWords in
     let named = eqb (getD w 0 0) magic in
     let least = leb 1 (getD w 1 0) in
-    let most = leb (getD w 1 0) 256 in
-    let spare = legalSlots 256 0 (mid 2 2 w) in
-    let lists = legalSlots 16384 0 (mid 4 32 w) in
-    let rest = every isZero (mid 36 988 w) in
+    let most = leb (getD w 1 0) mostPages in
+    let spare = legalSlots mostPages 0 (mid atSpare spareSlots w) in
+    let lists = legalSlots keyLimit 0 (mid atLists listSlots w) in
+    let rest = every isZero (mid atRest restWords w) in
     let to-lists = and-left (size && named && least && most && spare && lists) rest e in
     let to-spare = and-left (size && named && least && most && spare) lists to-lists in
     let to-most = and-left (size && named && least && most) spare to-spare in
     let to-least = and-left (size && named && least) most to-most in
     let to-named = and-left (size && named) least to-least in
     record {
-      size = eqb-true (length w) 1024 (and-left size named to-named);
+      size = eqb-true (length w) headerWords (and-left size named to-named);
       named = eqb-true (getD w 0 0) magic (and-right size named to-named);
       least = leb-true 1 (getD w 1 0) (and-right (size && named) least to-least);
-      most = leb-true (getD w 1 0) 256 (and-right (size && named && least) most to-most);
+      most = leb-true (getD w 1 0) mostPages (and-right (size && named && least) most to-most);
       spare = and-right (size && named && least && most) spare to-spare;
       lists = and-right (size && named && least && most && spare) lists to-lists;
       rest = and-right (size && named && least && most && spare && lists) rest e;
     }
 
 -- The parts before the last one hold: the test is the last one.
-pub header-last : (w : List ℕ) → length w ≡ 1024 → getD w 0 0 ≡ magic → 1 ≤ getD w 1 0 → getD w 1 0 ≤ 256 → legalSlots 256 0 (mid 2 2 w) ≡ true → legalSlots 16384 0 (mid 4 32 w) ≡ true
-    → every isZero (mid 36 988 w) ≡ isHeader w
+pub header-last : (w : List ℕ) → length w ≡ headerWords → getD w 0 0 ≡ magic → 1 ≤ getD w 1 0 → getD w 1 0 ≤ mostPages → legalSlots mostPages 0 (mid atSpare spareSlots w) ≡ true → legalSlots keyLimit 0 (mid atLists listSlots w) ≡ true
+    → every isZero (mid atRest restWords w) ≡ isHeader w
 unfolding isHeader
 header-last w a b c d e f =
-    rw (eq-eqb (length w) 1024 a, eq-eqb (getD w 0 0) magic b, le-leb 1 (getD w 1 0) c, le-leb (getD w 1 0) 256 d, e, f)
+    rw (eq-eqb (length w) headerWords a, eq-eqb (getD w 0 0) magic b, le-leb 1 (getD w 1 0) c, le-leb (getD w 1 0) mostPages d, e, f)
 
 pub of-facts : (w : List ℕ) → Facts w → isHeader w ≡ true
 of-facts w h = sym (header-last w (h .size) (h .named) (h .least) (h .most) (h .spare) (h .lists)) ∙ h .rest

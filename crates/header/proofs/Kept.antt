@@ -1,5 +1,4 @@
 -- What a header can hold, it can still hold after each step; so a step leaves a header (`encodes-header`). Assumes nothing.
--- ---- how many keys there are once a class has another list
 use Prim.Native.Nat.{ℕ, zero, suc, _+_, _≤_, _<_}
 use mathlib.Core.Path.{_≡_, refl, ap, _∙_, subst}
 use mathlib.Core.Bool.{cond}
@@ -10,10 +9,12 @@ use Rattle.lemmas.specs.Times.{remove}
 use Rattle.lemmas.proofs.Cases.{by-eqb}
 use Rattle.lemmas.proofs.Distinct.{remove-in, length-remove}
 use Rattle.lemmas.proofs.Sets.{getD-set}
-use Rattle.header.specs.Keys.{key, keysOf}
-use Rattle.header.specs.Encoding.{Fits}
+use Rattle.header.specs.Keys.{key, keysOf, classes, mostPages}
+use Rattle.header.specs.Encoding.{Fits, spareSlots, listSlots}
 use Rattle.header.proofs.Keys.{Below, below-cons, keysBefore, keysBehind, keys-set, keys-parts}
 use Rattle.header.proofs.Steps.{fresh-keys}
+
+-- ---- how many keys there are once a class has another list
 
 pub length-keys-set : (c : ℕ) (ls : List (List ℕ)) (l : List ℕ) → c < length ls → length (keysOf (set ls c l)) + length (getD ls c []) ≡ length (keysOf ls) + length l
 length-keys-set c ls l h =
@@ -33,7 +34,7 @@ length-keys-set c ls l h =
 module _ {n : ℕ} {spare : List ℕ} {lists : List (List ℕ)} (h : Fits n spare lists) where
   -- ---- the class lists
 
-  pub fits-set : (c : ℕ) (l : List ℕ) → c < 64 → Below 256 l → length (keysOf (set lists c l)) ≤ 32 → Fits n spare (set lists c l)
+  pub fits-set : (c : ℕ) (l : List ℕ) → c < classes → Below mostPages l → length (keysOf (set lists c l)) ≤ listSlots → Fits n spare (set lists c l)
   fits-set c l b g r =
       record {
         least = h .least;
@@ -42,16 +43,16 @@ module _ {n : ℕ} {spare : List ℕ} {lists : List (List ℕ)} (h : Fits n spar
         classes = length-set lists c l ∙ h .classes;
         room = r;
         spare-pages = h .spare-pages;
-        list-pages = λ d p m. by-eqb (λ t. (List·Memᴰ p (cond t l (getD lists d [])) → p < 256)) d c (λ e. g p) (λ e. h .list-pages d p)
+        list-pages = λ d p m. by-eqb (λ t. (List·Memᴰ p (cond t l (getD lists d [])) → p < mostPages)) d c (λ e. g p) (λ e. h .list-pages d p)
             (subst (List·Memᴰ p) (getD-set lists c d l [] (let a = h .classes in omega arith)) m);
       }
 
-  pub fits-push : (c p : ℕ) → c < 64 → p < 256 → length (keysOf lists) < 32 → Fits n spare (set lists c (p ∷ getD lists c []))
+  pub fits-push : (c p : ℕ) → c < classes → p < mostPages → length (keysOf lists) < listSlots → Fits n spare (set lists c (p ∷ getD lists c []))
   fits-push c p b k r =
       fits-set c (p ∷ getD lists c []) b (below-cons (getD lists c []) k (h .list-pages c))
       (let a = h .classes in let e = length-keys-set c lists (p ∷ getD lists c []) (omega arith) in omega arith)
 
-  pub fits-remove : (c p : ℕ) → c < 64 → Fits n spare (set lists c (remove p (getD lists c [])))
+  pub fits-remove : (c p : ℕ) → c < classes → Fits n spare (set lists c (remove p (getD lists c [])))
   fits-remove c p b =
       fits-set c (remove p (getD lists c [])) b (λ q m. h .list-pages c q (remove-in p (getD lists c []) m .1))
       (let a = h .classes in
@@ -62,7 +63,7 @@ module _ {n : ℕ} {spare : List ℕ} {lists : List (List ℕ)} (h : Fits n spar
 
   -- ---- the empty list
 
-  pub fits-spare : (l : List ℕ) → length l ≤ 2 → Below 256 l → Fits n l lists
+  pub fits-spare : (l : List ℕ) → length l ≤ spareSlots → Below mostPages l → Fits n l lists
   fits-spare l k g =
       record {
         least = h .least;
@@ -74,7 +75,7 @@ module _ {n : ℕ} {spare : List ℕ} {lists : List (List ℕ)} (h : Fits n spar
         list-pages = h .list-pages;
       }
 
-  pub fits-spare-push : (p : ℕ) → p < 256 → length spare < 2 → Fits n (p ∷ spare) lists
+  pub fits-spare-push : (p : ℕ) → p < mostPages → length spare < spareSlots → Fits n (p ∷ spare) lists
   fits-spare-push p k r = fits-spare (p ∷ spare) (omega arith) (below-cons spare k (h .spare-pages))
 
   pub fits-spare-clear : Fits n [] lists
@@ -83,7 +84,7 @@ module _ {n : ℕ} {spare : List ℕ} {lists : List (List ℕ)} (h : Fits n spar
   pub fits-spare-pop : Fits n (drop 1 spare) lists
   fits-spare-pop = fits-spare (drop 1 spare) (let a = h .few in simp length-drop (omega arith)) (behind spare (h .spare-pages))
     where
-      behind : (l : List ℕ) → Below 256 l → Below 256 (drop 1 l)
+      behind : (l : List ℕ) → Below mostPages l → Below mostPages (drop 1 l)
       behind [] g q m = g q m
       behind (x ∷ l) g q m = g q (List·Memᴰ·tail m)
 
@@ -94,14 +95,14 @@ none-listed zero c = refl
 none-listed (suc m) zero = refl
 none-listed (suc m) (suc c) = none-listed m c
 
-pub fits-fresh : (n : ℕ) → 1 ≤ n → n ≤ 256 → Fits n [] (replicate 64 [])
+pub fits-fresh : (n : ℕ) → 1 ≤ n → n ≤ mostPages → Fits n [] (replicate classes [])
 fits-fresh n a b =
     record {
       least = a;
       most = b;
       few = omega arith;
-      classes = length-replicate {A = List ℕ} 64 [];
+      classes = length-replicate {A = List ℕ} classes [];
       room = rw fresh-keys (omega arith);
       spare-pages = λ p m. absurd (List·Memᴰ·not-nil m);
-      list-pages = λ c p m. absurd (List·Memᴰ·not-nil (subst (List·Memᴰ p) (none-listed 64 c) m));
+      list-pages = λ c p m. absurd (List·Memᴰ·not-nil (subst (List·Memᴰ p) (none-listed classes c) m));
     }

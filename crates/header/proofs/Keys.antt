@@ -1,7 +1,6 @@
 -- Laws of the keys of the class lists: their classes, what each class's list is, and the keys after a list has changed.
 -- Assumes nothing.
--- Every number of a list is below n.
-use Prim.Native.Nat.{ℕ, zero, suc, _+_, _*_, _≤_, _<_}
+use Prim.Native.Nat.{ℕ, zero, suc, _+_, _≤_, _<_}
 use mathlib.Core.Path.{_≡_, refl, sym, ap, _∙_, subst}
 use mathlib.Core.Bool.{Bool, not}
 use mathlib.Core.Logic.{⊎-elim}
@@ -21,8 +20,9 @@ use Rattle.lemmas.proofs.Every.{every-of-members, count-append, count-all, coun
 use Rattle.lemmas.proofs.Keep.{keep-append, keep-in, keep-all, keep-none}
 use Rattle.lemmas.proofs.ListFrom.{is-listFrom, length-listFrom, getD-listFrom}
 use Rattle.lemmas.proofs.Distinct.{remove-here, remove-there, remove-append, remove-absent}
-use Rattle.header.specs.Keys.{key, classIn, pageIn, keysFrom, keysOf, ofClass, belowClass, listIn, listsOf, putAt, placeOf}
+use Rattle.header.specs.Keys.{key, classIn, pageIn, keysFrom, keysOf, ofClass, belowClass, listIn, listsOf, putAt, placeOf, classes, mostPages, keyLimit}
 
+-- Every number of a list is below n.
 abbrev pub Below : ℕ → List ℕ → Type 0
 Below n l = (q : ℕ) → List·Memᴰ q l → q < n
 
@@ -32,10 +32,10 @@ below-cons l h g q (List·Memᴰ·tail m) = g q m
 
 -- ---- one key
 
-pub key-class : (c p : ℕ) → p < 256 → classIn (key c p) ≡ c
+pub key-class : (c p : ℕ) → p < mostPages → classIn (key c p) ≡ c
 key-class c p h = omega arith
 
-pub key-page : (c p : ℕ) → p < 256 → pageIn (key c p) ≡ p
+pub key-page : (c p : ℕ) → p < mostPages → pageIn (key c p) ≡ p
 key-page c p h = omega arith
 
 pub key-again : (q : ℕ) → key (classIn q) (pageIn q) ≡ q
@@ -45,14 +45,14 @@ key-again q = omega arith
 
 -- Every page of these lists is below 256.
 abbrev pub Pages : List (List ℕ) → Type 0
-Pages ls = (c p : ℕ) → List·Memᴰ p (getD ls c []) → p < 256
+Pages ls = (c p : ℕ) → List·Memᴰ p (getD ls c []) → p < mostPages
 
 -- A key of the class lists from c on is of one of these classes.
 pub keys-least : (c : ℕ) (ls : List (List ℕ)) {q : ℕ} → List·Memᴰ q (keysFrom c ls) → c ≤ classIn q
 unfolding keysFrom
 keys-least c [] m = absurd (List·Memᴰ·not-nil m)
 keys-least c (l ∷ ls) {q} m =
-    ⊎-elim (λ k. let r = Memᴰ·of-map (key c) l k in let e : 256 * c + r .0 ≡ q = r .2 in omega arith)
+    ⊎-elim (λ k. let r = Memᴰ·of-map (key c) l k in let e : key c (r .0) ≡ q = r .2 in omega arith)
     (λ k. let a = keys-least (suc c) ls k in omega arith) (List·Memᴰ·append-cases (map (key c) l) m)
 
 pub keys-most : (c i : ℕ) (ls : List (List ℕ)) → Pages ls → {q : ℕ} → List·Memᴰ q (keysFrom c (take i ls)) → classIn q < c + i
@@ -60,7 +60,7 @@ unfolding keysFrom
 keys-most c zero ls h m = absurd (List·Memᴰ·not-nil m)
 keys-most c (suc i) [] h m = absurd (List·Memᴰ·not-nil m)
 keys-most c (suc i) (l ∷ ls) h {q} m =
-    ⊎-elim (λ k. let r = Memᴰ·of-map (key c) l k in let e : 256 * c + r .0 ≡ q = r .2 in let b = h 0 (r .0) (r .1) in omega arith)
+    ⊎-elim (λ k. let r = Memᴰ·of-map (key c) l k in let e : key c (r .0) ≡ q = r .2 in let b = h 0 (r .0) (r .1) in omega arith)
     (λ k. let a = keys-most (suc c) i ls (λ j. h (suc j)) k in omega arith) (List·Memᴰ·append-cases (map (key c) l) m)
 
 -- Classes that never fall, the first not below c.
@@ -76,7 +76,7 @@ pub rising-least : {c : ℕ} (l : List ℕ) → Rising c l → {q : ℕ} → Lis
 rising-least (x ∷ l) r {q} (List·Memᴰ·head e) = let a = r .0 in omega arith
 rising-least (x ∷ l) r (List·Memᴰ·tail m) = let a = r .0 in let b = rising-least l (r .1) m in omega arith
 
-rising-own : {b c : ℕ} (l ks : List ℕ) → b ≤ c → Below 256 l → Rising c ks → Rising b (map (key c) l ++ ks)
+rising-own : {b c : ℕ} (l ks : List ℕ) → b ≤ c → Below mostPages l → Rising c ks → Rising b (map (key c) l ++ ks)
 rising-own [] ks h g r = rising-from ks h r
 rising-own {b} {c} (p ∷ l) ks h g r =
     let e = key-class c p (g p (List·Memᴰ·head refl)) in
@@ -92,14 +92,14 @@ pub keys-rising : (ls : List (List ℕ)) → Pages ls → Rising 0 (keysOf ls)
 unfolding keysOf
 keys-rising ls h = rising-keys 0 ls h
 
-pub keys-below : (ls : List (List ℕ)) → length ls ≡ 64 → Pages ls → (q : ℕ) → List·Memᴰ q (keysOf ls) → q < 16384
+pub keys-below : (ls : List (List ℕ)) → length ls ≡ classes → Pages ls → (q : ℕ) → List·Memᴰ q (keysOf ls) → q < keyLimit
 unfolding keysOf
 keys-below ls e h q m =
-    let a = keys-most 0 64 ls h (subst (λ (t : List (List ℕ)). List·Memᴰ q (keysFrom 0 t)) (sym (take-all 64 ls (omega arith))) m) in
+    let a = keys-most 0 classes ls h (subst (λ (t : List (List ℕ)). List·Memᴰ q (keysFrom 0 t)) (sym (take-all classes ls (omega arith))) m) in
     omega arith
 
 -- Pages by themselves are keys of class 0.
-pub rising-pages : (l : List ℕ) → Below 256 l → Rising 0 l
+pub rising-pages : (l : List ℕ) → Below mostPages l → Rising 0 l
 rising-pages [] h = tt
 rising-pages (p ∷ l) h =
     let a = h p (List·Memᴰ·head refl) in
@@ -117,7 +117,7 @@ unfolding listIn
 list-none c ks h =
     ap (map pageIn) (keep-none (ofClass c) ks (every-of-members (λ q. not (ofClass c q)) ks (λ q m. rw (ne-eqb (classIn q) c (h q m)))))
 
-list-own : (c : ℕ) (l : List ℕ) → Below 256 l → listIn c (map (key c) l) ≡ l
+list-own : (c : ℕ) (l : List ℕ) → Below mostPages l → listIn c (map (key c) l) ≡ l
 unfolding listIn keep
 list-own c [] h = refl
 list-own c (p ∷ l) h =
@@ -143,7 +143,7 @@ list-from c (suc i) (l ∷ ls) h k =
     other q m e =
         let r = Memᴰ·of-map (key c) l m in
         let b = h 0 (r .0) (r .1) in
-        let a : 256 * c + r .0 ≡ q = r .2 in
+        let a : key c (r .0) ≡ q = r .2 in
         omega arith
 
 -- What the list of class c is.
@@ -152,9 +152,9 @@ unfolding keysOf
 class-list c ls h k = ap (λ (n : ℕ). listIn n (keysFrom 0 ls)) (let e : c ≡ 0 + c = omega arith in e) ∙ list-from 0 c ls h k
 
 -- The lists of their keys.
-pub lists-keys : (ls : List (List ℕ)) → length ls ≡ 64 → Pages ls → listsOf (keysOf ls) ≡ ls
+pub lists-keys : (ls : List (List ℕ)) → length ls ≡ classes → Pages ls → listsOf (keysOf ls) ≡ ls
 unfolding listsOf keysOf
-lists-keys ls e h = sym (is-listFrom (λ c. listIn c (keysFrom 0 ls)) 0 64 ls [] e (λ i k. sym (list-from 0 i ls h (omega arith))))
+lists-keys ls e h = sym (is-listFrom (λ c. listIn c (keysFrom 0 ls)) 0 classes ls [] e (λ i k. sym (list-from 0 i ls h (omega arith))))
 
 -- ---- the keys of the lists of keys
 
@@ -207,23 +207,23 @@ keys-from b (suc n) c ks r h =
     ∙ sym (from-split b c ks r)
 
 -- Keys whose classes never fall are the keys of their lists.
-pub keys-lists : (ks : List ℕ) → Rising 0 ks → Below 16384 ks → keysOf (listsOf ks) ≡ ks
+pub keys-lists : (ks : List ℕ) → Rising 0 ks → Below keyLimit ks → keysOf (listsOf ks) ≡ ks
 unfolding keysOf listsOf fromClass
 keys-lists ks r h =
-    keys-from 0 64 0 ks r (λ q m. let a = h q m in omega arith)
+    keys-from 0 classes 0 ks r (λ q m. let a = h q m in omega arith)
     ∙ keep-all (fromClass 0) ks (every-of-members (fromClass 0) ks (λ q m. le-leb 0 (classIn q) (omega arith)))
 
 -- Whatever the keys, there are 64 lists, and their pages are below 256.
-pub length-lists : (ks : List ℕ) → length (listsOf ks) ≡ 64
+pub length-lists : (ks : List ℕ) → length (listsOf ks) ≡ classes
 unfolding listsOf
-length-lists ks = length-listFrom (λ c. listIn c ks) 0 64
+length-lists ks = length-listFrom (λ c. listIn c ks) 0 classes
 
 pub lists-pages : (ks : List ℕ) → Pages (listsOf ks)
 unfolding listsOf listIn
 lists-pages ks c p m =
-    by-ltb (λ t. p < 256) c 64
+    by-ltb (λ t. p < mostPages) c classes
     (λ l.
-    let r = Memᴰ·of-map pageIn (keep (ofClass c) ks) (subst (List·Memᴰ p) (getD-listFrom (λ c. listIn c ks) 0 64 c [] l ∙ ap (λ (n : ℕ). listIn n ks) (zero-add c)) m) in
+    let r = Memᴰ·of-map pageIn (keep (ofClass c) ks) (subst (List·Memᴰ p) (getD-listFrom (λ c. listIn c ks) 0 classes c [] l ∙ ap (λ (n : ℕ). listIn n ks) (zero-add c)) m) in
     let e : pageIn (r .0) ≡ p = r .2 in omega arith)
     (λ l. absurd (List·Memᴰ·not-nil (subst (List·Memᴰ p) (List·getD-eq-default (listsOf ks) [] (omega (arith, length-lists ks))) m)))
 
@@ -284,7 +284,7 @@ module _ (c : ℕ) (ls : List (List ℕ)) (there : c < length ls) where
       where
         rest : {q : ℕ} → List·Memᴰ q (map (key c) (getD ls c []) ++ keysBehind c ls) → c ≤ classIn q
         rest {q} m =
-            ⊎-elim (λ k. let r = Memᴰ·of-map (key c) (getD ls c []) k in let e : 256 * c + r .0 ≡ q = r .2 in omega arith)
+            ⊎-elim (λ k. let r = Memᴰ·of-map (key c) (getD ls c []) k in let e : key c (r .0) ≡ q = r .2 in omega arith)
             (λ k. let a = behind-above k in omega arith) (List·Memᴰ·append-cases (map (key c) (getD ls c [])) m)
 
     -- A page more at the front of the class's list: its key in front of those of the class.
@@ -300,7 +300,7 @@ module _ (c : ℕ) (ls : List (List ℕ)) (there : c < length ls) where
         ∙ ap (λ (t : List ℕ). b ++ key c p ∷ t) (drop-at b r (length b) refl))
 
     -- A page less on the class's list: its key less.
-    pub keys-remove : (p : ℕ) → p < 256 → keysOf (set ls c (remove p (getD ls c []))) ≡ remove (key c p) (keysOf ls)
+    pub keys-remove : (p : ℕ) → p < mostPages → keysOf (set ls c (remove p (getD ls c []))) ≡ remove (key c p) (keysOf ls)
     keys-remove p h =
         let b : List ℕ = keysBefore c ls in
         let l : List ℕ = map (key c) (getD ls c []) in

@@ -1,6 +1,5 @@
 -- What each turn and each end of the code's loops says. Assumes nothing.
--- ---- clearing: i words are zero, the others as they were
-use Prim.Native.Nat.{ℕ, suc, _+_, _-_, _/_, _≤_, _<_}
+use Prim.Native.Nat.{ℕ, suc, _+_, _-_, _≤_, _<_}
 use mathlib.Core.Path.{_≡_, refl, sym, ap, _∙_}
 use mathlib.Core.Bool.{true, false}
 use mathlib.Core.List.{List, [], _∷_, _++_, append-nil}
@@ -17,7 +16,10 @@ use Rattle.lemmas.specs.Zeros.{zeros, isZero}
 use Rattle.lemmas.proofs.Parts.{length-mid}
 use Rattle.lemmas.proofs.Heads.{next-word, take-next, take-set-next, drop-set-next}
 use Rattle.lemmas.proofs.Distinct.{remove-here, remove-there, remove-append, length-remove}
+use Rattle.header.specs.Keys.{classIn}
 use Rattle.header.specs.Slots.{legalSlots, pushed, shiftedIn, closedUp}
+
+-- ---- clearing: i words are zero, the others as they were
 
 pub clear-none : (s : List ℕ) → s ≡ zeros 0 ++ drop 0 s
 unfolding zeros
@@ -55,14 +57,14 @@ module _ (limit c : ℕ) (w : List ℕ) (i : ℕ) where
   unfolding legalSlots
   legal-large h n l = rw (next-entry h n, le-ltb (getD w i 0 - 1) limit (omega arith))
 
-  pub legal-falls : i < length w → (getD w i 0 ≡ 0 → ⊥) → getD w i 0 ≤ limit → (getD w i 0 - 1) / 256 < c → false ≡ legalSlots limit c (drop i w)
+  pub legal-falls : i < length w → (getD w i 0 ≡ 0 → ⊥) → getD w i 0 ≤ limit → classIn (getD w i 0 - 1) < c → false ≡ legalSlots limit c (drop i w)
   unfolding legalSlots
-  legal-falls h n l k = rw (next-entry h n, lt-ltb (getD w i 0 - 1) limit (omega arith), lt-leb c ((getD w i 0 - 1) / 256) k)
+  legal-falls h n l k = rw (next-entry h n, lt-ltb (getD w i 0 - 1) limit (omega arith), lt-leb c (classIn (getD w i 0 - 1)) k)
 
-  pub legal-next : i < length w → (getD w i 0 ≡ 0 → ⊥) → getD w i 0 ≤ limit → c ≤ (getD w i 0 - 1) / 256
-      → legalSlots limit ((getD w i 0 - 1) / 256) (drop (i + 1) w) ≡ legalSlots limit c (drop i w)
+  pub legal-next : i < length w → (getD w i 0 ≡ 0 → ⊥) → getD w i 0 ≤ limit → c ≤ classIn (getD w i 0 - 1)
+      → legalSlots limit (classIn (getD w i 0 - 1)) (drop (i + 1) w) ≡ legalSlots limit c (drop i w)
   unfolding legalSlots
-  legal-next h n l k = rw (next-entry h n, lt-ltb (getD w i 0 - 1) limit (omega arith), le-leb c ((getD w i 0 - 1) / 256) k)
+  legal-next h n l k = rw (next-entry h n, lt-ltb (getD w i 0 - 1) limit (omega arith), le-leb c (classIn (getD w i 0 - 1)) k)
 
 -- ---- shifting in
 

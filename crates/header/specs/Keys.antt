@@ -22,14 +22,14 @@ keyLimit = 16384
 
 -- The key of the zone of class c that starts at page p.
 abbrev pub key : ℕ → ℕ → ℕ
-key c p = 256 * c + p
+key c p = mostPages * c + p
 
 -- The class and the page in a key.
 abbrev pub classIn : ℕ → ℕ
-classIn q = q / 256
+classIn q = q / mostPages
 
 abbrev pub pageIn : ℕ → ℕ
-pageIn q = q % 256
+pageIn q = q % mostPages
 
 -- The keys of these lists, the first of which is that of class c.
 unfoldable pub keysFrom : ℕ → List (List ℕ) → List ℕ

@@ -1,6 +1,5 @@
 -- A list of numbers in words of its own, the slots: each number + 1, and zeros behind. So a zero is no number, and a list has
 -- one encoding. Assumes nothing.
--- The list in m slots.
 use Prim.Native.Nat.{ℕ, zero, suc}
 use mathlib.Core.Bool.{Bool, true, _&&_}
 use mathlib.Core.List.{List, [], _∷_, _++_}
@@ -11,6 +10,7 @@ use Rattle.lemmas.specs.Times.{times, remove}
 use Rattle.lemmas.specs.Zeros.{zeros, isZero}
 use Rattle.header.specs.Keys.{classIn}
 
+-- The list in m slots.
 unfoldable pub slots : ℕ → List ℕ → List ℕ
 slots zero l = []
 slots (suc m) [] = 0 ∷ slots m []

@@ -1,6 +1,4 @@
 // Where the header's words stand; specs/Encoding.antt says what each holds.
-pub const WORDS: usize = 1024;
-
 pub const AT_MAGIC: usize = 0;
 
 pub const AT_PAGES: usize = 1;

@@ -3,11 +3,11 @@
 // (`check-header`, `header-iff`), and what each step leaves (the `fits-` laws).
 ghost use mathlib.Core.Path.{_≡_};
 ghost use mathlib.Core.List.{[], _∷_};
-ghost use Prim.Native.Nat.{_<_};
+ghost use Prim.Native.Nat.{_≤_, _<_};
 ghost use lib.ListN.{length, getD, set, drop, replicate};
 ghost use Rattle.lemmas.specs.Times.{remove};
-ghost use Rattle.header.specs.Keys.{keysOf};
-ghost use Rattle.header.specs.Encoding.{headerEncoding, pagesIn, spareIn, listsIn, Header, isHeader};
+ghost use Rattle.header.specs.Keys.{classes, mostPages, key, keysOf};
+ghost use Rattle.header.specs.Encoding.{headerWords, spareSlots, listSlots, headerEncoding, pagesIn, spareIn, listsIn, Header, isHeader};
 ghost use Rattle.header.specs.Front.{frontOf, stands};
 
 mod layout;
@@ -22,7 +22,9 @@ use layout::AT_SPARE;
 use layout::KEY_LIMIT;
 use layout::MAGIC;
 use layout::MOST_PAGES;
-use layout::WORDS;
+
+// The header's words. No other crate knows more of its inside.
+pub const WORDS: usize = 1024;
 
 // What stands at the front of a list: a zone's start page, or nothing.
 pub enum Front {
@@ -60,8 +62,8 @@ pub fn check(words: &[u32]) -> bool
 
 // Sets the words up as the header of n pages with empty lists, whatever they held.
 pub fn set_up(words: &mut [u32], n: u32)
-    requires { ⌜ length (now words) ≡ 1024 ⌝ }
-    ensures { λ _. ⌜ now (words .exit) ≡ headerEncoding n [] (replicate 64 []) ⌝ }
+    requires { ⌜ length (now words) ≡ headerWords ⌝ }
+    ensures { λ _. ⌜ now (words .exit) ≡ headerEncoding n [] (replicate classes []) ⌝ }
 {
     scan::clear(&mut words[AT_SPARE..WORDS]);
     words[AT_MAGIC] = MAGIC;
@@ -78,18 +80,26 @@ pub fn pages(words: &[u32]) -> u32
 
 // ---- the class lists
 
+// The key of a page and a class. At page 0 it is the class's lowest, at 256 the next class's.
+fn key(class: u32, page: u32) -> u32
+    requires { ⌜ (class < classes) × (page ≤ mostPages) ⌝ }
+    ensures { λ r. ⌜ r ≡ key class page ⌝ }
+{
+    MOST_PAGES * class + page
+}
+
 // The front of the class's list. Its keys begin behind those of the lower classes; behind the last slot stands a zero.
 pub fn first(words: &[u32], class: u32) -> Front
-    requires { ⌜ Header (now words) × (class < 64) ⌝ }
+    requires { ⌜ Header (now words) × (class < classes) ⌝ }
     ensures { λ r. ⌜ r ≡ frontOf (getD (listsIn (now (words .entry))) class []) ⌝ }
 {
-    let low = MOST_PAGES * class;
+    let low = key(class, 0);
     let at = slots::count_between(&words[AT_LISTS..AT_REST], 0, low);
     let slot = words[AT_LISTS + at];
     if slot <= low {
         return Front::Nothing;
     }
-    if low + MOST_PAGES < slot {
+    if key(class, MOST_PAGES) < slot {
         return Front::Nothing;
     }
     Front::Page(slot - low - 1)
@@ -97,21 +107,24 @@ pub fn first(words: &[u32], class: u32) -> Front
 
 // How many zones the class's list has.
 pub fn count(words: &[u32], class: u32) -> u32
-    requires { ⌜ Header (now words) × (class < 64) ⌝ }
+    requires { ⌜ Header (now words) × (class < classes) ⌝ }
     ensures { λ r. ⌜ r ≡ length (getD (listsIn (now (words .entry))) class []) ⌝ }
 {
-    let low = MOST_PAGES * class;
-    let n = slots::count_between(&words[AT_LISTS..AT_REST], low, low + MOST_PAGES);
+    let n = slots::count_between(
+        &words[AT_LISTS..AT_REST],
+        key(class, 0),
+        key(class, MOST_PAGES),
+    );
     n as u32
 }
 
 // Whether the zone that starts at the page stands on the class's list.
 pub fn contains(words: &[u32], class: u32, page: u32) -> bool
-    requires { ⌜ Header (now words) × (class < 64) × (page < 256) ⌝ }
+    requires { ⌜ Header (now words) × (class < classes) × (page < mostPages) ⌝ }
     ensures { λ r. ⌜ r ≡ stands page (getD (listsIn (now (words .entry))) class []) ⌝ }
 {
-    let key = MOST_PAGES * class + page;
-    let n = slots::count_between(&words[AT_LISTS..AT_REST], key, key + 1);
+    let low = key(class, page);
+    let n = slots::count_between(&words[AT_LISTS..AT_REST], low, low + 1);
     0 < n
 }
 
@@ -126,20 +139,19 @@ pub fn listed(words: &[u32]) -> u32
 
 // Puts the page at the front of the class's list. There is room for one more.
 pub fn push(words: &mut [u32], class: u32, page: u32)
-    requires { ⌜ Header (now words) × (class < 64) × (page < 256) × (length (keysOf (listsIn (now words))) < 32) ⌝ }
+    requires { ⌜ Header (now words) × (class < classes) × (page < mostPages) × (length (keysOf (listsIn (now words))) < listSlots) ⌝ }
     ensures { λ _. ⌜ now (words .exit) ≡ headerEncoding (pagesIn (now (words .entry))) (spareIn (now (words .entry))) (set (listsIn (now (words .entry))) class (page ∷ getD (listsIn (now (words .entry))) class [])) ⌝ }
 {
-    let low = MOST_PAGES * class;
-    let at = slots::count_between(&words[AT_LISTS..AT_REST], 0, low);
-    slots::shift_in(&mut words[AT_LISTS..AT_REST], at, low + page + 1);
+    let at = slots::count_between(&words[AT_LISTS..AT_REST], 0, key(class, 0));
+    slots::shift_in(&mut words[AT_LISTS..AT_REST], at, key(class, page) + 1);
 }
 
 // Takes the page off the class's list, if it stands there.
 pub fn remove(words: &mut [u32], class: u32, page: u32)
-    requires { ⌜ Header (now words) × (class < 64) × (page < 256) ⌝ }
+    requires { ⌜ Header (now words) × (class < classes) × (page < mostPages) ⌝ }
     ensures { λ _. ⌜ now (words .exit) ≡ headerEncoding (pagesIn (now (words .entry))) (spareIn (now (words .entry))) (set (listsIn (now (words .entry))) class (remove page (getD (listsIn (now (words .entry))) class []))) ⌝ }
 {
-    slots::take_out(&mut words[AT_LISTS..AT_REST], MOST_PAGES * class + page + 1);
+    slots::take_out(&mut words[AT_LISTS..AT_REST], key(class, page) + 1);
 }
 
 // ---- the empty list
@@ -167,7 +179,7 @@ pub fn spare_count(words: &[u32]) -> u32
 
 // Whether the zone that starts at the page stands on the empty list.
 pub fn spare_contains(words: &[u32], page: u32) -> bool
-    requires { ⌜ Header (now words) × (page < 256) ⌝ }
+    requires { ⌜ Header (now words) × (page < mostPages) ⌝ }
     ensures { λ r. ⌜ r ≡ stands page (spareIn (now (words .entry))) ⌝ }
 {
     let n = slots::count_between(&words[AT_SPARE..AT_LISTS], page, page + 1);
@@ -176,7 +188,7 @@ pub fn spare_contains(words: &[u32], page: u32) -> bool
 
 // Puts the page at the front of the empty list. There is room for one more.
 pub fn spare_push(words: &mut [u32], page: u32)
-    requires { ⌜ Header (now words) × (page < 256) × (length (spareIn (now words)) < 2) ⌝ }
+    requires { ⌜ Header (now words) × (page < mostPages) × (length (spareIn (now words)) < spareSlots) ⌝ }
     ensures { λ _. ⌜ now (words .exit) ≡ headerEncoding (pagesIn (now (words .entry))) (page ∷ spareIn (now (words .entry))) (listsIn (now (words .entry))) ⌝ }
 {
     slots::shift_in(&mut words[AT_SPARE..AT_LISTS], 0, page + 1);

@@ -62,7 +62,7 @@ fn run_len(kind: u32, len: usize) -> usize
 }
 
 // The pages of the segment that begins at page p.
-fn size(words: &[u32], n: usize, p: usize) -> usize
+pub fn size(words: &[u32], n: usize, p: usize) -> usize
     requires { ⌜ Holds (now words) n ⌝ }
     requires { ⌜ ((b : ℕ) × (x : Segment Zone) × Stands (segmentsOf (now words)) p b x) ⌝ }
     ensures { λ r. ⌜ ((b : ℕ) (x : Segment Zone) → Stands (segmentsOf (now (words .entry))) p b x → r ≡ pages x) ⌝ }

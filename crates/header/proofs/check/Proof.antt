@@ -69,7 +69,11 @@ is-zero-requires : tie.Need-is-zero-requires
 is-zero-requires c κs = search needs
 
 returns-7 : tie.Need-returns-7
-returns-7 c = c .is-zero .ensures ∙ header-last (c .before .before .before .before .before .before .before .before .before .before .before .before .before .before .before .args .words .now) (omega arith) (omega arith) (omega arith) (omega arith) (sym (c .before .before .before .before .before .before .are-legal .ensures) ∙ not-false _ (c .before .before .before .before .before .if5 .left)) (sym (c .before .before .before .are-legal2 .ensures) ∙ not-false _ (c .before .before .if6 .left))
+returns-7 c =
+    let start = c .before .before .before .before .before .before .before .before .before .before .before .before .before .before .before in
+    let spare = sym (c .before .before .before .before .before .before .are-legal .ensures) ∙ not-false _ (c .before .before .before .before .before .if5 .left) in
+    let lists = sym (c .before .before .before .are-legal2 .ensures) ∙ not-false _ (c .before .before .if6 .left) in
+    c .is-zero .ensures ∙ header-last (start .args .words .now) (omega arith) (omega arith) (omega arith) (omega arith) spare lists
 
 pub check-spec : {M : Type 1} → statement M
 check-spec =

@@ -19,7 +19,7 @@ count-between-requires : tie.Need-count-between-requires
 count-between-requires c κs = search needs
 
 cast-result : tie.Need-cast-result
-cast-result c = omega (arith, c .count-between .ensures, lists-most (c .before .before .before .pre) 0 16384)
+cast-result c = omega (arith, lists-most (c .before .before .before .pre) _ _ (c .count-between .ensures))
 
 returns : tie.Need-returns
 returns c = c .count-between .ensures ∙ listed-count (c .before .before .before .pre)

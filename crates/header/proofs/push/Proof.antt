@@ -1,16 +1,9 @@
 -- `header::push` meets its contract. Assumes nothing.
-use Prim.Native.Nat.{_*_}
 use native.Mathlib.Omega.{arith}
 use borrow.Author.Needs.{needs}
-use Rattle.lemmas.specs.Parts.{mid}
-use Rattle.lemmas.proofs.Every.{count-le-length}
-use Rattle.header.specs.Slots.{holds}
-use Rattle.header.proofs.Steps.{header-length, step-push}
+use Rattle.header.proofs.Steps.{header-length, lists-size, lists-most, step-push}
 use Rattle.header.proofs.push.Statement.{statement}
 use Rattle.header.proofs.push.Tie as tie
-
-mul-low : tie.Need-mul-low
-mul-low c = search needs
 
 sub-count-between : tie.Need-sub-count-between
 sub-count-between c = search needs
@@ -20,6 +13,9 @@ part-count-between-start c = search needs
 
 part-count-between-end : tie.Need-part-count-between-end
 part-count-between-end c = omega (arith, header-length (c .before .before .pre .0))
+
+key-requires : tie.Need-key-requires
+key-requires c κs = search needs
 
 count-between-requires : tie.Need-count-between-requires
 count-between-requires c κs = search needs
@@ -31,37 +27,41 @@ part-shift-in-start : tie.Need-part-shift-in-start
 part-shift-in-start c = search needs
 
 part-shift-in-end : tie.Need-part-shift-in-end
-part-shift-in-end c = omega (arith, header-length (c .before .before .before .before .pre .0))
+part-shift-in-end c = omega (arith, header-length (c .before .before .before .before .before .pre .0))
+
+key-requires-2 : tie.Need-key-requires-2
+key-requires-2 c κs = search needs
 
 add-shift-in : tie.Need-add-shift-in
 add-shift-in c = search needs
 
-add-shift-in-2 : tie.Need-add-shift-in-2
-add-shift-in-2 c = search needs
-
 shift-in-requires : tie.Need-shift-in-requires
-shift-in-requires c κs = omega (arith, c .before .count-between .ensures, count-le-length (holds 0 (256 * c .before .before .before .before .before .args .class)) (mid 4 32 (c .before .before .before .before .before .args .words .now)))
+shift-in-requires c κs =
+    let pre = c .before .before .before .before .before .before .before .pre in
+    omega (arith, lists-size (pre .0), lists-most (pre .0) _ _ (c .before .before .count-between .ensures))
 
 same-length : tie.Need-same-length
 same-length c = search needs
 
 returns : tie.Need-returns
-returns c = step-push (c .before .before .before .before .before .before .before .before .pre .0) _ _ (c .before .before .before .before .before .before .before .before .pre .1) _ _ (c .before .before .before .before .count-between .ensures) (c .before .before .shift-in .ensures)
+returns c =
+    let pre = c .before .before .before .before .before .before .before .before .before .before .pre in
+    step-push (pre .0) _ _ (pre .1) _ _ _ _ (c .before .before .before .before .before .before .key .ensures) (c .before .before .before .key2 .ensures) (c .before .before .before .before .before .count-between .ensures) (c .before .before .shift-in .ensures)
 
 pub push-spec : {M : Type 1} → statement M
 push-spec =
     tie.close
     (tie.spec
-    mul-low
     sub-count-between
     part-count-between-start
     part-count-between-end
+    key-requires
     count-between-requires
     sub-shift-in
     part-shift-in-start
     part-shift-in-end
+    key-requires-2
     add-shift-in
-    add-shift-in-2
     shift-in-requires
     same-length
     returns)

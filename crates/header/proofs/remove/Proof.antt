@@ -14,14 +14,11 @@ part-take-out-start c = search needs
 part-take-out-end : tie.Need-part-take-out-end
 part-take-out-end c = omega (arith, header-length (c .before .pre .0))
 
-mul-take-out : tie.Need-mul-take-out
-mul-take-out c = search needs
+key-requires : tie.Need-key-requires
+key-requires c κs = search needs
 
 add-take-out : tie.Need-add-take-out
 add-take-out c = search needs
-
-add-take-out-2 : tie.Need-add-take-out-2
-add-take-out-2 c = search needs
 
 take-out-requires : tie.Need-take-out-requires
 take-out-requires c κs = search needs
@@ -30,7 +27,9 @@ same-length : tie.Need-same-length
 same-length c = search needs
 
 returns : tie.Need-returns
-returns c = step-remove (c .before .before .before .before .before .pre .0) _ _ (c .before .before .before .before .before .pre .1) _ (c .before .before .before .before .before .pre .2) (c .before .before .take-out .ensures)
+returns c =
+    let pre = c .before .before .before .before .before .before .pre in
+    step-remove (pre .0) _ _ (pre .1) _ _ (pre .2) (c .before .before .before .key .ensures) (c .before .before .take-out .ensures)
 
 pub remove-spec : {M : Type 1} → statement M
 remove-spec =
@@ -39,9 +38,8 @@ remove-spec =
     sub-take-out
     part-take-out-start
     part-take-out-end
-    mul-take-out
+    key-requires
     add-take-out
-    add-take-out-2
     take-out-requires
     same-length
     returns)

@@ -43,13 +43,21 @@ block-is-zero-requires : tie.Need-block-is-zero-requires Inv-loop μ-loop
 block-is-zero-requires c κs = search needs
 
 returns : tie.Need-returns Inv-loop μ-loop
-returns c = sym (every-block-not isZero (c .before .before .before .before .before .before .args .s .now) (c .before .before .before .before .loop .i) (c .before .before .before .before .loop .i + 64 - c .before .before .before .before .loop .i) (sym (c .before .block-is-zero .ensures) ∙ not-true _ (c .if1 .taken)))
+returns c =
+    let s = c .before .before .before .before .before .before .args .s .now in
+    let i = c .before .before .before .before .loop .i in
+    sym (every-block-not isZero s i (i + 64 - i) (sym (c .before .block-is-zero .ensures) ∙ not-true _ (c .if1 .taken)))
 
 loop-less : tie.Need-loop-less Inv-loop μ-loop
 loop-less c = search needs
 
 loop-again : tie.Need-loop-again Inv-loop μ-loop
-loop-again c = (omega arith, every-block isZero (c .before .before .before .before .before .before .args .s .now) (c .before .before .before .before .loop .i) (c .before .before .before .before .loop .i + 64 - c .before .before .before .before .loop .i) (c .before .before .before .before .loop .i + 64) (omega arith) (c .before .before .before .before .loop .inv .1) (sym (c .before .block-is-zero .ensures) ∙ not-false _ (c .if1 .left)))
+loop-again c =
+    let s = c .before .before .before .before .before .before .args .s .now in
+    let i = c .before .before .before .before .loop .i in (
+      omega arith,
+      every-block isZero s i (i + 64 - i) (i + 64) (omega arith) (c .before .before .before .before .loop .inv .1) (sym (c .before .block-is-zero .ensures) ∙ not-false _ (c .if1 .left)),
+    )
 
 mul-block-is-zero-2 : tie.Need-mul-block-is-zero-2 Inv-loop μ-loop
 mul-block-is-zero-2 c = search needs
@@ -67,7 +75,10 @@ block-is-zero-requires-2 : tie.Need-block-is-zero-requires-2 Inv-loop μ-loop
 block-is-zero-requires-2 c κs = search needs
 
 returns-2 : tie.Need-returns-2 Inv-loop μ-loop
-returns-2 c = c .block-is-zero2 .ensures ∙ every-block-last isZero (c .before .before .before .before .before .args .s .now) (c .before .before .before .loop .i) (length (c .before .before .before .before .before .args .s .now) - c .before .before .before .loop .i) (omega arith) (c .before .before .before .loop .inv .1)
+returns-2 c =
+    let s = c .before .before .before .before .before .args .s .now in
+    let i = c .before .before .before .loop .i in
+    c .block-is-zero2 .ensures ∙ every-block-last isZero s i (length s - i) (omega arith) (c .before .before .before .loop .inv .1)
 
 pub is-zero-spec : {M : Type 1} → statement M
 is-zero-spec =

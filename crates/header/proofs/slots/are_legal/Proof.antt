@@ -43,16 +43,29 @@ is-zero-requires : tie.Need-is-zero-requires Inv-loop μ-loop
 is-zero-requires c κs = search needs
 
 returns : tie.Need-returns Inv-loop μ-loop
-returns c = c .is-zero .ensures ∙ legal-zero (c .before .before .before .before .before .before .before .args .limit) (c .before .before .before .before .before .loop .class) (c .before .before .before .before .before .before .before .args .slots .now) (c .before .before .before .before .before .loop .i) (c .before .before .before .before .loop-test .taken) (c .before .before .if1 .taken) ∙ c .before .before .before .before .before .loop .inv .1
+returns c =
+    let start = c .before .before .before .before .before .before .before in
+    let turn = c .before .before .before .before .before .loop in
+    c .is-zero .ensures
+    ∙ legal-zero (start .args .limit) (turn .class) (start .args .slots .now) (turn .i) (c .before .before .before .before .loop-test .taken) (c .before .before .if1 .taken)
+    ∙ turn .inv .1
 
 returns-2 : tie.Need-returns-2 Inv-loop μ-loop
-returns-2 c = legal-large (c .before .before .before .before .before .before .args .limit) (c .before .before .before .before .loop .class) (c .before .before .before .before .before .before .args .slots .now) (c .before .before .before .before .loop .i) (c .before .before .before .loop-test .taken) (c .before .if1 .left) (c .if2 .taken) ∙ c .before .before .before .before .loop .inv .1
+returns-2 c =
+    let start = c .before .before .before .before .before .before in
+    let turn = c .before .before .before .before .loop in
+    legal-large (start .args .limit) (turn .class) (start .args .slots .now) (turn .i) (c .before .before .before .loop-test .taken) (c .before .if1 .left) (c .if2 .taken)
+    ∙ turn .inv .1
 
 sub-next : tie.Need-sub-next Inv-loop μ-loop
 sub-next c = search needs
 
 returns-3 : tie.Need-returns-3 Inv-loop μ-loop
-returns-3 c = legal-falls (c .before .before .before .before .before .before .before .args .limit) (c .before .before .before .before .before .loop .class) (c .before .before .before .before .before .before .before .args .slots .now) (c .before .before .before .before .before .loop .i) (c .before .before .before .before .loop-test .taken) (c .before .before .if1 .left) (c .before .if2 .left) (c .if3 .taken) ∙ c .before .before .before .before .before .loop .inv .1
+returns-3 c =
+    let start = c .before .before .before .before .before .before .before in
+    let turn = c .before .before .before .before .before .loop in
+    legal-falls (start .args .limit) (turn .class) (start .args .slots .now) (turn .i) (c .before .before .before .before .loop-test .taken) (c .before .before .if1 .left) (c .before .if2 .left) (c .if3 .taken)
+    ∙ turn .inv .1
 
 add-i : tie.Need-add-i Inv-loop μ-loop
 add-i c = search needs
@@ -61,10 +74,19 @@ loop-less : tie.Need-loop-less Inv-loop μ-loop
 loop-less c = search needs
 
 loop-again : tie.Need-loop-again Inv-loop μ-loop
-loop-again c = (omega arith, legal-next (c .before .before .before .before .before .before .before .args .limit) (c .before .before .before .before .before .loop .class) (c .before .before .before .before .before .before .before .args .slots .now) (c .before .before .before .before .before .loop .i) (c .before .before .before .before .loop-test .taken) (c .before .before .if1 .left) (c .before .if2 .left) (c .if3 .left) ∙ c .before .before .before .before .before .loop .inv .1)
+loop-again c =
+    let start = c .before .before .before .before .before .before .before in
+    let turn = c .before .before .before .before .before .loop in (
+      omega arith,
+      legal-next (start .args .limit) (turn .class) (start .args .slots .now) (turn .i) (c .before .before .before .before .loop-test .taken) (c .before .before .if1 .left) (c .before .if2 .left) (c .if3 .left)
+          ∙ turn .inv .1,
+    )
 
 returns-4 : tie.Need-returns-4 Inv-loop μ-loop
-returns-4 c = legal-end (c .before .before .before .args .limit) (c .before .loop .class) (c .before .before .before .args .slots .now) (c .before .loop .i) (c .loop-test .left) ∙ c .before .loop .inv .1
+returns-4 c =
+    let start = c .before .before .before in
+    let turn = c .before .loop in
+    legal-end (start .args .limit) (turn .class) (start .args .slots .now) (turn .i) (c .loop-test .left) ∙ turn .inv .1
 
 pub are-legal-spec : {M : Type 1} → statement M
 are-legal-spec =

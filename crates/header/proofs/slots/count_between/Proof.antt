@@ -40,7 +40,18 @@ loop-less : tie.Need-loop-less Inv-loop μ-loop
 loop-less c = search needs
 
 loop-again : tie.Need-loop-again Inv-loop μ-loop
-loop-again c = let s : List ℕ = c .before .before .before .before .before .before .args .slots .now in let i : ℕ = c .before .before .before .before .loop .i in let h : i < length s = omega arith in let was = c .before .before .before .before .loop .inv in let test = holds (c .before .before .before .before .before .before .args .low) (c .before .before .before .before .before .before .args .high) in (omega arith, ⊎-elim (λ w. omega arith) (λ w. omega arith) (c .if1 .came), ⊎-elim (λ w. w .1 ∙ count-pass test s i 0 h (sym (c .before .holds .ensures) ∙ w .0 .taken) (was .2)) (λ w. w .1 ∙ count-fail test s i 0 h (sym (c .before .holds .ensures) ∙ w .0 .left) (was .2)) (c .if1 .came))
+loop-again c =
+    let start = c .before .before .before .before .before .before in
+    let s : List ℕ = start .args .slots .now in
+    let i : ℕ = c .before .before .before .before .loop .i in
+    let h : i < length s = omega arith in
+    let was = c .before .before .before .before .loop .inv in
+    let test = holds (start .args .low) (start .args .high) in
+    let found = sym (c .before .holds .ensures) in (
+      omega arith,
+      ⊎-elim (λ w. omega arith) (λ w. omega arith) (c .if1 .came),
+      ⊎-elim (λ w. w .1 ∙ count-pass test s i 0 h (found ∙ w .0 .taken) (was .2)) (λ w. w .1 ∙ count-fail test s i 0 h (found ∙ w .0 .left) (was .2)) (c .if1 .came),
+    )
 
 returns : tie.Need-returns Inv-loop μ-loop
 returns c = count-done (holds (c .before .before .before .args .low) (c .before .before .before .args .high)) _ _ (c .loop-test .left) (c .before .loop .inv .2)

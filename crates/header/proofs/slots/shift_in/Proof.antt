@@ -37,7 +37,10 @@ loop-less : tie.Need-loop-less Inv-loop μ-loop
 loop-less c = search needs
 
 loop-again : tie.Need-loop-again Inv-loop μ-loop
-loop-again c = let h : c .before .before .loop .i < length (c .before .before .loop .slots) = omega arith in (omega arith, omega arith, simp length-set (c .before .before .loop .inv .2), shift-more _ _ _ h ∙ c .before .before .loop .inv .3)
+loop-again c =
+    let turn = c .before .before .loop in
+    let h : turn .i < length (turn .slots) = omega arith in
+    (omega arith, omega arith, simp length-set (turn .inv .2), shift-more _ _ _ h ∙ turn .inv .3)
 
 same-length : tie.Need-same-length Inv-loop μ-loop
 same-length c = search needs

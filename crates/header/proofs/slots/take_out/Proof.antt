@@ -10,13 +10,13 @@ gather-requires : tie.Need-gather-requires
 gather-requires c κs = search needs
 
 mul-clear : tie.Need-mul-clear
-mul-clear c = omega (arith, c .before .before .gather .ensures .0, length-remove (c .before .before .before .before .before .args .v) (c .before .before .before .before .before .args .slots .now))
+mul-clear c = let start = c .before .before .before .before .before in omega (arith, c .before .before .gather .ensures .0, length-remove (start .args .v) (start .args .slots .now))
 
 sub-clear : tie.Need-sub-clear
-sub-clear c = omega (arith, c .before .before .gather .ensures .0, length-remove (c .before .before .before .before .before .args .v) (c .before .before .before .before .before .args .slots .now))
+sub-clear c = let start = c .before .before .before .before .before in omega (arith, c .before .before .gather .ensures .0, length-remove (start .args .v) (start .args .slots .now))
 
 part-clear-start : tie.Need-part-clear-start
-part-clear-start c = omega (arith, c .before .before .gather .ensures .0, length-remove (c .before .before .before .before .before .args .v) (c .before .before .before .before .before .args .slots .now))
+part-clear-start c = let start = c .before .before .before .before .before in omega (arith, c .before .before .gather .ensures .0, length-remove (start .args .v) (start .args .slots .now))
 
 part-clear-end : tie.Need-part-clear-end
 part-clear-end c = search needs
@@ -28,7 +28,10 @@ same-length : tie.Need-same-length
 same-length c = search needs
 
 returns : tie.Need-returns
-returns c = closed-put (c .before .before .before .before .before .before .before .before .before .args .v) (c .before .before .before .before .before .before .before .before .before .args .slots .now) (c .before .before .before .before .before .before .gather .last .0) _ _ (c .before .before .before .before .before .before .gather .kept .0) (c .before .before .before .before .before .before .gather .ensures .0) (c .before .before .before .before .before .before .gather .ensures .1) (c .before .before .clear .ensures)
+returns c =
+    let start = c .before .before .before .before .before .before .before .before .before in
+    let gathered = c .before .before .before .before .before .before .gather in
+    closed-put (start .args .v) (start .args .slots .now) (gathered .last .0) _ _ (gathered .kept .0) (gathered .ensures .0) (gathered .ensures .1) (c .before .before .clear .ensures)
 
 pub take-out-spec : {M : Type 1} → statement M
 take-out-spec =

@@ -1,0 +1,49 @@
+-- `zone_fits` meets its contract. Assumes nothing.
+use Rattle.header.specs.Encoding.{spareIn, listsIn}
+use Rattle.zone.specs.Decoding.{zoneOf}
+use Rattle.metadata.proofs.Here.{fits-full, fits-spare, fits-listed, class-low}
+use Rattle.header.specs.Front.{stands}
+use lib.ListN.{getD}
+use mathlib.Core.List.{[]}
+use Prim.Native.Nat.{_<_}
+use mathlib.Core.Path.{sym, ap, _∙_, subst}
+use borrow.Author.Needs.{needs}
+use Rattle.metadata.proofs.zone_fits.Statement.{statement}
+use Rattle.metadata.proofs.zone_fits.Tie as tie
+
+is-full-requires : tie.Need-is-full-requires
+is-full-requires c κs = search needs
+
+returns : tie.Need-returns
+returns c = fits-full (spareIn (c .before .before .before .before .args .head .now)) (listsIn (c .before .before .before .before .args .head .now)) (c .before .before .before .before .args .page) (zoneOf (c .before .before .before .before .args .part .now)) (sym (c .before .is-full .ensures) ∙ c .if1 .taken)
+
+spare-contains-requires : tie.Need-spare-contains-requires
+spare-contains-requires c κs = search needs
+
+is-idle-requires : tie.Need-is-idle-requires
+is-idle-requires c κs = search needs
+
+returns-2 : tie.Need-returns-2
+returns-2 c = c .is-idle .ensures ∙ fits-spare (spareIn (c .before .before .before .before .before .before .before .args .head .now)) (listsIn (c .before .before .before .before .before .before .before .args .head .now)) (c .before .before .before .before .before .before .before .args .page) (zoneOf (c .before .before .before .before .before .before .before .args .part .now)) (sym (c .before .before .before .before .is-full .ensures) ∙ c .before .before .before .if1 .left) (sym (c .before .before .spare-contains .ensures) ∙ c .before .if2 .taken)
+
+class-of-requires : tie.Need-class-of-requires
+class-of-requires c κs = search needs
+
+contains-requires : tie.Need-contains-requires
+contains-requires c κs = (c .before .before .before .before .before .before .before .pre .0, subst (λ k. k < 64) (sym (c .class-of .ensures)) (class-low _ (c .before .before .before .before .before .before .before .pre .1)), c .before .before .before .before .before .before .before .pre .2)
+
+returns-3 : tie.Need-returns-3
+returns-3 c = c .contains .ensures ∙ ap (λ k. stands (c .before .before .before .before .before .before .before .before .args .page) (getD (listsIn (c .before .before .before .before .before .before .before .before .args .head .now)) k [])) (c .before .class-of .ensures) ∙ fits-listed (spareIn (c .before .before .before .before .before .before .before .before .args .head .now)) (listsIn (c .before .before .before .before .before .before .before .before .args .head .now)) (c .before .before .before .before .before .before .before .before .args .page) (zoneOf (c .before .before .before .before .before .before .before .before .args .part .now)) (sym (c .before .before .before .before .before .is-full .ensures) ∙ c .before .before .before .before .if1 .left) (sym (c .before .before .before .spare-contains .ensures) ∙ c .before .before .if2 .left)
+
+pub zone-fits-spec : {M : Type 1} → statement M
+zone-fits-spec =
+    tie.close
+    (tie.spec
+    is-full-requires
+    returns
+    spare-contains-requires
+    is-idle-requires
+    returns-2
+    class-of-requires
+    contains-requires
+    returns-3)

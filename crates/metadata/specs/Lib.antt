@@ -1,0 +1,3 @@
+pub mod Encoding
+pub mod Lists
+pub mod Decoding
