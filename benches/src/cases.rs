@@ -1,0 +1,100 @@
+//! The states measured, with their bars.
+
+use reference::histories::Xorshift;
+use reference::sizes::{chunk_count, ZONE_PAGES};
+use reference::state::{State, Zone};
+use tests::states::{zones_throughout, Plan};
+use tests::zones::{shuffle, zone_with};
+
+/// The greatest ratio with nothing but runs and direct blocks.
+const PAGES_BAR: f64 = 1.5;
+/// The greatest ratio with full zones.
+const FULL_BAR: f64 = 8.0;
+/// The smallest arena that has bars: in a smaller one the header is most of the words.
+const BARS_FROM: u32 = 24;
+
+/// The class with the most chunks, whose zones take longest.
+const CLASS: u32 = 0;
+
+pub struct Case {
+    pub name: &'static str,
+    pub state: State,
+    /// The greatest ratio allowed, if one is.
+    bar: Option<f64>,
+}
+
+impl Case {
+    pub fn misses(&self, ratio: f64) -> bool {
+        self.bar.map_or(false, |bar| ratio > bar)
+    }
+
+    /// What the line says behind the figures.
+    pub fn remark(&self, ratio: f64) -> String {
+        match self.bar {
+            None => "no bar".to_string(),
+            Some(bar) if self.misses(ratio) => format!("bar MISSED (at most {bar})"),
+            Some(bar) => format!("bar met (at most {bar})"),
+        }
+    }
+}
+
+/// All states for an arena of so many pages.
+pub fn cases(pages: u32) -> Vec<Case> {
+    let barred = |bar: f64| (pages >= BARS_FROM).then_some(bar);
+    let mut cases = vec![
+        case("fresh", State::fresh(pages), barred(PAGES_BAR)),
+        case("large blocks only", large_blocks(pages), barred(PAGES_BAR)),
+    ];
+    if pages >= ZONE_PAGES {
+        let zones = |name, zone: Zone, bar| case(name, zones_throughout(pages, &zone), bar);
+        cases.extend([
+            zones("zones, half live, half untouched", half_live(), None),
+            zones("zones, half live, half returned", half_returned(), None),
+            zones("zones, full", full(), barred(FULL_BAR)),
+            zones("zones, all returned in ascending order", returned(), None),
+            zones(
+                "zones, all returned in no order",
+                returned_in_no_order(),
+                None,
+            ),
+        ]);
+    }
+    cases
+}
+
+fn case(name: &'static str, state: State, bar: Option<f64>) -> Case {
+    Case { name, state, bar }
+}
+
+/// Direct blocks of two pages, the fewest that a request gets; in an arena of one page, of one.
+fn large_blocks(pages: u32) -> State {
+    let length = 2.min(pages);
+    let blocks = (0..pages / length).fold(Plan::new(), |plan, _| plan.direct(length, 1));
+    blocks.assemble()
+}
+
+fn half_live() -> Zone {
+    zone_with(CLASS, &vec![true; chunk_count(CLASS) as usize / 2])
+}
+
+fn half_returned() -> Zone {
+    let is_live: Vec<bool> = (0..chunk_count(CLASS))
+        .map(|chunk| chunk % 2 == 0)
+        .collect();
+    zone_with(CLASS, &is_live)
+}
+
+fn full() -> Zone {
+    zone_with(CLASS, &vec![true; chunk_count(CLASS) as usize])
+}
+
+fn returned() -> Zone {
+    zone_with(CLASS, &vec![false; chunk_count(CLASS) as usize])
+}
+
+/// Where each link leads cannot be guessed by the processor here.
+fn returned_in_no_order() -> Zone {
+    let mut zone = returned();
+    shuffle(zone.chain.make_contiguous(), &mut Xorshift::new(1));
+    zone
+}

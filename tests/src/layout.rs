@@ -1,0 +1,67 @@
+//! Where everything stands in the metadata words, and both ways between words and abstract states.
+//!
+//! | words | hold |
+//! |---|---|
+//! | 0, 1 | the magic number, N |
+//! | 2–3 | the empty list, front first: start page + 1 |
+//! | 4–35 | the class lists in class order, each front first: 1 + 256 × class + page |
+//! | 36–1,023 | zeros |
+//! | 1,024 + 520 × p | what starts at page p |
+//!
+//! A free run is 1 and its pages; a direct block 2, its pages and its group. A zone has 64 words
+//! and then 4,096 slots. The words are 3, the class, k, the chain's length and the first link. A
+//! slot is 0 for an untouched chunk, the group of a live one, and 13 + a link for a returned one. A
+//! link is 0 where the chain ends, otherwise 1 + the next chunk. Lists are filled up with zeros,
+//! and every word that is not named is zero.
+//!
+//! [`decode`] and [`encode`] share these numbers and nothing else: neither is written by means of
+//! the other.
+
+mod decode;
+mod encode;
+
+pub use decode::decode;
+pub use encode::encode;
+
+use reference::state::Page;
+use std::ops::Range;
+
+/// Word 0.
+pub const MAGIC: u32 = 1_313_821_524;
+/// Words before those of the pages.
+pub const HEADER_WORDS: usize = 1_024;
+/// Words of one page.
+pub const PAGE_WORDS: usize = 520;
+/// The places of the empty list.
+pub const EMPTY_LIST: Range<usize> = 2..4;
+/// The places of all class lists together.
+pub const CLASS_LISTS: Range<usize> = 4..36;
+/// An entry of a class's list is one more than the page and this many times the class.
+pub const CLASS_STRIDE: u32 = 256;
+/// The first word of a free run.
+pub const RUN: u32 = 1;
+/// The first word of a direct block.
+pub const DIRECT: u32 = 2;
+/// The first word of a zone.
+pub const ZONE: u32 = 3;
+/// Words of a zone before its slots.
+pub const ZONE_HEAD: usize = 64;
+/// Slots of a zone, whatever its class.
+pub const ZONE_SLOTS: usize = 4_096;
+/// The slot of a returned chunk is its link and this.
+pub const RETURNED: u32 = 13;
+
+/// How many words the encoding of an arena has.
+pub fn used_words(pages: u32) -> usize {
+    HEADER_WORDS + PAGE_WORDS * pages as usize
+}
+
+/// The first word of what starts at a page.
+pub fn page_at(page: Page) -> usize {
+    used_words(page)
+}
+
+/// The slot of a chunk in the zone that starts at a page.
+pub fn slot_at(zone: Page, chunk: u32) -> usize {
+    page_at(zone) + ZONE_HEAD + chunk as usize
+}

@@ -1,0 +1,168 @@
+//! From words to the state that they encode, if they do.
+//!
+//! The layout's own rules are seen to here: what stands where, which words are zero, that links and
+//! lengths agree. Whether what is read is a legal state is left to the second program's clauses.
+
+use super::{
+    used_words, CLASS_LISTS, CLASS_STRIDE, DIRECT, EMPTY_LIST, HEADER_WORDS, MAGIC, PAGE_WORDS,
+    RETURNED, RUN, ZONE, ZONE_HEAD,
+};
+use reference::sizes::{chunk_count, CLASSES, MAX_PAGES, ZONE_PAGES};
+use reference::state::{no_lists, DirectBlock, Group, Page, Run, State, Zone};
+use reference::validity::is_valid;
+use std::collections::{BTreeMap, VecDeque};
+
+/// The legal state whose encoding the words begin with; `None` if there is none. Later words are
+/// not read.
+pub fn decode(words: &[u32]) -> Option<State> {
+    let pages = page_count(words)?;
+    let used = words.get(..used_words(pages))?;
+    let (header, body) = used.split_at(HEADER_WORDS);
+    if !are_zero(&header[CLASS_LISTS.end..]) {
+        return None;
+    }
+    let empty = entries(&header[EMPTY_LIST])?;
+    let lists = class_lists(&header[CLASS_LISTS])?;
+    let Segments {
+        runs,
+        direct,
+        zones,
+    } = segments(body)?;
+    let state = State::from_parts(pages, runs, direct, zones, lists, empty.into());
+    is_valid(&state).then_some(state)
+}
+
+/// N, which says how many words there have to be, so its range comes before everything else.
+fn page_count(words: &[u32]) -> Option<u32> {
+    match *words {
+        [MAGIC, pages, ..] if (1..=MAX_PAGES).contains(&pages) => Some(pages),
+        _ => None,
+    }
+}
+
+/// A list's entries, each less by the one that tells it from a free place. No entry comes after a
+/// free place.
+fn entries(places: &[u32]) -> Option<Vec<u32>> {
+    let count = places.iter().take_while(|place| **place != 0).count();
+    let (taken, free) = places.split_at(count);
+    are_zero(free).then(|| taken.iter().map(|place| place - 1).collect())
+}
+
+/// The list of each class; in the words they stand in class order.
+fn class_lists(places: &[u32]) -> Option<Vec<VecDeque<Page>>> {
+    let mut lists = no_lists();
+    let mut last = 0;
+    for entry in entries(places)? {
+        let class = entry / CLASS_STRIDE;
+        if class < last || class >= CLASSES {
+            return None;
+        }
+        lists[class as usize].push_back(entry % CLASS_STRIDE);
+        last = class;
+    }
+    Some(lists)
+}
+
+/// What the words behind the header have been found to hold.
+#[derive(Default)]
+struct Segments {
+    runs: Vec<Run>,
+    direct: BTreeMap<Page, DirectBlock>,
+    zones: BTreeMap<Page, Zone>,
+}
+
+/// Segments from the first page on, each where the one before ends, up to the last word.
+fn segments(mut rest: &[u32]) -> Option<Segments> {
+    let mut found = Segments::default();
+    let mut page = 0;
+    while !rest.is_empty() {
+        let pages = match rest[0] {
+            ZONE => ZONE_PAGES,
+            _ => rest[1],
+        };
+        let (own, behind) = split(rest, pages)?;
+        found.take(page, own)?;
+        page += pages;
+        rest = behind;
+    }
+    Some(found)
+}
+
+/// The words of the next pages, of which there is at least one, and those behind them.
+fn split(rest: &[u32], pages: u32) -> Option<(&[u32], &[u32])> {
+    let words = PAGE_WORDS.checked_mul(pages as usize)?;
+    (words > 0 && words <= rest.len()).then(|| rest.split_at(words))
+}
+
+impl Segments {
+    /// Reads the segment that starts at a page and has these words.
+    fn take(&mut self, start: Page, own: &[u32]) -> Option<()> {
+        let pages = own[1];
+        match own[0] {
+            RUN if are_zero(&own[2..]) => self.runs.push(Run { start, pages }),
+            DIRECT if are_zero(&own[3..]) => {
+                let group = Group::try_from(own[2]).ok()?;
+                self.direct.insert(start, DirectBlock { pages, group });
+            }
+            ZONE => {
+                self.zones.insert(start, zone(own)?);
+            }
+            _ => return None,
+        }
+        Some(())
+    }
+}
+
+/// A zone from its own words.
+fn zone(own: &[u32]) -> Option<Zone> {
+    let (head, slots) = own.split_at(ZONE_HEAD);
+    let (class, handed_out, length, first) = (head[1], head[2], head[3], head[4]);
+    if class >= CLASSES || !are_zero(&head[5..]) {
+        return None;
+    }
+    let (slots, behind) = slots.split_at(chunk_count(class) as usize);
+    if !are_zero(behind) {
+        return None;
+    }
+    Some(Zone {
+        class,
+        handed_out,
+        owners: slots.iter().map(|slot| owner(*slot)).collect(),
+        chain: chain(slots, length, first)?,
+    })
+}
+
+/// The group of a live chunk's slot.
+fn owner(slot: u32) -> Option<Group> {
+    match slot {
+        1..=12 => Some(slot as Group),
+        _ => None,
+    }
+}
+
+/// The chain that starts with a link. It goes through as many chunks as its length says, and no
+/// returned chunk is off it: a slot that nothing leads to would be lost in the state.
+fn chain(slots: &[u32], length: u32, first: u32) -> Option<VecDeque<u32>> {
+    let returned = slots.iter().filter(|slot| **slot >= RETURNED).count();
+    if returned != length as usize {
+        return None;
+    }
+    let mut chain = VecDeque::with_capacity(returned);
+    let mut link = first;
+    while link != 0 {
+        // A chain that leads back to itself has no end: one step too many shows it.
+        if chain.len() == returned {
+            return None;
+        }
+        let chunk = link - 1;
+        chain.push_back(chunk);
+        link = slots.get(chunk as usize)?.checked_sub(RETURNED)?;
+    }
+    (chain.len() == returned).then_some(chain)
+}
+
+/// Whether every word is zero. In parts, so that the compiler can take several words at once.
+fn are_zero(words: &[u32]) -> bool {
+    let part_is_zero = |part: &[u32]| part.iter().fold(0, |all, word| all | word) == 0;
+    words.chunks(64).all(part_is_zero)
+}

@@ -1,0 +1,54 @@
+//! The worked example of docs/LAYOUT.md: its calls are made, and its table holds every word that is not zero.
+
+use reference::calls::Allocator;
+use reference::lines::parse;
+use reference::sizes::words_needed;
+use tests::check::check;
+use tests::layout::encode;
+
+const LAYOUT: &str = include_str!("../../docs/LAYOUT.md");
+
+/// The lines of the document's fenced block that begins with a line.
+fn block(first: &str) -> Vec<&'static str> {
+    let lines = LAYOUT.lines().skip_while(|line| !line.starts_with(first));
+    lines.take_while(|line| !line.starts_with("```")).collect()
+}
+
+/// The words after the document's calls.
+fn words_after_the_calls() -> Vec<u32> {
+    let mut allocator = Allocator::zeroed(words_needed(12));
+    let calls = block("s 12");
+    assert_eq!(calls.len(), 7);
+    for line in calls {
+        allocator.serve(parse(line.as_bytes()).expect("a call"));
+    }
+    encode(allocator.state().expect("a legal state"))
+}
+
+#[test]
+fn the_table_holds_every_word_that_is_not_zero() {
+    let told: Vec<(usize, u32)> = block("word     0  1")
+        .into_iter()
+        .map(|line| {
+            let mut fields = line.split_whitespace().skip(1);
+            let at = fields.next().expect("a place").parse().expect("a number");
+            let word = fields.next().expect("a word").parse().expect("a number");
+            (at, word)
+        })
+        .collect();
+    let words = words_after_the_calls();
+    let stands: Vec<(usize, u32)> = words
+        .into_iter()
+        .enumerate()
+        .filter(|(_, word)| *word != 0)
+        .collect();
+    assert_eq!(told, stands);
+}
+
+#[test]
+fn the_proved_check_accepts_them() {
+    let mut words = words_after_the_calls();
+    assert_eq!(check(&mut words), 1);
+    let short = words.len() - 1;
+    assert_eq!(check(&mut words[..short]), 0);
+}
