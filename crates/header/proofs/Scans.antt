@@ -5,8 +5,7 @@ use mathlib.Core.Bool.{true, false}
 use mathlib.Core.List.{List, [], _∷_, _++_, append-nil}
 use native.Mathlib.Omega.{arith}
 use lib.ListN.{length, getD, set, take, drop, length-set, length-drop, drop-of-length-le}
-use lib.Seq.{drop-length, take-all, append-snoc, drop-set-lt, length-take-le}
-use borrow.Author.Fill.{fill-none, fill-more}
+use lib.Seq.{take-all, append-snoc, drop-set-lt, length-take-le}
 use borrow.Author.Tests.{lt-ltb, le-ltb, le-leb, lt-leb}
 use Rattle.lemmas.specs.Every.{every}
 use Rattle.lemmas.specs.Keep.{keep}
@@ -18,23 +17,6 @@ use Rattle.lemmas.proofs.Heads.{next-word, take-next, take-set-next, drop-set-n
 use Rattle.lemmas.proofs.Distinct.{remove-here, remove-there, remove-append, length-remove}
 use Rattle.header.specs.Keys.{classIn}
 use Rattle.header.specs.Slots.{legalSlots, pushed, shiftedIn, closedUp}
-
--- ---- clearing: i words are zero, the others as they were
-
-pub clear-none : (s : List ℕ) → s ≡ zeros 0 ++ drop 0 s
-unfolding zeros
-clear-none s = fill-none s 0
-
-pub clear-more : (s₀ s : List ℕ) (i : ℕ) → i < length s₀ → s ≡ zeros i ++ drop i s₀ → set s i 0 ≡ zeros (i + 1) ++ drop (i + 1) s₀
-unfolding zeros
-clear-more s₀ s i h e = ap (λ (l : List ℕ). set l i 0) e ∙ fill-more i 0 s₀ h
-
-pub clear-done : (s₀ s : List ℕ) (i : ℕ) → i ≡ length s₀ → s ≡ zeros i ++ drop i s₀ → s ≡ zeros (length s₀)
-clear-done s₀ s i h e =
-    e
-    ∙ ap (λ (k : ℕ). zeros k ++ drop k s₀) h
-    ∙ ap (λ (l : List ℕ). zeros (length s₀) ++ l) (drop-length s₀)
-    ∙ append-nil (zeros (length s₀))
 
 -- ---- the test of slots, from index i on
 

@@ -11,7 +11,6 @@ ghost use Rattle.header.specs.Encoding.{headerWords, spareSlots, listSlo
 ghost use Rattle.header.specs.Front.{frontOf, stands};
 
 mod layout;
-mod scan;
 mod slots;
 
 use layout::AT_LISTS;

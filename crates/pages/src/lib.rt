@@ -216,7 +216,7 @@ fn erase(part: &mut [u32])
     ensures { λ _. ⌜ now (part .exit) ≡ zeros (length (now (part .entry))) ⌝ }
 {
     if part[0] == KIND_ZONE {
-        zone::scan::clear(part);
+        scan::clear(part);
         return;
     }
     part[0] = 0;
@@ -280,7 +280,7 @@ fn segment_size(words: &[u32], left: usize) -> usize
     }
     let e = PAGE * len;
     if kind == KIND_RUN {
-        return pages_if(zone::scan::is_zero(&words[2..e]), len);
+        return pages_if(scan::is_zero(&words[2..e]), len);
     }
     if kind != KIND_DIRECT {
         return 0;
@@ -292,7 +292,7 @@ fn segment_size(words: &[u32], left: usize) -> usize
     if 12 < group {
         return 0;
     }
-    pages_if(zone::scan::is_zero(&words[3..e]), len)
+    pages_if(scan::is_zero(&words[3..e]), len)
 }
 
 // So many pages where the test holds, else 0.

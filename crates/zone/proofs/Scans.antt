@@ -1,19 +1,18 @@
--- What each turn and each end of the code's scans says: clearing words, the slots' interval, the walk along the chain, the
+-- What each turn and each end of the code's scans says: the slots' interval, the walk along the chain, the
 -- check part by part. Assumes nothing.
 use Prim.Native.Nat.{ℕ, zero, suc, _+_, _-_, _≤_, _<_}
 use mathlib.Core.Path.{_≡_, refl, sym, ap, _∙_}
 use mathlib.Core.Bool.{Bool, true, false, _&&_}
-use mathlib.Core.List.{List, _++_, append-nil}
+use mathlib.Core.List.{List}
 use native.Mathlib.Nat.{not-suc-le-zero}
 use native.Mathlib.Omega.{arith}
 use lib.Dec.{ltb, leb, eqb}
-use lib.ListN.{length, getD, set, drop, length-drop}
-use lib.Seq.{drop-length, take-all}
-use borrow.Author.Fill.{fill-none, fill-more}
+use lib.ListN.{length, getD, drop, length-drop}
+use lib.Seq.{take-all}
 use borrow.Author.Tests.{eq-eqb, lt-ltb, le-leb, ltb-true, leb-true}
 use Rattle.lemmas.specs.Every.{every, count}
 use Rattle.lemmas.specs.Parts.{mid}
-use Rattle.lemmas.specs.Zeros.{zeros, isZero}
+use Rattle.lemmas.specs.Zeros.{isZero}
 use Rattle.lemmas.proofs.Cases.{and-left, and-right, refuted}
 use Rattle.lemmas.proofs.Every.{every-at}
 use Rattle.lemmas.proofs.Tests.{false-left, false-right}
@@ -22,23 +21,6 @@ use Rattle.zone.specs.Decoding.{touchedSlots, legalSlot, isReturned, nex
 use Rattle.zone.proofs.Links.{ends-of}
 use Rattle.zone.proofs.Facts.{Head, head-of, head-most, slots-of}
 use Rattle.zone.proofs.Decoded.{length-slots}
-
--- ---- clearing: i words are zero, the others as they were
-
-pub clear-none : (s : List ℕ) → s ≡ zeros 0 ++ drop 0 s
-unfolding zeros
-clear-none s = fill-none s 0
-
-pub clear-more : (s₀ s : List ℕ) (i : ℕ) → i < length s₀ → s ≡ zeros i ++ drop i s₀ → set s i 0 ≡ zeros (i + 1) ++ drop (i + 1) s₀
-unfolding zeros
-clear-more s₀ s i h e = ap (λ (l : List ℕ). set l i 0) e ∙ fill-more i 0 s₀ h
-
-pub clear-done : (s₀ s : List ℕ) (i : ℕ) → i ≡ length s₀ → s ≡ zeros i ++ drop i s₀ → s ≡ zeros (length s₀)
-clear-done s₀ s i h e =
-    e
-    ∙ ap (λ (k : ℕ). zeros k ++ drop k s₀) h
-    ∙ ap (λ (l : List ℕ). zeros (length s₀) ++ l) (drop-length s₀)
-    ∙ append-nil (zeros (length s₀))
 
 -- ---- the interval of legal slots
 

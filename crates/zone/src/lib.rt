@@ -11,7 +11,6 @@ ghost use Rattle.zone.specs.Decoding.{touchedIn, firstIn, headLegal, bod
 ghost use Rattle.zone.specs.Live.{liveChunks};
 
 mod layout;
-pub mod scan;
 pub mod sizes;
 mod slots;
 mod stores;

@@ -1,5 +1,6 @@
 //! Operations on runs and direct blocks.
 
+use super::lists::first_free;
 use crate::subject::Subject;
 use reference::histories::Xorshift;
 use reference::state::Run;
@@ -138,8 +139,8 @@ fn last_pages(subject: &Subject) -> Option<Run> {
     last.into_iter().flatten().find(ends)
 }
 
-/// The first eight pages of a run or a direct block made a zone without a chunk handed out, which
-/// stands on no list yet; or the first fewer ones.
+/// The first eight pages of a run or a direct block made a zone as set-up leaves it, last on the
+/// class lists, on the empty list or on none. Of fewer than eight pages it reaches over the next.
 pub fn turn_pages_to_zone(subject: &mut Subject, random: &mut Xorshift) {
     let run = any_run(subject, random);
     let block = any_block(subject, random).map(|(pages, _)| pages);
@@ -153,7 +154,7 @@ pub fn turn_pages_to_zone(subject: &mut Subject, random: &mut Xorshift) {
             };
             set_run(subject, rest);
         }
-        let list = super::lists::first_free(subject);
+        let list = first_free(subject);
         if random.below(2) == 0 {
             subject.set(list, 1 + 256 * class + pages.start);
         } else if subject.get(2) == 0 {

@@ -133,7 +133,6 @@ pub fn lose_link(subject: &mut Subject, random: &mut Xorshift) {
             let chunk = chain.remove(random.below(chain.len() as u32) as usize);
             let length = head.length;
             head.set_chain(subject, &chain);
-            head.length -= random.below(2) * u32::from(head.length > 0);
             match random.below(3) {
                 0 => subject.set(page_at(head.start) + 3, length),
                 1 => subject.set(head.slot(chunk), 0),
@@ -166,11 +165,9 @@ pub fn cross_links(subject: &mut Subject, random: &mut Xorshift) {
     if let Some(mut head) = any_head(subject, random) {
         if head.chain.len() >= 2 {
             let mut chain = head.chain.clone();
-            let (one, other) = (
-                random.below(chain.len() as u32 - 1) as usize,
-                chain.len() - 1,
-            );
-            let other = random.pick(&[one + 1, other]);
+            let last = chain.len() - 1;
+            let one = random.below(last as u32) as usize;
+            let other = random.pick(&[one + 1, last]);
             if random.below(3) == 0 {
                 let (at_one, at_other) = (head.slot(chain[one]), head.slot(chain[other]));
                 let (a, b) = (subject.get(at_one), subject.get(at_other));

@@ -1,4 +1,4 @@
--- `scan::clear` meets its contract. The loop's invariant: `i` words are zero, the others as they were. Assumes nothing.
+-- `clear` meets its contract. The loop's invariant: `i` words are zero, the others as they were. Assumes nothing.
 use Prim.Native.Nat.{_≤_, _-_}
 use mathlib.Core.List.{_++_}
 use mathlib.Core.Path.{_≡_, refl}
@@ -6,9 +6,9 @@ use native.Mathlib.Omega.{arith}
 use lib.ListN.{length, drop, length-set}
 use borrow.Author.Needs.{needs}
 use Rattle.lemmas.specs.Zeros.{zeros}
-use Rattle.header.proofs.Scans.{clear-none, clear-more, clear-done}
-use Rattle.header.proofs.scan.clear.Statement.{statement}
-use Rattle.header.proofs.scan.clear.Tie as tie
+use Rattle.scan.proofs.Clearing.{clear-none, clear-more, clear-done}
+use Rattle.scan.proofs.clear.Statement.{statement}
+use Rattle.scan.proofs.clear.Tie as tie
 
 abbrev Inv-loop : tie.InvT-loop
 Inv-loop s₀ i₀ s i = (i ≤ length s₀) × (length s ≡ length s₀) × (s ≡ zeros i ++ drop i s₀)

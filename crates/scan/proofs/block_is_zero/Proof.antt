@@ -1,16 +1,16 @@
--- `scan::block_is_zero` meets its contract. The loop's invariant: what is gathered is zero where every word so far is. Assumes nothing.
+-- `block_is_zero` meets its contract. The loop's invariant: what is gathered is zero where every word so far is. Assumes nothing.
 use Prim.Native.Nat.{_≤_, _-_}
 use mathlib.Core.Path.{_≡_, sym}
 use native.Mathlib.Omega.{arith}
 use lib.Dec.{eqb}
 use lib.ListN.{length, take}
 use borrow.Author.Needs.{needs}
-use Rattle.lemmas.proofs.Bits.{or-more}
-use Rattle.lemmas.proofs.Every.{every-nil, every-done}
 use Rattle.lemmas.specs.Every.{every}
 use Rattle.lemmas.specs.Zeros.{isZero}
-use Rattle.zone.proofs.scan.block_is_zero.Statement.{statement}
-use Rattle.zone.proofs.scan.block_is_zero.Tie as tie
+use Rattle.lemmas.proofs.Bits.{or-more}
+use Rattle.lemmas.proofs.Every.{every-nil, every-done}
+use Rattle.scan.proofs.block_is_zero.Statement.{statement}
+use Rattle.scan.proofs.block_is_zero.Tie as tie
 
 abbrev Inv-loop : tie.InvT-loop
 Inv-loop s seen₀ i₀ seen i = (i ≤ length s) × (eqb seen 0 ≡ every isZero (take i s))

@@ -1,4 +1,4 @@
--- `scan::is_zero` meets its contract. The loop's invariant: every word before `i` is zero. Assumes nothing.
+-- `is_zero` meets its contract. The loop's invariant: every word before `i` is zero. Assumes nothing.
 use Prim.Native.Nat.{_+_, _≤_, _-_}
 use mathlib.Core.Bool.{true}
 use mathlib.Core.Path.{_≡_, sym, _∙_}
@@ -9,8 +9,8 @@ use borrow.Author.Tests.{not-true, not-false}
 use Rattle.lemmas.specs.Every.{every}
 use Rattle.lemmas.specs.Zeros.{isZero}
 use Rattle.lemmas.proofs.Every.{every-nil, every-block, every-block-not, every-block-last}
-use Rattle.header.proofs.scan.is_zero.Statement.{statement}
-use Rattle.header.proofs.scan.is_zero.Tie as tie
+use Rattle.scan.proofs.is_zero.Statement.{statement}
+use Rattle.scan.proofs.is_zero.Tie as tie
 
 abbrev Inv-loop : tie.InvT-loop
 Inv-loop s i₀ i = (i ≤ length s) × (every isZero (take i s) ≡ true)
