@@ -6,6 +6,7 @@ use native.Mathlib.Nat.{not-suc-le-zero, le-of-suc-le-suc}
 use native.Mathlib.Numerals.{add-one}
 use native.Mathlib.Omega.{arith}
 use lib.ListN.{length, getD, set, drop, replicate, length-append, drop-of-length-le, List·getD-eq-default}
+use Rattle.model.specs.Perform.{headerWords}
 use Rattle.lemmas.specs.Every.{count}
 use Rattle.lemmas.specs.Times.{times, remove}
 use Rattle.lemmas.specs.Parts.{mid, putMid}
@@ -17,7 +18,7 @@ use Rattle.lemmas.proofs.Zeros.{zeros-add, getD-zeros}
 use Rattle.header.specs.declared.Front.the-variants.{Page, Nothing}
 use Rattle.header.specs.Keys.{key, classIn, keysFrom, keysOf, belowClass, putAt, placeOf, classes, mostPages, keyLimit}
 use Rattle.header.specs.Slots.{slots, holds, shiftedIn, closedUp}
-use Rattle.header.specs.Encoding.{magic, headerEncoding, Encodes, headerWords, spareSlots, listSlots, restWords, atSpare, atLists, atRest}
+use Rattle.header.specs.Encoding.{magic, headerEncoding, Encodes, spareSlots, listSlots, restWords, atSpare, atLists, atRest}
 use Rattle.header.specs.Front.{frontOf}
 use Rattle.header.proofs.Keys.{Below, keys-below, keysBefore, keysBehind, keys-parts, place-is, behind-above, keys-push, keys-remove}
 use Rattle.header.proofs.Entries.{length-slots, slots-none, between, count-slots, shifted-slots, closed-slots}

@@ -12,14 +12,12 @@ use mathlib.Core.Bool.{Bool, _&&_}
 use mathlib.Core.List.{List, [], _∷_, _++_, List·Memᴰ}
 use lib.Dec.{leb, eqb}
 use lib.ListN.{length, getD}
+use Rattle.model.specs.Perform.{headerWords}
 use Rattle.lemmas.specs.Every.{every}
 use Rattle.lemmas.specs.Parts.{mid}
 use Rattle.lemmas.specs.Zeros.{zeros, isZero}
 use Rattle.header.specs.Keys.{classes, mostPages, keyLimit, keysOf, listsOf}
 use Rattle.header.specs.Slots.{slots, entriesIn, legalSlots}
-
-abbrev pub headerWords : ℕ
-headerWords = 1024
 
 -- "NOST"
 abbrev pub magic : ℕ

@@ -5,9 +5,10 @@ ghost use mathlib.Core.Path.{_≡_};
 ghost use mathlib.Core.List.{[], _∷_};
 ghost use Prim.Native.Nat.{_≤_, _<_};
 ghost use lib.ListN.{length, getD, set, drop, replicate};
+ghost use Rattle.model.specs.Perform.{headerWords};
 ghost use Rattle.lemmas.specs.Times.{remove};
 ghost use Rattle.header.specs.Keys.{classes, mostPages, key, keysOf};
-ghost use Rattle.header.specs.Encoding.{headerWords, spareSlots, listSlots, headerEncoding, pagesIn, spareIn, listsIn, Header, isHeader};
+ghost use Rattle.header.specs.Encoding.{spareSlots, listSlots, headerEncoding, pagesIn, spareIn, listsIn, Header, isHeader};
 ghost use Rattle.header.specs.Front.{frontOf, stands};
 
 mod layout;

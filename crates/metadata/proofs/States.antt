@@ -11,6 +11,7 @@ use lib.Dec.{ltb, leb, eqb}
 use lib.ListN.{length, getD, take, drop, length-append, length-drop, length-take}
 use lib.Seq.{getD-take, take-add, take-take, take-at, drop-at, take-all, length-take-le, drop-append-le}
 use borrow.Author.Tests.{leb-true, leb-false, le-leb, ltb-true, ltb-false}
+use Rattle.model.specs.Perform.{headerWords, pageWords}
 use Rattle.lemmas.specs.Parts.{mid}
 use Rattle.lemmas.specs.Zeros.{zeros}
 use Rattle.lemmas.specs.Times.{times}
@@ -122,7 +123,7 @@ module _ (w h g : List ℕ) (a k : ℕ) (lh : length h ≡ a) (lg : length g ≡
 -- The parts of the test.
 pub record Passed (w : List ℕ) : Type 0 where
   pub header : isHeader (headerPart w) ≡ true
-  pub long : 1024 + 520 * pagesIn (headerPart w) ≤ length w
+  pub long : headerWords + pageWords * pagesIn (headerPart w) ≤ length w
   pub segments : legalSegments (pagesIn (headerPart w)) (pagesPart w) ≡ true
   pub lists : listsLegal (decode w) ≡ true
 
@@ -130,24 +131,24 @@ pub passed : (w : List ℕ) → isState w ≡ true → Passed w
 unfolding isState
 passed w t =
     let H = isHeader (headerPart w) in
-    let L = leb (1024 + 520 * pagesIn (headerPart w)) (length w) in
+    let L = leb (headerWords + pageWords * pagesIn (headerPart w)) (length w) in
     let S = legalSegments (pagesIn (headerPart w)) (pagesPart w) in
     let a = and-left (H && L && S) (listsLegal (decode w)) t in
     let b = and-left (H && L) S a in
-    record { header = and-left H L b; long = leb-true (1024 + 520 * pagesIn (headerPart w)) (length w) (and-right H L b); segments = and-right (H && L) S a; lists = and-right (H && L && S) (listsLegal (decode w)) t }
+    record { header = and-left H L b; long = leb-true (headerWords + pageWords * pagesIn (headerPart w)) (length w) (and-right H L b); segments = and-right (H && L) S a; lists = and-right (H && L && S) (listsLegal (decode w)) t }
 
 pub passes : (w : List ℕ) → Passed w → isState w ≡ true
 unfolding isState
 passes w p =
     let H = isHeader (headerPart w) in
-    let L = leb (1024 + 520 * pagesIn (headerPart w)) (length w) in
+    let L = leb (headerWords + pageWords * pagesIn (headerPart w)) (length w) in
     let S = legalSegments (pagesIn (headerPart w)) (pagesPart w) in
-    and-both (H && L && S) (listsLegal (decode w)) (and-both (H && L) S (and-both H L (p .header) (le-leb (1024 + 520 * pagesIn (headerPart w)) (length w) (p .long))) (p .segments)) (p .lists)
+    and-both (H && L && S) (listsLegal (decode w)) (and-both (H && L) S (and-both H L (p .header) (le-leb (headerWords + pageWords * pagesIn (headerPart w)) (length w) (p .long))) (p .segments)) (p .lists)
 
 -- What the words hold: the header and the segments.
 pub record Read (w : List ℕ) : Type 0 where
   pub header : Header (headerPart w)
-  pub long : 1024 + 520 * pagesIn (headerPart w) ≤ length w
+  pub long : headerWords + pageWords * pagesIn (headerPart w) ≤ length w
   pub segments : Holds (pagesPart w) (pagesIn (headerPart w))
   pub apart : Apart false (segmentsOf (pagesPart w))
 
@@ -157,7 +158,7 @@ part-long w a k h = length-mid a k w h
 read-of : (w : List ℕ) → Passed w → Read w
 read-of w p =
     let H = check-header (headerPart w) (p .header) in
-    let S = legal-iff (pagesIn (headerPart w)) (pagesPart w) (part-long w 1024 (520 * pagesIn (headerPart w)) (p .long)) (H .fits .most) .0 (p .segments) in
+    let S = legal-iff (pagesIn (headerPart w)) (pagesPart w) (part-long w headerWords (pageWords * pagesIn (headerPart w)) (p .long)) (H .fits .most) .0 (p .segments) in
     record { header = H; long = p .long; segments = S .0; apart = S .1 }
 
 pub state-read : (w : List ℕ) → isState w ≡ true → Read w
@@ -199,7 +200,7 @@ front-long w a k h = length-take-le a w (omega arith)
 pub state-begins : (w : List ℕ) → isState w ≡ true → BeginsWith w (decode w)
 state-begins w t =
     let r = state-read w t in
-    subst (λ e. take (length e) w ≡ e) (sym (encoding-read w r)) (begins-both w (headerPart w) (pagesPart w) 1024 (520 * pagesIn (headerPart w)) (front-long w 1024 (520 * pagesIn (headerPart w)) (r .long)) (part-long w 1024 (520 * pagesIn (headerPart w)) (r .long)) refl refl)
+    subst (λ e. take (length e) w ≡ e) (sym (encoding-read w r)) (begins-both w (headerPart w) (pagesPart w) headerWords (pageWords * pagesIn (headerPart w)) (front-long w headerWords (pageWords * pagesIn (headerPart w)) (r .long)) (part-long w headerWords (pageWords * pagesIn (headerPart w)) (r .long)) refl refl)
 
 -- The encoding of a valid state passes, and decodes to it -----------------------------------------------------------------------------
 
@@ -213,10 +214,10 @@ module _ (s : State) (v : Valid s) where
   writable : Each Writable (s .segments)
   writable = all-writable false (s .segments) (v .apart) (v .sound)
 
-  G-long : length G ≡ 520 * total (s .segments)
+  G-long : length G ≡ pageWords * total (s .segments)
   G-long = length-segments (s .segments) writable
 
-  pub encode-long : length (encode s) ≡ 1024 + 520 * total (s .segments)
+  pub encode-long : length (encode s) ≡ headerWords + pageWords * total (s .segments)
   unfolding encode
   encode-long = length-append H G ∙ (λ i. length-header (total (s .segments)) (s .spare) (s .lists) i + G-long i)
 
@@ -226,7 +227,7 @@ module _ (s : State) (v : Valid s) where
     two = b
 
     header-is : headerPart w ≡ H
-    header-is = begins-first w H G 1024 (520 * total (s .segments)) (length-header (total (s .segments)) (s .spare) (s .lists)) G-long two
+    header-is = begins-first w H G headerWords (pageWords * total (s .segments)) (length-header (total (s .segments)) (s .spare) (s .lists)) G-long two
 
     header-reads : Encodes (headerPart w) (total (s .segments)) (s .spare) (s .lists)
     header-reads = record { words = header-is; fits = valid-fits s v }
@@ -235,7 +236,7 @@ module _ (s : State) (v : Valid s) where
     count-is = pages-read header-reads
 
     pages-are : pagesPart w ≡ G
-    pages-are = ap (λ n. mid 1024 (520 * n) w) count-is ∙ begins-second w H G 1024 (520 * total (s .segments)) (length-header (total (s .segments)) (s .spare) (s .lists)) G-long two
+    pages-are = ap (λ n. mid headerWords (pageWords * n) w) count-is ∙ begins-second w H G headerWords (pageWords * total (s .segments)) (length-header (total (s .segments)) (s .spare) (s .lists)) G-long two
 
     segments-are : segmentsOf (pagesPart w) ≡ s .segments
     segments-are = ap segmentsOf pages-are ∙ segments-decoded (s .segments) writable
@@ -254,11 +255,11 @@ module _ (s : State) (v : Valid s) where
 
     pub begins-state : isState w ≡ true
     begins-state =
-        let long : 1024 + 520 * total (s .segments) ≤ length w = begins-long w H G 1024 (520 * total (s .segments)) (length-header (total (s .segments)) (s .spare) (s .lists)) G-long two in
+        let long : headerWords + pageWords * total (s .segments) ≤ length w = begins-long w H G headerWords (pageWords * total (s .segments)) (length-header (total (s .segments)) (s .spare) (s .lists)) G-long two in
         passes w (record {
           header = encodes-check header-reads;
           long = omega (arith, count-is);
-          segments = legal-iff (pagesIn (headerPart w)) (pagesPart w) (ap length pages-are ∙ G-long ∙ ap (λ n. 520 * n) (sym count-is)) (omega (arith, count-is, v .most)) .1 (holds-is, subst (Apart false) (sym segments-are) (v .apart));
+          segments = legal-iff (pagesIn (headerPart w)) (pagesPart w) (ap length pages-are ∙ G-long ∙ ap (λ n. pageWords * n) (sym count-is)) (omega (arith, count-is, v .most)) .1 (holds-is, subst (Apart false) (sym segments-are) (v .apart));
           lists = ap listsLegal begins-decoded ∙ lists-are;
         })
 
@@ -287,4 +288,4 @@ zeros-part : (a n : ℕ) → isHeader (take a (zeros n)) ≡ false
 zeros-part a n = ap isHeader (some-zeros a n) ∙ zeros-no-header (length (take a (zeros n)))
 
 pub zeros-none : (n : ℕ) → isState (zeros n) ≡ false
-zeros-none n = refuted (isState (zeros n)) (λ t. true-false (passed (zeros n) t .header) (zeros-part 1024 n))
+zeros-none n = refuted (isState (zeros n)) (λ t. true-false (passed (zeros n) t .header) (zeros-part headerWords n))

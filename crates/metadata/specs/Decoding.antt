@@ -7,8 +7,8 @@ use lib.Dec.{leb}
 use lib.ListN.{length, getD, take}
 use Rattle.lemmas.specs.Parts.{mid}
 use Rattle.model.specs.State.{State}
-use Rattle.model.specs.Perform.{wordsFor, pageWords}
-use Rattle.header.specs.Encoding.{headerWords, pagesIn, spareIn, listsIn, isHeader}
+use Rattle.model.specs.Perform.{headerWords, wordsFor, pageWords}
+use Rattle.header.specs.Encoding.{pagesIn, spareIn, listsIn, isHeader}
 use Rattle.pages.specs.Decoding.{segmentsOf}
 use Rattle.pages.specs.Legal.{legalSegments}
 use Rattle.metadata.specs.Lists.{listsLegal}

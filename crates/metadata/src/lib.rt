@@ -13,14 +13,10 @@ ghost use Rattle.header.specs.Keys.{keysOf};
 ghost use Rattle.header.specs.Encoding.{spareIn, listsIn, Header};
 ghost use Rattle.metadata.specs.Lists.{zoneFits, segmentFits, isOpen, fitFrom};
 ghost use Rattle.metadata.specs.Decoding.{isState};
-
-const HEADER: usize = 1024;
-
-const PAGE: usize = 520;
-
-const ZONE_WORDS: usize = 4160;
-
-const KIND_ZONE: u32 = 3;
+use header::WORDS as HEADER;
+use pages::PAGE;
+use zone::layout::KIND_ZONE;
+use zone::layout::WORDS as ZONE_WORDS;
 
 // Whether the zone at the page stands where it should: a zone with a chunk not live is on its class's list, or on the empty list
 // and idle.

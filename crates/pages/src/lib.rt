@@ -16,6 +16,7 @@ ghost use Rattle.pages.specs.Encoding.{kindOf, segmentEncoding, segments
 ghost use Rattle.pages.specs.Decoding.{segmentsOf, Holds};
 ghost use Rattle.lemmas.specs.Zeros.{zeros};
 ghost use Rattle.pages.specs.Places.{found, runPages, runAtEnd, runAtStart, Stands, spotFrom, Blank};
+use zone::layout::KIND_ZONE;
 
 // What the search for pages finds: a free run, or none that is long enough.
 pub enum Found {
@@ -34,15 +35,14 @@ pub enum Spot {
     Nowhere,
 }
 
-const PAGE: usize = 520;
+// The words of a page.
+pub const PAGE: usize = 520;
 
 const ZONE_PAGES: usize = 8;
 
 const KIND_RUN: u32 = 1;
 
 const KIND_DIRECT: u32 = 2;
-
-const KIND_ZONE: u32 = 3;
 
 // A word as a count of pages.
 fn wide(word: u32) -> usize

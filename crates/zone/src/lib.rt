@@ -10,7 +10,7 @@ ghost use Rattle.zone.specs.Encoding.{zoneWords, slotCount, zoneEncoding
 ghost use Rattle.zone.specs.Decoding.{touchedIn, firstIn, headLegal, bodyLegal, isZone, zoneOf};
 ghost use Rattle.zone.specs.Live.{liveChunks};
 
-mod layout;
+pub mod layout;
 pub mod sizes;
 mod slots;
 mod stores;

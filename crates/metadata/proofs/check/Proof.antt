@@ -1,4 +1,5 @@
 -- `check` meets its contract. Assumes nothing.
+use Rattle.model.specs.Perform.{headerWords}
 use Rattle.metadata.proofs.Checked.{too-short, no-header, pages-missing, part-long, no-segments, segments-hold, lists-decide}
 use Rattle.header.proofs.Exact.{check-header}
 use lib.Seq.{length-take-le}
@@ -13,7 +14,7 @@ returns : tie.Need-returns
 returns c = too-short _ (c .if1 .taken)
 
 slice-aggregate-check : tie.Need-slice-aggregate-check
-slice-aggregate-check c = sym (length-take-le 1024 (c .before .before .before .args .words .now) (omega (arith, c .before .if1 .left)))
+slice-aggregate-check c = sym (length-take-le headerWords (c .before .before .before .args .words .now) (omega (arith, c .before .if1 .left)))
 
 check-requires : tie.Need-check-requires
 check-requires c κs = search needs
@@ -22,7 +23,7 @@ returns-2 : tie.Need-returns-2
 returns-2 c = no-header _ (sym (c .before .check .ensures) ∙ not-true _ (c .if2 .taken))
 
 slice-aggregate-pages : tie.Need-slice-aggregate-pages
-slice-aggregate-pages c = sym (length-take-le 1024 (c .before .before .before .before .before .before .args .words .now) (omega (arith, c .before .before .before .before .if1 .left)))
+slice-aggregate-pages c = sym (length-take-le headerWords (c .before .before .before .before .before .before .args .words .now) (omega (arith, c .before .before .before .before .if1 .left)))
 
 pages-requires : tie.Need-pages-requires
 pages-requires c κs = check-header _ (sym (c .before .before .check .ensures) ∙ not-false _ (c .before .if2 .left))
@@ -55,7 +56,7 @@ returns-4 : tie.Need-returns-4
 returns-4 c = no-segments _ _ (c .before .before .before .before .pages .ensures) (sym (c .before .check2 .ensures) ∙ not-true _ (c .if4 .taken))
 
 slice-aggregate-lists-fit : tie.Need-slice-aggregate-lists-fit
-slice-aggregate-lists-fit c = sym (length-take-le 1024 (c .before .before .before .before .before .before .before .before .before .before .before .before .args .words .now) (omega (arith, c .before .before .before .before .before .before .before .before .before .before .if1 .left)))
+slice-aggregate-lists-fit c = sym (length-take-le headerWords (c .before .before .before .before .before .before .before .before .before .before .before .before .args .words .now) (omega (arith, c .before .before .before .before .before .before .before .before .before .before .if1 .left)))
 
 sub-lists-fit : tie.Need-sub-lists-fit
 sub-lists-fit c = search needs
