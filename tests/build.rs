@@ -1,9 +1,8 @@
-//! Finds the static library of the crate `measure`, which has the proved check, and has it written
-//! where it is missing.
+//! Has the static library of the crate `measure` written, which has the proved check, whenever a
+//! crate has changed, so that the tests meet the code that stands here.
 //!
-//! It is looked for in target/staticlib below the repository's root, or in the folder that the
-//! environment variable NOSTRIMEL_STATICLIB names by its whole path. In the first of the two
-//! `rt staticlib measure` writes it; a folder that is named has it already.
+//! `rt staticlib measure` writes it to target/staticlib below the repository's root. The environment
+//! variable NOSTRIMEL_STATICLIB names another folder, by its whole path, that has it already.
 
 use std::env;
 use std::path::{Path, PathBuf};
@@ -19,7 +18,6 @@ fn main() {
         eprintln!("{reason}");
         exit(1);
     });
-    println!("cargo:rerun-if-changed={}", folder.join(FILE).display());
     println!("cargo:rustc-link-search=native={}", folder.display());
     println!("cargo:rustc-link-lib=static=measure");
 }
@@ -29,16 +27,18 @@ fn find() -> Result<PathBuf, String> {
     if let Some(named) = env::var_os(NAMED) {
         let folder = PathBuf::from(named);
         return if folder.join(FILE).is_file() {
+            println!("cargo:rerun-if-changed={}", folder.join(FILE).display());
             Ok(folder)
         } else {
             Err(format!("{NAMED}: {} has no {FILE}", folder.display()))
         };
     }
     let root = repository();
-    let folder = root.join("target").join("staticlib");
-    if !folder.join(FILE).is_file() {
-        write_library(&root)?;
+    for watched in ["crates", "crates.txt"] {
+        println!("cargo:rerun-if-changed={}", root.join(watched).display());
     }
+    let folder = root.join("target").join("staticlib");
+    write_library(&root)?;
     if folder.join(FILE).is_file() {
         Ok(folder)
     } else {
@@ -59,12 +59,13 @@ fn repository() -> PathBuf {
 /// Proves the crate and writes its library. What `rt` prints is kept from cargo, which would take
 /// lines of it for this program's.
 fn write_library(root: &Path) -> Result<(), String> {
-    let missing = format!("target/staticlib/{FILE} is missing");
     let done = Command::new("rt")
         .args(["staticlib", "measure"])
         .current_dir(root)
         .output()
-        .map_err(|error| format!("{missing}, and rt does not run: {error}"))?;
+        .map_err(|error| {
+            format!("rt does not run, which writes target/staticlib/{FILE}: {error}")
+        })?;
     if done.status.success() {
         return Ok(());
     }
@@ -72,7 +73,7 @@ fn write_library(root: &Path) -> Result<(), String> {
     let said = String::from_utf8_lossy(&said);
     let last = said.trim_end().lines().last().unwrap_or("it says nothing");
     Err(format!(
-        "{missing}, and rt staticlib measure failed ({}): {last}",
+        "rt staticlib measure failed ({}): {last}",
         done.status
     ))
 }

@@ -4,8 +4,8 @@
 //!     cargo test --offline --locked -p tests                  all tests
 //!     cargo test --offline --locked -p tests --test damage    the 1,000,000 cases of damage alone
 //!
-//! The check is linked from the static library of the crate `measure`. Where target/staticlib
-//! lacks it, the build has `rt staticlib measure` write it.
+//! The check is linked from the static library of the crate `measure`, which the build has
+//! `rt staticlib measure` write whenever a crate has changed.
 
 pub mod check;
 pub mod layout;
