@@ -11,3 +11,4 @@ pub mod Given
 pub mod Legal
 pub mod AllLegal
 pub mod Checking
+pub mod Bytes

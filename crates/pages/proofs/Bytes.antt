@@ -1,0 +1,43 @@
+-- The search by page finds the segment that holds a byte, as the model has it. Assumes nothing.
+use Prim.Native.Nat.{ℕ, _+_, _-_, _*_, _/_, _≤_, _<_}
+use mathlib.Core.Path.{_≡_, refl, sym, ap, _∙_, subst}
+use mathlib.Core.List.{List, [], _∷_}
+use mathlib.Core.Bool.{Bool, true, false, cond}
+use mathlib.Core.Option.{Option, none, some}
+use native.Mathlib.Omega.{arith}
+use lib.Dec.{ltb}
+use borrow.Author.Tests.{ltb-true, ltb-false, lt-ltb, le-ltb}
+use Rattle.lemmas.proofs.Cases.{bool}
+use Rattle.model.specs.Arena.{Segment, pages, bytes, Place, locate}
+use Rattle.model.specs.Zone.{Zone}
+use Rattle.pages.specs.Encoding.{kindOf}
+use Rattle.pages.specs.declared.Spot.{Spot}
+use Rattle.pages.specs.declared.Spot.the-variants.{Segment as At, Nowhere}
+use Rattle.pages.specs.Places.{runPages, spotFrom}
+
+-- What the search finds is told by the place of the byte t of the arena: the kind and the pages of the segment that holds it, and the page
+-- at which that begins, so many bytes before t; or nothing.
+abbrev pub Tells : ℕ → Option (Place Zone) → Spot → Type 0
+Tells t none s = s ≡ Nowhere
+Tells t (some a) s = (p b : ℕ) × (s ≡ At p (kindOf (a .segment)) (pages (a .segment)) b) × (p * 4096 + a .away ≡ t)
+
+past-bytes : (p k o : ℕ) → k * 4096 ≤ o → (p + k + (o - k * 4096) / 4096 ≡ p + o / 4096) × ((p + k) * 4096 + (o - k * 4096) ≡ p * 4096 + o)
+past-bytes p k o h = (omega arith, omega arith)
+
+byte-from : (m : List (Segment Zone)) (o b p : ℕ) → Tells (p * 4096 + o) (locate o m) (spotFrom (p + o / 4096) b p m)
+unfolding spotFrom
+byte-from [] o b p = refl
+byte-from (x ∷ r) o b p = bool (ltb o (bytes x))
+    (λ t. rw (t, lt-ltb (p + o / 4096) (p + pages x) (let h = ltb-true o (bytes x) t in omega arith)) (p, b, refl, refl))
+    (λ f.
+    let h : pages x * 4096 ≤ o = ltb-false o (bytes x) f in
+    rw (f, le-ltb (p + o / 4096) (p + pages x) (omega arith)) (
+    subst (λ t. Tells t (locate (o - bytes x) r) (spotFrom (p + o / 4096) (runPages x) (p + pages x) r)) (past-bytes p (pages x) o h .1) (
+    subst (λ q. Tells ((p + pages x) * 4096 + (o - bytes x)) (locate (o - bytes x) r) (spotFrom q (runPages x) (p + pages x) r)) (past-bytes p (pages x) o h .0) (
+    byte-from r (o - bytes x) (runPages x) (p + pages x)))))
+
+-- `find_segment`, asked for the page of a byte, answers with the segment that holds the byte.
+pub byte-found : (m : List (Segment Zone)) (o : ℕ) → Tells o (locate o m) (spotFrom (o / 4096) 0 0 m)
+byte-found m o =
+    subst (λ t. Tells t (locate o m) (spotFrom (o / 4096) 0 0 m)) (let e : 0 * 4096 + o ≡ o = omega arith in e) (
+    subst (λ q. Tells (0 * 4096 + o) (locate o m) (spotFrom q 0 0 m)) (let e : 0 + o / 4096 ≡ o / 4096 = omega arith in e) (byte-from m o 0 0))
