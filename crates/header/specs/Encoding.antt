@@ -6,7 +6,7 @@
 --   words 36 on     zero
 -- An arena of 256 pages has at most 32 zones of 8 pages, so 32 entries are enough for all class lists. `header-iff` says that
 -- the test is exact, `pages-encoded`, `spare-encoded` and `lists-encoded` that there is one encoding. Assumes nothing.
-use Prim.Native.Nat.{ℕ, _≤_, _<_}
+use Prim.Native.Nat.{ℕ, _-_, _≤_, _<_}
 use mathlib.Core.Path.{_≡_}
 use mathlib.Core.Bool.{Bool, _&&_}
 use mathlib.Core.List.{List, [], _∷_, _++_, List·Memᴰ}
@@ -30,9 +30,6 @@ spareSlots = 2
 abbrev pub listSlots : ℕ
 listSlots = 32
 
-abbrev pub restWords : ℕ
-restWords = 988
-
 abbrev pub atSpare : ℕ
 atSpare = 2
 
@@ -41,6 +38,9 @@ atLists = 4
 
 abbrev pub atRest : ℕ
 atRest = 36
+
+abbrev pub restWords : ℕ
+restWords = headerWords - atRest
 
 -- The header of n pages, the empty list and the class lists.
 unfoldable pub headerEncoding : ℕ → List ℕ → List (List ℕ) → List ℕ
