@@ -276,6 +276,9 @@ pub stateOf-some : (w : List ℕ) (s : State) → Valid s → BeginsWith w s →
 unfolding stateOf
 stateOf-some w s v b = rw (begins-state s v w b) (ap some (begins-decoded s v w b))
 
+pub decode-encoded : (s : State) → Valid s → stateOf (encode s) ≡ some s
+decode-encoded s v = stateOf-some (encode s) s v (take-all (length (encode s)) (encode s) (omega arith))
+
 pub stateOf-none : (w : List ℕ) → isState w ≡ false → stateOf w ≡ none
 unfolding stateOf
 stateOf-none w t = rw t

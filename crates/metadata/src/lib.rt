@@ -1,9 +1,8 @@
 // The metadata words as a whole: whether they begin with the words of a valid state (`state-iff`). Any words may be lent.
 ghost use mathlib.Core.Path.{_≡_};
-ghost use mathlib.Core.Bool.{Bool, cond};
+ghost use mathlib.Core.Bool.{true, cond};
 ghost use Prim.Native.Nat.{ℕ, _+_, _<_};
 ghost use lib.ListN.{length};
-ghost use mathlib.Core.Bool.{true};
 ghost use Rattle.model.specs.Arena.{Segment};
 ghost use Rattle.model.specs.Zone.{Zone, full};
 ghost use Rattle.zone.specs.Decoding.{isZone, zoneOf};
