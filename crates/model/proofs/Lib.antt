@@ -16,3 +16,4 @@ pub mod ValidFree
 pub mod ValidTrim
 pub mod Validity
 pub mod Disjoint
+pub mod Groups

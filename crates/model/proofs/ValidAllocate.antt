@@ -179,7 +179,7 @@ module _ (s : State) (h : Valid s) (g : ℕ) (least : 0 < g) (most : g ≤ 12) w
           few = h .few;
         })
 
-    chunk-valid : (l : List ℕ) → listOf s c ≡ l → Valid ((chunkFrom c g s l) .after)
+    pub chunk-valid : (l : List ℕ) → listOf s c ≡ l → Valid ((chunkFrom c g s l) .after)
     chunk-valid [] e = spare-valid e (s .spare) refl
     chunk-valid (p ∷ ps) e =
         let w = h .listed c p (subst (List·Memᴰ p) (sym e) (List·Memᴰ·head refl)) in

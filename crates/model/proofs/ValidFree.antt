@@ -139,6 +139,9 @@ module _ (s : State) (h : Valid s) (o c i g : ℕ) (C : ChunkAt s o c i g) where
     few = h .few;
   }
 
+  pub stays-valid : Valid (arranged s chained (set (s .lists) c relisted) (s .spare))
+  stays-valid = rearranged s chained c p relisted (s .spare) h stays
+
   -- .. or it moves to the front of the empty list, ..
   retires : idleZone z′ ≡ true → length (s .spare) < 2 → Move s chained c p (remove p relisted) (p ∷ s .spare)
   retires t u = record {
@@ -187,12 +190,12 @@ module _ (s : State) (h : Valid s) (o c i g : ℕ) (C : ChunkAt s o c i g) where
     few = h .few;
   }
 
-  chunkBack-valid : Valid (chunkBack c i p z s)
+  pub chunkBack-valid : Valid (chunkBack c i p z s)
   chunkBack-valid = either Valid (idleZone z′ && ltb 1 (length relisted)) _ _
       (λ t. either Valid (ltb (length (s .spare)) 2) _ _
       (λ u. rearranged s chained c p (remove p relisted) (p ∷ s .spare) h (retires (and-left (idleZone z′) (ltb 1 (length relisted)) t) (ltb-true (length (s .spare)) 2 u)))
       (λ _. rearranged s (release (p * 4096) chained) c p (remove p relisted) (s .spare) h returns))
-      (λ _. rearranged s chained c p relisted (s .spare) h stays)
+      (λ _. stays-valid)
 
 -- Any block comes back -----------------------------------------------------------------------------------------------
 

@@ -22,13 +22,13 @@ use Rattle.pages.proofs.Walk.{Read, read-at}
 use Rattle.pages.proofs.Middle.{part-inside, part-words, part-put, edit-stands}
 
 -- The part of an apart list in front of and behind a segment that is no run.
-apart-front : (b : Bool) (l r : List (Segment Zone)) → Apart b (l ++ r) → Apart b l
+pub apart-front : (b : Bool) (l r : List (Segment Zone)) → Apart b (l ++ r) → Apart b l
 apart-front b [] r h = tt
 apart-front b (run n ∷ l) r h = (h .0, h .1, apart-front true l r (h .2))
 apart-front b (direct n g ∷ l) r h = apart-front false l r h
 apart-front b (zone z ∷ l) r h = apart-front false l r h
 
-apart-from : (b : Bool) (l r : List (Segment Zone)) → Apart b (l ++ r) → (c : Bool) × Apart c r
+pub apart-from : (b : Bool) (l r : List (Segment Zone)) → Apart b (l ++ r) → (c : Bool) × Apart c r
 apart-from b [] r h = (b, h)
 apart-from b (run n ∷ l) r h = apart-from true l r (h .2)
 apart-from b (direct n g ∷ l) r h = apart-from false l r h
@@ -105,17 +105,28 @@ ended b (x ∷ (y ∷ r)) h = more (ended (apart-tail b x (y ∷ r) h .0) (y ∷
         go (z ∷ a) q = ap (λ l. endsRun false (x ∷ l)) q ∙ ends-cons false x (z ∷ a) ∙ ends-any (isRun x) false z a ∙ ap (endsRun false) (sym q) ∙ e .no-run
 
 -- A list behind a segment that is no run, without the run that begins it.
-record Begun (l : List (Segment Zone)) (k : ℕ) : Type 0 where
-  rest : List (Segment Zone)
-  is : l ≡ withRun k rest
-  apart : Apart true rest
+pub record Begun (l : List (Segment Zone)) (k : ℕ) : Type 0 where
+  pub rest : List (Segment Zone)
+  pub is : l ≡ withRun k rest
+  pub apart : Apart true rest
 
-begun : (l : List (Segment Zone)) → Apart false l → Begun l (runAtStart l)
+pub begun : (l : List (Segment Zone)) → Apart false l → Begun l (runAtStart l)
 begun [] h = record { rest = []; is = refl; apart = tt }
 begun (run zero ∷ r) h = absurd (omega (arith, h .1))
 begun (run (suc n) ∷ r) h = record { rest = r; is = refl; apart = h .2 }
 begun (direct n g ∷ r) h = record { rest = direct n g ∷ r; is = refl; apart = h }
 begun (zone z ∷ r) h = record { rest = zone z ∷ r; is = refl; apart = h }
+
+-- A segment of len pages at page p, behind a run of b pages (0: none), has come back and is joined with that run and with the one of
+-- `after` pages (0: none) that stood behind it.
+pub record Joined (m : List (Segment Zone)) (p b len : ℕ) (behind : List (Segment Zone)) : Type 0 where
+  pub pre : List (Segment Zone)
+  pub post : List (Segment Zone)
+  pub after : ℕ
+  pub whole : release (p * 4096) m ≡ pre ++ (run (b + len + after) ∷ post)
+  pub starts : total pre ≡ p - b
+  pub low : b ≤ p
+  pub behind-is : behind ≡ withRun after post
 
 module _ {w : List ℕ} {m : List (Segment Zone)} {n p b len : ℕ} {x : Segment Zone} (h : Encodes w m n) (ap-m : Apart false m) (s : Stands m p b x) (size : pages x ≡ len) (no : runPages x ≡ 0) where
   pos : 0 < pages x
@@ -172,3 +183,7 @@ module _ {w : List ℕ} {m : List (Segment Zone)} {n p b len : ℕ} {x : Segment
   pub given-put : (r : ℕ) → r ≡ after → (v : List ℕ) → v ≡ segmentEncoding (run (b + len + r)) → putMid (520 * (p - b)) (520 * (p - b) + 520 * (b + len + r) - 520 * (p - b)) w v ≡ segmentsEncoding (release (p * 4096) m)
   given-put r e v f = subst (λ k. v ≡ segmentEncoding (run (b + len + k)) → putMid (520 * (p - b)) (520 * (p - b) + 520 * (b + len + k) - 520 * (p - b)) w v ≡ segmentsEncoding (release (p * 4096) m)) (sym e)
       (λ g. part-put h (left .rest) between (right .rest) whole-is (p - b) (b + len + after) starts between-size (run (b + len + after) ∷ []) v (g ∙ sym (encoding-one (run (b + len + after)))) ∙ ap segmentsEncoding (sym joined-is)) f
+
+  -- The run that the pages are part of afterwards, and what stands before and behind it.
+  pub given-run : Joined m p b len (s .behind)
+  given-run = record { pre = left .rest; post = right .rest; after = after; whole = joined-is; starts = starts; low = given-inside .0; behind-is = right .is }

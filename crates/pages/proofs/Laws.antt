@@ -47,6 +47,10 @@ size-is (run n) w h = refl
 size-is (direct n g) w h = refl
 size-is (zone z) w h = absurd (h refl)
 
+pub group-is : (n g : ℕ) (w : List ℕ) → getD (segmentEncoding (direct n g) ++ w) 2 0 ≡ g
+unfolding segmentEncoding
+group-is n g w = refl
+
 pub zone-size : (x : Segment Zone) → kindOf x ≡ 3 → pages x ≡ 8
 zone-size (run n) h = absurd (omega arith)
 zone-size (direct n g) h = absurd (omega arith)

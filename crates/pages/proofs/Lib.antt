@@ -12,3 +12,4 @@ pub mod Legal
 pub mod AllLegal
 pub mod Checking
 pub mod Bytes
+pub mod Spots

@@ -58,7 +58,7 @@ pub record Passed (m : List (Segment Zone)) (p b : ℕ) (post : List (Segment Zo
 pub passed-none : (m : List (Segment Zone)) → Passed m 0 0 m
 passed-none m = record { pre = []; whole = refl; starts = refl; ends = refl }
 
-run-at-end : (b : ℕ) (a : List (Segment Zone)) (x : Segment Zone) → runAtEnd b (a ++ (x ∷ [])) ≡ runPages x
+pub run-at-end : (b : ℕ) (a : List (Segment Zone)) (x : Segment Zone) → runAtEnd b (a ++ (x ∷ [])) ≡ runPages x
 run-at-end b [] x = refl
 run-at-end b (y ∷ a) x = run-at-end (runPages y) a x
 

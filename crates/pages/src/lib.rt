@@ -38,7 +38,8 @@ pub enum Spot {
 // The words of a page.
 pub const PAGE: usize = 520;
 
-const ZONE_PAGES: usize = 8;
+// The pages of a zone.
+pub const ZONE_PAGES: usize = 8;
 
 const KIND_RUN: u32 = 1;
 
@@ -52,7 +53,7 @@ fn wide(word: u32) -> usize
 }
 
 // The pages of a segment that is a run, else 0.
-fn run_len(kind: u32, len: usize) -> usize
+pub fn run_len(kind: u32, len: usize) -> usize
     ensures { λ r. ⌜ r ≡ cond (eqb kind 1) len 0 ⌝ }
 {
     if kind == KIND_RUN {
@@ -72,6 +73,15 @@ pub fn size(words: &[u32], n: usize, p: usize) -> usize
         return ZONE_PAGES;
     }
     wide(words[at + 1])
+}
+
+// The group of the direct block that begins at page p.
+pub fn group(words: &[u32], n: usize, p: usize) -> u32
+    requires { ⌜ Holds (now words) n ⌝ }
+    requires { ⌜ ((b k g : ℕ) × Stands (segmentsOf (now words)) p b (direct k g)) ⌝ }
+    ensures { λ r. ⌜ ((b k g : ℕ) → Stands (segmentsOf (now (words .entry))) p b (direct k g) → r ≡ g) ⌝ }
+{
+    words[PAGE * p + 2]
 }
 
 // The first free run, in ascending order, that has `need` pages.

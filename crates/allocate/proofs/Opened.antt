@@ -1,0 +1,143 @@
+-- A zone is set up for a class that has none with a chunk left: what each step asks, and that the words left are those of the state
+-- that the rule makes. Assumes nothing.
+use Prim.Native.Nat.{ℕ, _*_, _<_}
+use mathlib.Core.Path.{_≡_, refl, sym, ap, _∙_, subst}
+use mathlib.Core.List.{List, [], _∷_, List·Memᴰ, List·Memᴰ·head}
+use mathlib.Core.Option.{none, some}
+use native.Mathlib.Omega.{arith}
+use lib.ListN.{length, getD, set, drop}
+use Rattle.model.specs.declared.Answer.the-variants.{Granted, Refused}
+use Rattle.model.specs.declared.Refusal.the-variants.{NoRoom}
+use Rattle.model.specs.Arena.{Segment, zone}
+use Rattle.model.specs.Zone.{Zone, newZone}
+use Rattle.model.specs.State.{State, listOf, putZone}
+use Rattle.model.specs.Pages.{claim, carve}
+use Rattle.model.specs.Valid.{Valid}
+use Rattle.model.specs.Calls.{Outcome}
+use Rattle.model.specs.Allocate.{opened, zoneFrom, fromSpare, chunkFrom}
+use Rattle.model.proofs.ValidAllocate.{chunk-valid}
+use Rattle.header.specs.declared.Front.the-variants.{Page, Nothing}
+use Rattle.header.specs.Front.{frontOf}
+use Rattle.header.specs.Keys.{keysOf}
+use Rattle.header.proofs.Kept.{fits-spare-pop}
+use Rattle.pages.specs.declared.Found.the-variants as search
+use Rattle.pages.specs.Places.{found}
+use Rattle.metadata.specs.Encoding.{encode}
+use Rattle.metadata.specs.Decoding.{decode}
+use Rattle.steps.specs.Lent.{Encodes, ZoneHere}
+use Rattle.steps.specs.Moves.{fronted, spared, rezoned, carved}
+use Rattle.steps.proofs.Lent.{lent-decoded}
+use Rattle.allocate.specs.Outcomes.{Asked}
+use Rattle.allocate.proofs.Found.{front-page, front-nothing, found-run, found-nothing}
+use Rattle.allocate.proofs.Places.{Free, free, zone-begins}
+use Rattle.allocate.proofs.Between.{follows, between, room-for}
+
+module _ {w : List ℕ} {n c g : ℕ} (h : Asked w n c g) (empty : frontOf (listOf (decode w) c) ≡ Nothing) where
+  abbrev s : State
+  s = decode w
+
+  abbrev m : List (Segment Zone)
+  m = s .segments
+
+  abbrev new : Zone
+  new = newZone c g
+
+  none-open : listOf s c ≡ []
+  none-open = front-nothing (listOf s c) empty
+
+  result-valid : (o : Outcome State) → chunkFrom c g s (listOf s c) ≡ o → Valid (o .after)
+  result-valid o e = subst (λ x. Valid (x .after)) e (chunk-valid s (h .good .valid) g (h .least) (h .most) c (h .class) (listOf s c) refl)
+
+  -- The new zone at page p goes onto its list, where the segments are now m′ and the empty list is sp.
+  module _ (p : ℕ) (m′ : List (Segment Zone)) (sp : List ℕ) (rule : chunkFrom c g s (listOf s c) ≡ opened c s m′ p sp) (s₂ : State) (same : s₂ .lists ≡ s .lists) {w₂ : List ℕ} (k : Encodes w₂ s₂) where
+    list-room : length (keysOf (decode w₂ .lists)) < 32
+    list-room = subst (λ x. length (keysOf x) < 32) (sym (ap (λ x. x .lists) (lent-decoded k) ∙ same)) (room-for s (opened c s m′ p sp .after) c p (result-valid (opened c s m′ p sp) rule) (h .good .lent .fits .classes) (h .class) none-open refl)
+
+    list-put : s₂ .segments ≡ m′ → s₂ .spare ≡ sp → {w₃ : List ℕ} → w₃ ≡ encode (fronted c p (decode w₂)) → w₃ ≡ encode (chunkFrom c g s (listOf s c) .after)
+    list-put a b e = follows (λ x. fronted c p x) k e ∙ (λ i. encode (record { segments = a i; lists = (ap (λ ls. set ls c (p ∷ getD ls c [])) same ∙ ap (λ l. set (s .lists) c (p ∷ l)) none-open) i; spare = b i })) ∙ ap (λ o. encode (o .after)) (sym rule)
+
+  -- The first zone of the empty list ------------------------------------------------------------------------------------------------
+
+  module _ {p : ℕ} (front : frontOf (s .spare) ≡ Page p) where
+    abbrev ps : List ℕ
+    ps = front-page (s .spare) p front .0
+
+    spare-is : s .spare ≡ p ∷ ps
+    spare-is = front-page (s .spare) p front .1
+
+    renew-rule : chunkFrom c g s (listOf s c) ≡ opened c s (putZone p new m) p ps
+    renew-rule = ap (chunkFrom c g s) none-open ∙ ap (fromSpare c g s) spare-is
+
+    on-spare : List·Memᴰ p (s .spare)
+    on-spare = subst (List·Memᴰ p) (sym spare-is) (List·Memᴰ·head refl)
+
+    pub renew-page : p < 256
+    renew-page = h .good .lent .fits .spare-pages p on-spare
+
+    pub renew-answer : Granted (p * 4096) ≡ chunkFrom c g s (listOf s c) .answer
+    renew-answer = ap (λ o. o .answer) (sym renew-rule)
+
+    abbrev s₁ : State
+    s₁ = spared (drop 1 (s .spare)) s
+
+    module _ {w₁ : List ℕ} (e : w₁ ≡ encode (spared (drop 1 (s .spare)) s)) where
+      pub behind-words : Encodes w₁ s₁
+      behind-words = record { words = e; fits = fits-spare-pop (h .good .lent .fits); sound = h .good .lent .sound }
+
+      pub behind-zone : ZoneHere (decode w₁) p
+      behind-zone = let f = h .good .valid .spared p on-spare in subst (λ x. ZoneHere x p) (sym (lent-decoded behind-words)) (zone-begins m p (f .0) (f .1))
+
+      module _ {w₂ : List ℕ} (e₂ : w₂ ≡ encode (rezoned p new (decode w₁))) where
+        pub renewed-words : Encodes w₂ (rezoned p new s₁)
+        renewed-words = between s₁ (opened c s (putZone p new m) p ps .after) (behind-words .fits) (result-valid (opened c s (putZone p new m) p ps) renew-rule) (follows (λ x. rezoned p new x) behind-words e₂)
+
+        pub renewed-room : length (keysOf (decode w₂ .lists)) < 32
+        renewed-room = list-room p (putZone p new m) ps renew-rule (rezoned p new s₁) refl renewed-words
+
+        pub renewed : {w₃ : List ℕ} → w₃ ≡ encode (fronted c p (decode w₂)) → w₃ ≡ encode (chunkFrom c g s (listOf s c) .after)
+        renewed e₃ = list-put p (putZone p new m) ps renew-rule (rezoned p new s₁) refl renewed-words refl (ap (drop 1) spare-is) e₃
+
+  -- Pages from the runs -------------------------------------------------------------------------------------------------------------
+
+  module _ (bare : frontOf (s .spare) ≡ Nothing) where
+    zone-rule : chunkFrom c g s (listOf s c) ≡ zoneFrom c g s (claim 8 m)
+    zone-rule = ap (chunkFrom c g s) none-open ∙ ap (fromSpare c g s) (front-nothing (s .spare) bare)
+
+    -- There are none.
+    no-zone : found (claim 8 m) ≡ search.Nothing → chunkFrom c g s (listOf s c) ≡ zoneFrom c g s none
+    no-zone e = zone-rule ∙ ap (zoneFrom c g s) (found-nothing (claim 8 m) e)
+
+    pub no-zone-answer : found (claim 8 m) ≡ search.Nothing → Refused NoRoom ≡ chunkFrom c g s (listOf s c) .answer
+    no-zone-answer e = ap (λ o. o .answer) (sym (no-zone e))
+
+    pub no-zone-words : found (claim 8 m) ≡ search.Nothing → w ≡ encode (chunkFrom c g s (listOf s c) .after)
+    no-zone-words e = h .good .lent .words ∙ ap (λ o. encode (o .after)) (sym (no-zone e))
+
+    module _ {p k : ℕ} (run-found : found (claim 8 m) ≡ search.Run p k) where
+      abbrev m′ : List (Segment Zone)
+      m′ = carve (record { page = p; size = k }) 8 (zone new) m
+
+      claimed : claim 8 m ≡ some (record { page = p; size = k })
+      claimed = found-run (claim 8 m) p k run-found
+
+      open-rule : chunkFrom c g s (listOf s c) ≡ opened c s m′ p (s .spare)
+      open-rule = zone-rule ∙ ap (zoneFrom c g s) claimed
+
+      pub open-free : Free m 8 p k
+      open-free = free m 8 p k (omega arith) claimed
+
+      pub open-page : p < 256
+      open-page = omega (arith, open-free .inside, open-free .enough, h .good .lent .fits .most)
+
+      pub open-answer : Granted (p * 4096) ≡ chunkFrom c g s (listOf s c) .answer
+      open-answer = ap (λ o. o .answer) (sym open-rule)
+
+      module _ {w₁ : List ℕ} (e : w₁ ≡ encode (carved (record { page = p; size = k }) 8 (zone new) s)) where
+        pub open-words : Encodes w₁ (carved (record { page = p; size = k }) 8 (zone new) s)
+        open-words = between s (opened c s m′ p (s .spare) .after) (h .good .lent .fits) (result-valid (opened c s m′ p (s .spare)) open-rule) e
+
+        pub open-room : length (keysOf (decode w₁ .lists)) < 32
+        open-room = list-room p m′ (s .spare) open-rule (carved (record { page = p; size = k }) 8 (zone new) s) refl open-words
+
+        pub opened-words : {w₂ : List ℕ} → w₂ ≡ encode (fronted c p (decode w₁)) → w₂ ≡ encode (chunkFrom c g s (listOf s c) .after)
+        opened-words e₂ = list-put p m′ (s .spare) open-rule (carved (record { page = p; size = k }) 8 (zone new) s) refl open-words refl refl e₂

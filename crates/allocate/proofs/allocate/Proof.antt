@@ -1,0 +1,42 @@
+-- `allocate` meets its contract. Assumes nothing.
+use Rattle.metadata.specs.Decoding.{decode}
+use Rattle.allocate.proofs.Requests.{made, size-most, bad-group, bad-size, accepted}
+use Rattle.model.proofs.Allocated.{group-least, group-most, size-least}
+use borrow.Author.Tests.{not-true, not-false}
+use mathlib.Core.Path.{refl, sym, _∙_}
+use borrow.Author.Needs.{needs}
+use Rattle.allocate.proofs.allocate.Statement.{statement}
+use Rattle.allocate.proofs.allocate.Tie as tie
+
+group-ok-requires : tie.Need-group-ok-requires
+group-ok-requires c κs = search needs
+
+returns : tie.Need-returns
+returns c = let a = c .before .before .before .args in made (bad-group (decode (a .words .now)) (a .group) (a .size) (sym (c .before .group-ok .ensures) ∙ not-true _ (c .if1 .taken))) (refl, c .before .before .before .pre .lent .words)
+
+size-ok-requires : tie.Need-size-ok-requires
+size-ok-requires c κs = search needs
+
+returns-2 : tie.Need-returns-2
+returns-2 c = let a = c .before .before .before .before .before .args in made (bad-size (decode (a .words .now)) (a .group) (a .size) (sym (c .before .before .before .group-ok .ensures) ∙ not-false _ (c .before .before .if1 .left)) (sym (c .before .size-ok .ensures) ∙ not-true _ (c .if2 .taken))) (refl, c .before .before .before .before .before .pre .lent .words)
+
+supply-requires : tie.Need-supply-requires
+supply-requires c κs = let a = c .before .before .before .before .before .before .args in let t = sym (c .before .before .before .before .group-ok .ensures) ∙ not-false _ (c .before .before .before .if1 .left) in let u = sym (c .before .before .size-ok .ensures) ∙ not-false _ (c .before .if2 .left) in (c .before .before .before .before .before .before .pre, (group-least (a .group) t, group-most (a .group) t, size-least (a .size) u, size-most (a .size) u))
+
+same-length : tie.Need-same-length
+same-length c = search needs
+
+returns-3 : tie.Need-returns-3
+returns-3 c = let a = c .before .before .before .before .before .before .before .before .before .args in made (accepted (decode (a .words .now)) (a .group) (a .size) (sym (c .before .before .before .before .before .before .before .group-ok .ensures) ∙ not-false _ (c .before .before .before .before .before .before .if1 .left)) (sym (c .before .before .before .before .before .size-ok .ensures) ∙ not-false _ (c .before .before .before .before .if2 .left))) (c .before .before .supply .ensures)
+
+pub allocate-spec : {M : Type 1} → statement M
+allocate-spec =
+    tie.close
+    (tie.spec
+    group-ok-requires
+    returns
+    size-ok-requires
+    returns-2
+    supply-requires
+    same-length
+    returns-3)

@@ -1,0 +1,57 @@
+-- `open_zone` meets its contract. Assumes nothing.
+use Rattle.allocate.proofs.Opened.{no-zone-answer, no-zone-words, open-free, open-page, open-answer, open-words, open-room, opened-words}
+use Rattle.steps.proofs.Lent.{lent}
+use native.Mathlib.Omega.{arith}
+use mathlib.Core.Path.{sym, _∙_}
+use borrow.Author.Needs.{needs}
+use Rattle.allocate.proofs.open_zone.Statement.{statement}
+use Rattle.allocate.proofs.open_zone.Tie as tie
+
+find-run-requires : tie.Need-find-run-requires
+find-run-requires c κs = c .before .before .pre .0 .good
+
+enum-known-at : tie.Need-enum-known-at
+enum-known-at c = search needs
+
+enum-told : tie.Need-enum-told
+enum-told c = search needs
+
+same-length : tie.Need-same-length
+same-length c = search needs
+
+returns : tie.Need-returns
+returns c = let h = c .before .before .before .before .before .pre in let e = sym (c .before .before .find-run .ensures) ∙ c .enum-told .given .1 in (no-zone-answer (h .0) (h .1 .0) (h .1 .1) e, no-zone-words (h .0) (h .1 .0) (h .1 .1) e)
+
+take-zone-requires : tie.Need-take-zone-requires
+take-zone-requires c κs = let h = c .before .before .before .before .before .before .before .pre in let f = open-free (h .0) (h .1 .0) (h .1 .1) (sym (c .before .before .before .before .find-run .ensures) ∙ c .before .before .at .given .1) in ((h .0 .good .lent, h .0 .good .pages), (f .behind, f .there, f .enough, h .0 .least))
+
+cast-start : tie.Need-cast-start
+cast-start c = let h = c .before .before .before .before .before .before .before .before .before .before .pre in let f = open-page (h .0) (h .1 .0) (h .1 .1) (sym (c .before .before .before .before .before .before .before .find-run .ensures) ∙ c .before .before .before .before .before .at .given .1) in omega arith
+
+list-front-requires : tie.Need-list-front-requires
+list-front-requires c κs = let h = c .before .before .before .before .before .before .before .before .before .before .before .pre in let f = sym (c .before .before .before .before .before .before .before .before .find-run .ensures) ∙ c .before .before .before .before .before .before .at .given .1 in let e = c .before .before .before .take-zone .ensures in (lent (open-words (h .0) (h .1 .0) (h .1 .1) f e), (omega (arith, h .0 .class), open-page (h .0) (h .1 .0) (h .1 .1) f, open-room (h .0) (h .1 .0) (h .1 .1) f e))
+
+mul-t17 : tie.Need-mul-t17
+mul-t17 c = let h = c .before .before .before .before .before .before .before .before .before .before .before .before .before .before .pre in let f = open-page (h .0) (h .1 .0) (h .1 .1) (sym (c .before .before .before .before .before .before .before .before .before .before .before .find-run .ensures) ∙ c .before .before .before .before .before .before .before .before .before .at .given .1) in omega arith
+
+same-length-2 : tie.Need-same-length-2
+same-length-2 c = search needs
+
+returns-2 : tie.Need-returns-2
+returns-2 c = let h = c .before .before .before .before .before .before .before .before .before .before .before .before .before .before .pre in let f = sym (c .before .before .before .before .before .before .before .before .before .before .before .find-run .ensures) ∙ c .before .before .before .before .before .before .before .before .before .at .given .1 in (open-answer (h .0) (h .1 .0) (h .1 .1) f, opened-words (h .0) (h .1 .0) (h .1 .1) f (c .before .before .before .before .before .before .take-zone .ensures) (c .before .before .list-front .ensures))
+
+pub open-zone-spec : {M : Type 1} → statement M
+open-zone-spec =
+    tie.close
+    (tie.spec
+    find-run-requires
+    enum-known-at
+    enum-told
+    same-length
+    returns
+    take-zone-requires
+    cast-start
+    list-front-requires
+    mul-t17
+    same-length-2
+    returns-2)

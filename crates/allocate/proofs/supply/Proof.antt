@@ -1,0 +1,53 @@
+-- `supply` meets its contract. Assumes nothing.
+use Rattle.metadata.specs.Decoding.{decode}
+use Rattle.allocate.proofs.Requests.{made, small, large}
+use Rattle.model.proofs.Sizes.{classed}
+use native.Mathlib.Omega.{arith}
+use borrow.Author.Needs.{needs}
+use Rattle.allocate.proofs.supply.Statement.{statement}
+use Rattle.allocate.proofs.supply.Tie as tie
+
+class-of-size-requires : tie.Need-class-of-size-requires
+class-of-size-requires c κs = search needs
+
+supply-chunk-requires : tie.Need-supply-chunk-requires
+supply-chunk-requires c κs = let h = c .before .before .before .before .pre in let k = classed _ (h .1 .2) (c .before .before .if1 .taken) in record { good = h .0; class = omega (arith, k .below, c .class-of-size .ensures); least = h .1 .0; most = h .1 .1 }
+
+same-length : tie.Need-same-length
+same-length c = search needs
+
+returns : tie.Need-returns
+returns c = let a = c .before .before .before .before .before .before .before .args in made (small (decode (a .words .now)) (a .group) (a .size) _ (c .before .before .before .before .before .if1 .taken) (c .before .before .before .class-of-size .ensures)) (c .before .before .supply-chunk .ensures)
+
+sub-need : tie.Need-sub-need
+sub-need c = search needs
+
+add-need : tie.Need-add-need
+add-need c = search needs
+
+cast-supply-pages : tie.Need-cast-supply-pages
+cast-supply-pages c = search needs
+
+supply-pages-requires : tie.Need-supply-pages-requires
+supply-pages-requires c κs = search needs
+
+same-length-2 : tie.Need-same-length-2
+same-length-2 c = search needs
+
+returns-2 : tie.Need-returns-2
+returns-2 c = let a = c .before .before .before .before .before .before .args in made (large (decode (a .words .now)) (a .group) (a .size) (c .before .before .before .before .if1 .left)) (c .before .before .supply-pages .ensures)
+
+pub supply-spec : {M : Type 1} → statement M
+supply-spec =
+    tie.close
+    (tie.spec
+    class-of-size-requires
+    supply-chunk-requires
+    same-length
+    returns
+    sub-need
+    add-need
+    cast-supply-pages
+    supply-pages-requires
+    same-length-2
+    returns-2)

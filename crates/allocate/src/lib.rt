@@ -1,0 +1,181 @@
+// Allocation (document 01: a request), on all the words of a valid state. Each function does one rule of the model's, out of the
+// steps; the words that it leaves are those of the state that the rule makes.
+ghost use mathlib.Core.Path.{_≡_};
+ghost use Prim.Native.Nat.{_≤_, _<_};
+ghost use Rattle.model.specs.Pages.{claim};
+ghost use Rattle.model.specs.State.{listOf};
+ghost use Rattle.model.specs.Calls.{groupOk, sizeOk};
+ghost use Rattle.model.specs.Allocate.{directFrom, chunkFrom, supplied, allocate as allocated};
+ghost use Rattle.header.specs.declared.Front.the-variants.{Page, Nothing};
+ghost use Rattle.header.specs.Front.{frontOf};
+ghost use Rattle.pages.specs.Places.{found};
+ghost use Rattle.metadata.specs.Decoding.{decode};
+ghost use Rattle.steps.specs.Lent.{Lent, Good};
+ghost use Rattle.allocate.specs.Outcomes.{Asked, Makes};
+use header::Front;
+use header::WORDS as HEADER;
+use model::Answer;
+use model::Refusal;
+use pages::Found;
+
+// The bytes of a page, and the pages of a zone.
+const PAGE_BYTES: u32 = 4096;
+
+const ZONE_PAGES: usize = 8;
+
+// The size from which a request takes whole pages.
+const LARGE: u32 = 8192;
+
+// The groups, and the largest size.
+const GROUPS: u32 = 12;
+
+const MOST_BYTES: u32 = 1048576;
+
+// ---- what is looked up
+
+// The front of the class's list.
+fn list_first(words: &[u32], class: u32) -> Front
+    requires { ⌜ Lent (now words) × (class < 64) ⌝ }
+    ensures { λ r. ⌜ r ≡ frontOf (listOf (decode (now (words .entry))) class) ⌝ }
+{
+    header::first(&words[..HEADER], class)
+}
+
+// The front of the empty list.
+fn spare_first(words: &[u32]) -> Front
+    requires { ⌜ Lent (now words) ⌝ }
+    ensures { λ r. ⌜ r ≡ frontOf (decode (now (words .entry)) .spare) ⌝ }
+{
+    header::spare_first(&words[..HEADER])
+}
+
+// The first free run, in ascending order, that has `need` pages.
+fn find_run(words: &[u32], n: usize, need: usize) -> Found
+    requires { ⌜ Good (now words) n ⌝ }
+    ensures { λ r. ⌜ r ≡ found (claim need (decode (now (words .entry)) .segments)) ⌝ }
+{
+    pages::find_run(&words[HEADER..], n, need)
+}
+
+// ---- whole pages
+
+// `need` whole pages for the group.
+fn supply_pages(words: &mut [u32], n: usize, group: u32, need: usize) -> Answer
+    requires { ⌜ Good (now words) n × (0 < need) ⌝ }
+    ensures { λ r. ⌜ Makes (directFrom need group (decode (now (words .entry))) (claim need (decode (now (words .entry)) .segments))) r (now (words .exit)) ⌝ }
+{
+    let Found::Run { at, len } = find_run(words, n, need) else {
+        return Answer::Refused(Refusal::NoRoom);
+    };
+    steps::take_direct(words, n, at, len, need, group);
+    Answer::Granted((at as u32) * PAGE_BYTES)
+}
+
+// ---- chunks
+
+// The zone that stands first on the class's list serves; once its last chunk goes, it leaves the list.
+fn serve(words: &mut [u32], n: usize, class: u32, page: u32, group: u32) -> Answer
+    requires { ⌜ Asked (now words) n class group ⌝ }
+    requires { ⌜ frontOf (listOf (decode (now words)) class) ≡ Page page ⌝ }
+    ensures { λ r. ⌜ Makes (chunkFrom class group (decode (now (words .entry))) (listOf (decode (now (words .entry))) class)) r (now (words .exit)) ⌝ }
+{
+    let at = page as usize;
+    let chunk = steps::zone_grant(words, at, group);
+    let offset = page * PAGE_BYTES + chunk * zone::sizes::room(class);
+    if !steps::zone_full(words, at) {
+        return Answer::Granted(offset);
+    }
+    steps::list_without(words, class, page);
+    Answer::Granted(offset)
+}
+
+// No zone of the class has a chunk left: the first of the empty list is set up anew.
+fn renew(words: &mut [u32], n: usize, class: u32, page: u32, group: u32) -> Answer
+    requires { ⌜ Asked (now words) n class group ⌝ }
+    requires { ⌜ (frontOf (listOf (decode (now words)) class) ≡ Nothing) × (frontOf (decode (now words) .spare) ≡ Page page) ⌝ }
+    ensures { λ r. ⌜ Makes (chunkFrom class group (decode (now (words .entry))) (listOf (decode (now (words .entry))) class)) r (now (words .exit)) ⌝ }
+{
+    steps::spare_behind(words);
+    steps::zone_renew(words, page as usize, class, group);
+    steps::list_front(words, class, page);
+    Answer::Granted(page * PAGE_BYTES)
+}
+
+// The empty list has no zone either: 8 pages are taken from the runs and set up.
+fn open_zone(words: &mut [u32], n: usize, class: u32, group: u32) -> Answer
+    requires { ⌜ Asked (now words) n class group ⌝ }
+    requires { ⌜ (frontOf (listOf (decode (now words)) class) ≡ Nothing) × (frontOf (decode (now words) .spare) ≡ Nothing) ⌝ }
+    ensures { λ r. ⌜ Makes (chunkFrom class group (decode (now (words .entry))) (listOf (decode (now (words .entry))) class)) r (now (words .exit)) ⌝ }
+{
+    let Found::Run { at, len } = find_run(words, n, ZONE_PAGES) else {
+        return Answer::Refused(Refusal::NoRoom);
+    };
+    steps::take_zone(words, n, at, len, class, group);
+    let start = at as u32;
+    steps::list_front(words, class, start);
+    Answer::Granted(start * PAGE_BYTES)
+}
+
+// A chunk of the class for the group.
+fn supply_chunk(words: &mut [u32], n: usize, class: u32, group: u32) -> Answer
+    requires { ⌜ Asked (now words) n class group ⌝ }
+    ensures { λ r. ⌜ Makes (chunkFrom class group (decode (now (words .entry))) (listOf (decode (now (words .entry))) class)) r (now (words .exit)) ⌝ }
+{
+    if let Front::Page(page) = list_first(words, class) {
+        return serve(words, n, class, page, group);
+    }
+    if let Front::Page(page) = spare_first(words) {
+        return renew(words, n, class, page, group);
+    }
+    open_zone(words, n, class, group)
+}
+
+// ---- the request
+
+// A request of `size` bytes by the group: a chunk below 8,192 bytes, whole pages from there. (The group and the size have been
+// tested.)
+pub fn supply(words: &mut [u32], n: usize, group: u32, size: u32) -> Answer
+    requires { ⌜ Good (now words) n ⌝ }
+    requires { ⌜ (0 < group) × (group ≤ 12) × (0 < size) × (size ≤ 1048576) ⌝ }
+    ensures { λ r. ⌜ Makes (supplied group size (decode (now (words .entry)))) r (now (words .exit)) ⌝ }
+{
+    if size < LARGE {
+        return supply_chunk(words, n, zone::sizes::class_of_size(size), group);
+    }
+    let need = (size + (PAGE_BYTES - 1)) / PAGE_BYTES;
+    supply_pages(words, n, group, need as usize)
+}
+
+// Whether the group may call.
+fn group_ok(group: u32) -> bool
+    ensures { λ r. ⌜ r ≡ groupOk group ⌝ }
+{
+    if group < 1 {
+        return false;
+    }
+    group <= GROUPS
+}
+
+// Whether the size may be asked for.
+fn size_ok(size: u32) -> bool
+    ensures { λ r. ⌜ r ≡ sizeOk size ⌝ }
+{
+    if size < 1 {
+        return false;
+    }
+    size <= MOST_BYTES
+}
+
+// The refusals of a request first, in document 01's order: 4, 5, 6.
+pub fn allocate(words: &mut [u32], n: usize, group: u32, size: u32) -> Answer
+    requires { ⌜ Good (now words) n ⌝ }
+    ensures { λ r. ⌜ Makes (allocated group size (decode (now (words .entry)))) r (now (words .exit)) ⌝ }
+{
+    if !group_ok(group) {
+        return Answer::Refused(Refusal::BadGroup);
+    }
+    if !size_ok(size) {
+        return Answer::Refused(Refusal::BadSize);
+    }
+    supply(words, n, group, size)
+}

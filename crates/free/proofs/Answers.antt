@@ -1,0 +1,76 @@
+-- The answers to a return, by the tests that the code makes. Assumes nothing.
+use Prim.Native.Nat.{ℕ, zero, suc, _+_, _-_, _*_, _/_, _≤_, _<_}
+use mathlib.Core.Path.{_≡_, refl, sym, ap, _∙_, subst}
+use mathlib.Core.List.{List}
+use mathlib.Core.Bool.{Bool, true, false}
+use mathlib.Core.Option.{Option, none, some}
+use native.Mathlib.Omega.{arith}
+use lib.Dec.{eqb}
+use lib.ListN.{getD}
+use borrow.Author.Tests.{eq-eqb, ne-eqb}
+use Rattle.model.specs.declared.Refusal.{Refusal}
+use Rattle.model.specs.declared.Refusal.the-variants.{BadGroup, NoBlock, OtherGroup}
+use Rattle.model.specs.declared.Answer.{Answer}
+use Rattle.model.specs.declared.Answer.the-variants.{Refused, Done}
+use Rattle.model.specs.Sizes.{room, pageBytes}
+use Rattle.model.specs.Arena.{Segment, direct, zone, pages, total}
+use Rattle.model.specs.Zone.{Zone}
+use Rattle.model.specs.State.{State, arranged, zoneAt}
+use Rattle.model.specs.PageMap.{pageMap, whole, chunk, Block, groupOf, blockAt}
+use Rattle.model.specs.Valid.{ValidSegment, Valid}
+use Rattle.model.specs.Pages.{release}
+use Rattle.model.specs.Calls.{Outcome, refuses, answers, groupOk}
+use Rattle.model.specs.Free.{chunkBack, freed, free}
+use Rattle.pages.specs.Places.{Stands, runPages}
+use Rattle.metadata.specs.Encoding.{encode}
+use Rattle.metadata.specs.Decoding.{decode}
+use Rattle.steps.specs.Lent.{Good}
+use Rattle.steps.specs.Moves.{released}
+use Rattle.blocks.specs.declared.Place.the-variants.{Whole, Chunk, Nothing}
+use Rattle.blocks.specs.Places.{Tells}
+use Rattle.blocks.proofs.Standing.{zone-is}
+use Rattle.free.specs.Back.{LiveChunk}
+
+-- What a call answers and leaves, by an equation with the rule.
+pub by-rule : {u : List ℕ} (r : Outcome State) (t : State) (a : Answer) → r ≡ answers t a → u ≡ encode t → (a ≡ r .answer) × (u ≡ encode (r .after))
+by-rule {u} r t a e f = (ap (λ k. k .answer) (sym e), f ∙ ap (λ k. encode (k .after)) (sym e))
+
+module _ (s : State) (g o : ℕ) where
+  pub free-bad : groupOk g ≡ false → free g o s ≡ refuses s BadGroup
+  free-bad t = rw t
+
+  module _ (ok : groupOk g ≡ true) where
+    pub free-none : blockAt (pageMap s) o ≡ none → free g o s ≡ refuses s NoBlock
+    free-none e = rw (ok, e)
+
+    pub free-other : (b : Block) → blockAt (pageMap s) o ≡ some b → (groupOf b ≡ g → ⊥) → free g o s ≡ refuses s OtherGroup
+    free-other b e f = rw (ok, e, ne-eqb (groupOf b) g f)
+
+    pub free-done : (b : Block) → blockAt (pageMap s) o ≡ some b → groupOf b ≡ g → free g o s ≡ answers (freed o b s) Done
+    free-done b e f = rw (ok, e, eq-eqb (groupOf b) g f)
+
+-- The block that was found comes back.
+module _ (s : State) {o p b g : ℕ} where
+  pub whole-freed : (k : ℕ) → Tells s o (Whole p k b g) → freed o (whole k g) s ≡ released p s
+  whole-freed k t = ap (λ q. arranged s (release q (s .segments)) (s .lists) (s .spare)) (sym (t .2))
+
+  pub whole-stands : (k : ℕ) → Tells s o (Whole p k b g) → (x : Segment Zone) × Stands (s .segments) p b x × (pages x ≡ k) × (runPages x ≡ 0)
+  whole-stands k t = (direct k g, t .1, refl, refl)
+
+  module _ (c i : ℕ) (t : Tells s o (Chunk p b c i g)) where
+    zone-here : zoneAt p (s .segments) ≡ t .1 .0
+    zone-here = zone-is s p b (t .1 .0) (t .1 .1)
+
+    pub chunk-freed : freed o (chunk c i g) s ≡ chunkBack (zoneAt p (s .segments) .class) i p (zoneAt p (s .segments)) s
+    chunk-freed = ap (λ q. chunkBack c i q (zoneAt q (s .segments)) s) page ∙ ap (λ k. chunkBack k i p (zoneAt p (s .segments)) s) (sym (ap (λ z. z .class) zone-here ∙ t .1 .2))
+      where
+        page : (o - i * room c) / pageBytes ≡ p
+        page = let e : o - i * room c ≡ p * 4096 = omega (arith, t .2) in ap (λ k. k / 4096) e ∙ omega arith
+
+    pub chunk-lives : 0 < g → LiveChunk s p b i
+    chunk-lives h = record { z = t .1 .0; stands = t .1 .1; live = omega (arith, t .1 .3) }
+
+-- The owner of a block is a group that was tested.
+pub some-group : (owner g : ℕ) → owner ≡ g → (g ≡ 0 → ⊥) → 0 < owner
+some-group zero g e f = absurd (f (sym e))
+some-group (suc k) g e f = omega arith

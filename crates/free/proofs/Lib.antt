@@ -1,0 +1,4 @@
+pub mod Live
+pub mod Retired
+pub mod Settled
+pub mod Answers

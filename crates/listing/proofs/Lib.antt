@@ -1,0 +1,5 @@
+pub mod Rows
+pub mod Lengths
+pub mod Here
+pub mod Walks
+pub mod Into

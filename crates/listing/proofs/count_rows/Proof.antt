@@ -1,0 +1,64 @@
+-- `count_rows` meets its contract. The loop's invariant: the rows so far and those of the segments left are all rows. Assumes nothing.
+use Rattle.listing.proofs.Walks.{Counting, count-start, count-next, count-few, count-more, count-end}
+use Prim.Native.Nat.{_-_}
+use native.Mathlib.Omega.{arith}
+use borrow.Author.Needs.{needs}
+use Rattle.listing.proofs.count_rows.Statement.{statement}
+use Rattle.listing.proofs.count_rows.Tie as tie
+
+abbrev Inv-loop : tie.InvT-loop
+Inv-loop words n kind p₀ rows₀ p rows = Counting kind words n rows p
+
+abbrev μ-loop : tie.MeasureT-loop
+μ-loop words n kind p₀ rows₀ p rows = n - p
+
+loop-holds : tie.Need-loop-holds Inv-loop μ-loop
+loop-holds c = count-start (c .before .pre)
+
+mul-w : tie.Need-mul-w Inv-loop μ-loop
+mul-w c = omega (arith, c .before .loop .inv .most)
+
+mul-same : tie.Need-mul-same Inv-loop μ-loop
+mul-same c = omega (arith, c .before .loop .inv .most)
+
+shared-slice-read-same : tie.Need-shared-slice-read-same Inv-loop μ-loop
+shared-slice-read-same c = let k = count-next (c .before .before .loop .inv) (c .before .loop-test .taken) in omega (arith, k .read .long)
+
+same-requires : tie.Need-same-requires Inv-loop μ-loop
+same-requires c κs = search needs
+
+add-rows : tie.Need-add-rows Inv-loop μ-loop
+add-rows c = omega (arith, count-few (c .before .before .before .loop .inv) (c .before .before .loop-test .taken) _ (c .same .ensures), c .before .before .before .loop .inv .few, c .before .before .before .loop .inv .most)
+
+size-requires : tie.Need-size-requires Inv-loop μ-loop
+size-requires c κs = let k = count-next (c .before .before .before .loop .inv) (c .before .before .loop-test .taken) in (c .before .before .before .before .before .pre, (c .before .before .before .loop .inv .b, k .x, k .stands))
+
+add-p : tie.Need-add-p Inv-loop μ-loop
+add-p c = let k = count-next (c .before .before .before .before .loop .inv) (c .before .before .before .loop-test .taken) in omega (arith, c .size .ensures _ _ (k .stands), k .read .inside, k .read .few)
+
+loop-less : tie.Need-loop-less Inv-loop μ-loop
+loop-less c = let k = count-next (c .before .before .before .before .loop .inv) (c .before .before .before .loop-test .taken) in omega (arith, c .size .ensures _ _ (k .stands), k .read .inside, k .read .ok .0)
+
+loop-again : tie.Need-loop-again Inv-loop μ-loop
+loop-again c = let k = count-next (c .before .before .before .before .loop .inv) (c .before .before .before .loop-test .taken) in count-more (c .before .before .before .before .loop .inv) (c .before .before .before .loop-test .taken) _ (c .before .same .ensures) _ (c .size .ensures _ _ (k .stands))
+
+returns : tie.Need-returns Inv-loop μ-loop
+returns c = count-end (c .before .loop .inv) (c .loop-test .left)
+
+pub count-rows-spec : {M : Type 1} → statement M
+count-rows-spec =
+    tie.close
+    (tie.spec
+    Inv-loop
+    μ-loop
+    loop-holds
+    mul-w
+    mul-same
+    shared-slice-read-same
+    same-requires
+    add-rows
+    size-requires
+    add-p
+    loop-less
+    loop-again
+    returns)

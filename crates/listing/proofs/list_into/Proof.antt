@@ -1,0 +1,46 @@
+-- `list_into` meets its contract: what was measured has room, or nothing is written. Assumes nothing.
+use Rattle.listing.proofs.Into.{not-listed, listed}
+use Rattle.listing.proofs.Lengths.{listing-length}
+use borrow.Author.Tests.{not-true, not-false}
+use mathlib.Core.Path.{sym, _∙_}
+use native.Mathlib.Omega.{arith}
+use borrow.Author.Needs.{needs}
+use Rattle.listing.proofs.list_into.Statement.{statement}
+use Rattle.listing.proofs.list_into.Tie as tie
+
+slice-aggregate-put-listing : tie.Need-slice-aggregate-put-listing
+slice-aggregate-put-listing c = search needs
+
+put-listing-requires : tie.Need-put-listing-requires
+put-listing-requires c κs = search needs
+
+has-room-requires : tie.Need-has-room-requires
+has-room-requires c κs = search needs
+
+returns : tie.Need-returns
+returns c = not-listed _ (c .before .before .before .put-listing .ensures) (sym (c .before .has-room .ensures) ∙ not-true _ (c .if1 .taken))
+
+put-listing-requires-2 : tie.Need-put-listing-requires-2
+put-listing-requires-2 c κs = search needs
+
+cast-bytes : tie.Need-cast-bytes
+cast-bytes c = omega (arith, c .before .before .before .before .before .before .before .put-listing .ensures .next, listing-length (c .before .before .before .before .before .before .before .before .before .before .before .pre))
+
+same-length : tie.Need-same-length
+same-length c = search needs
+
+returns-2 : tie.Need-returns-2
+returns-2 c = listed _ (c .before .before .before .before .before .before .before .put-listing .ensures) (c .before .before .put-listing2 .ensures) (sym (c .before .before .before .before .before .has-room .ensures) ∙ not-false _ (c .before .before .before .before .if1 .left))
+
+pub list-into-spec : {M : Type 1} → statement M
+list-into-spec =
+    tie.close
+    (tie.spec
+    slice-aggregate-put-listing
+    put-listing-requires
+    has-room-requires
+    returns
+    put-listing-requires-2
+    cast-bytes
+    same-length
+    returns-2)

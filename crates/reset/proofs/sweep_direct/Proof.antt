@@ -1,0 +1,24 @@
+-- `sweep_direct` meets its contract. Assumes nothing.
+use Rattle.reset.proofs.Steps.{direct-good, direct-low, direct-run, direct-gone}
+use borrow.Author.Needs.{needs}
+use Rattle.reset.proofs.sweep_direct.Statement.{statement}
+use Rattle.reset.proofs.sweep_direct.Tie as tie
+
+give-back-requires : tie.Need-give-back-requires
+give-back-requires c κs = search needs
+
+sub-behind-run : tie.Need-sub-behind-run
+sub-behind-run c = let h = c .before .before .before .before .before .before .pre in direct-low (h .0) (h .1) (c .before .before .before .give-back .ensures)
+
+behind-run-requires : tie.Need-behind-run-requires
+behind-run-requires c κs = let h = c .before .before .before .before .before .before .pre in let e = c .before .before .before .give-back .ensures in (direct-good (h .0) (h .1) e, direct-run (h .0) (h .1) e)
+
+same-length : tie.Need-same-length
+same-length c = search needs
+
+returns : tie.Need-returns
+returns c = let h = c .before .before .before .before .before .before .before .pre in direct-gone (h .0) (h .1) (c .before .before .before .before .give-back .ensures) _ _ _ (c .behind-run .ensures)
+
+pub sweep-direct-spec : {M : Type 1} → statement M
+sweep-direct-spec =
+    tie.close (tie.spec give-back-requires sub-behind-run behind-run-requires same-length returns)

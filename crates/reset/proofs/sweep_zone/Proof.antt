@@ -1,0 +1,94 @@
+-- `sweep_zone` meets its contract. Assumes nothing.
+use mathlib.Core.Path.{refl}
+use Rattle.reset.proofs.Steps.{walk-long, walk-gone-long, ZoneWalk, zone-begun, walk-start, walk-here, walk-good, walk-few, walk-done, walk-skip, walk-live, walk-stays, walk-low, walk-gone-good, walk-run, walk-gone}
+use native.Mathlib.Omega.{arith}
+use Prim.Native.Nat.{_-_}
+use borrow.Author.Tests.{not-true, not-false}
+use borrow.Author.Needs.{needs}
+use Rattle.reset.proofs.sweep_zone.Statement.{statement}
+use Rattle.reset.proofs.sweep_zone.Tie as tie
+
+abbrev Inv-loop : tie.InvT-loop
+Inv-loop words₀ n p before group touched i₀ count₀ words i count = ZoneWalk group n p before touched words₀ words i count
+
+abbrev μ-loop : tie.MeasureT-loop
+μ-loop words₀ n p before group touched i₀ count₀ words i count = touched - i
+
+zone-touched-requires : tie.Need-zone-touched-requires Inv-loop μ-loop
+zone-touched-requires c κs = let h = c .before .before .pre in (h .1 .3 .good .lent, zone-begun (h .1 .3))
+
+loop-holds : tie.Need-loop-holds Inv-loop μ-loop
+loop-holds c = let h = c .before .before .before .pre in walk-start (h .1 .3) _ (c .zone-touched .ensures)
+
+zone-owner-requires : tie.Need-zone-owner-requires Inv-loop μ-loop
+zone-owner-requires c κs = let h = c .before .before .before .before .before .before .pre in let a = c .before .before .loop .inv in (walk-good (h .1 .3) a .lent, walk-here (h .1 .3) a)
+
+add-i : tie.Need-add-i Inv-loop μ-loop
+add-i c = omega (arith, c .before .before .before .before .loop .inv .most, c .before .before .before .loop-test .taken)
+
+loop-less : tie.Need-loop-less Inv-loop μ-loop
+loop-less c = omega (arith, c .before .before .before .loop-test .taken)
+
+loop-again : tie.Need-loop-again Inv-loop μ-loop
+loop-again c = let h = c .before .before .before .before .before .before .before .before .pre in let a = c .before .before .before .before .loop .inv in walk-skip (h .1 .3) a _ (c .before .zone-owner .ensures) (c .before .before .before .loop-test .taken) (c .if1 .taken)
+
+add-count : tie.Need-add-count Inv-loop μ-loop
+add-count c = omega (arith, c .before .before .before .before .loop .inv .most, c .before .before .before .before .loop .inv .few, c .before .before .before .loop-test .taken)
+
+chunk-back-requires : tie.Need-chunk-back-requires Inv-loop μ-loop
+chunk-back-requires c κs = let h = c .before .before .before .before .before .before .before .before .before .pre in let a = c .before .before .before .before .before .loop .inv in (walk-good (h .1 .3) a, walk-live (h .1 .3) a _ (c .before .before .zone-owner .ensures) (c .before .before .before .before .loop-test .taken) (h .0) (c .before .if1 .left))
+
+sub-behind-run : tie.Need-sub-behind-run Inv-loop μ-loop
+sub-behind-run c = let h = c .before .before .before .before .before .before .before .before .before .before .before .before .before .before .pre in walk-low (h .1 .3) (c .before .before .before .before .before .before .before .before .before .before .loop .inv) _ (c .before .before .before .before .before .before .before .zone-owner .ensures) (c .before .before .before .before .before .before .before .before .before .loop-test .taken) (h .0) (c .before .before .before .before .before .before .if1 .left) (c .before .before .before .before .chunk-back .ensures .0) (c .before .before .before .before .chunk-back .result) (not-true _ (c .before .if2 .taken)) (c .before .before .before .before .chunk-back .ensures .1)
+
+behind-run-requires : tie.Need-behind-run-requires Inv-loop μ-loop
+behind-run-requires c κs = let h = c .before .before .before .before .before .before .before .before .before .before .before .before .before .before .pre in let a = c .before .before .before .before .before .before .before .before .before .before .loop .inv in let e = c .before .before .before .before .before .before .before .zone-owner .ensures in let d = c .before .before .before .before .chunk-back .ensures in (walk-gone-good (h .1 .3) a _ e (c .before .before .before .before .before .before .before .before .before .loop-test .taken) (h .0) (c .before .before .before .before .before .before .if1 .left) (d .0) (c .before .before .before .before .chunk-back .result) (not-true _ (c .before .if2 .taken)) (d .1), walk-run (h .1 .3) a _ e (c .before .before .before .before .before .before .before .before .before .loop-test .taken) (h .0) (c .before .before .before .before .before .before .if1 .left) (d .0) (c .before .before .before .before .chunk-back .result) (not-true _ (c .before .if2 .taken)) (d .1))
+
+same-length : tie.Need-same-length Inv-loop μ-loop
+same-length c = let h = c .before .before .before .before .before .before .before .before .before .before .before .before .before .before .before .pre in let a = c .before .before .before .before .before .before .before .before .before .before .before .loop .inv in let e = c .before .before .before .before .before .before .before .before .zone-owner .ensures in let d = c .before .before .before .before .before .chunk-back .ensures in walk-gone-long (h .1 .3) a _ e (c .before .before .before .before .before .before .before .before .before .before .loop-test .taken) (h .0) (c .before .before .before .before .before .before .before .if1 .left) (d .0) (c .before .before .before .before .before .chunk-back .result) (not-true _ (c .before .before .if2 .taken)) (d .1)
+
+returns : tie.Need-returns Inv-loop μ-loop
+returns c = let h = c .before .before .before .before .before .before .before .before .before .before .before .before .before .before .before .pre in let a = c .before .before .before .before .before .before .before .before .before .before .before .loop .inv in let e = c .before .before .before .before .before .before .before .before .zone-owner .ensures in let d = c .before .before .before .before .before .chunk-back .ensures in walk-gone (h .1 .3) a _ e (c .before .before .before .before .before .before .before .before .before .before .loop-test .taken) (h .0) (c .before .before .before .before .before .before .before .if1 .left) (d .0) (c .before .before .before .before .before .chunk-back .result) (not-true _ (c .before .before .if2 .taken)) (d .1) _ _ _ (c .behind-run .ensures)
+
+add-i-2 : tie.Need-add-i-2 Inv-loop μ-loop
+add-i-2 c = search needs
+
+loop-less-2 : tie.Need-loop-less-2 Inv-loop μ-loop
+loop-less-2 c = search needs
+
+loop-again-2 : tie.Need-loop-again-2 Inv-loop μ-loop
+loop-again-2 c = let h = c .before .before .before .before .before .before .before .before .before .before .before .before .before .pre in let a = c .before .before .before .before .before .before .before .before .before .loop .inv in let e = c .before .before .before .before .before .before .zone-owner .ensures in let d = c .before .before .before .chunk-back .ensures in walk-stays (h .1 .3) a _ e (c .before .before .before .before .before .before .before .before .loop-test .taken) (h .0) (c .before .before .before .before .before .if1 .left) (d .0) (c .before .before .before .chunk-back .result) (not-false _ (c .if2 .left)) (d .1)
+
+add-next : tie.Need-add-next Inv-loop μ-loop
+add-next c = let h = c .before .before .before .before .before .pre in omega (arith, walk-few (h .1 .3) (c .before .loop .inv))
+
+same-length-2 : tie.Need-same-length-2 Inv-loop μ-loop
+same-length-2 c = let h = c .before .before .before .before .before .pre in walk-long (h .1 .3) (c .before .loop .inv)
+
+returns-2 : tie.Need-returns-2 Inv-loop μ-loop
+returns-2 c = let h = c .before .before .before .before .before .pre in (λ t x k q. walk-done (h .1 .3) (c .before .loop .inv) (h .0) (c .loop-test .left) _ refl t x k q, omega arith)
+
+pub sweep-zone-spec : {M : Type 1} → statement M
+sweep-zone-spec =
+    tie.close
+    (tie.spec
+    Inv-loop
+    μ-loop
+    zone-touched-requires
+    loop-holds
+    zone-owner-requires
+    add-i
+    loop-less
+    loop-again
+    add-count
+    chunk-back-requires
+    sub-behind-run
+    behind-run-requires
+    same-length
+    returns
+    add-i-2
+    loop-less-2
+    loop-again-2
+    add-next
+    same-length-2
+    returns-2)

@@ -1,0 +1,5 @@
+pub mod Lent
+pub mod Body
+pub mod ZonePart
+pub mod Kept
+pub mod Segments

@@ -1,0 +1,42 @@
+-- `give_back` meets its contract. Assumes nothing.
+use Rattle.steps.proofs.Body.{has-pages, has-header, body-holds, in-body, body-back, release-total}
+use mathlib.Core.Bool.{false}
+use mathlib.Core.Path.{_≡_}
+use Prim.Native.Nat.{_*_}
+use Rattle.pages.specs.Places.{Stands, runPages}
+use Rattle.model.specs.Valid.{Apart}
+use Rattle.model.specs.Pages.{release}
+use Rattle.model.specs.Zone.{Zone}
+use Rattle.model.specs.Arena.{Segment, pages}
+use borrow.Author.Needs.{needs}
+use Rattle.steps.proofs.give_back.Statement.{statement}
+use Rattle.steps.proofs.give_back.Tie as tie
+
+sub-give-back : tie.Need-sub-give-back
+sub-give-back c = has-header (c .before .pre .0 .0)
+
+part-give-back-start : tie.Need-part-give-back-start
+part-give-back-start c = has-header (c .before .pre .0 .0)
+
+part-give-back-end : tie.Need-part-give-back-end
+part-give-back-end c = search needs
+
+give-back-requires : tie.Need-give-back-requires
+give-back-requires c κs = let h = c .before .before .pre in (body-holds (h .0 .0) _ (h .0 .1), (in-body (h .0 .0) (λ m. Apart false m) (h .1 .0), in-body (h .0 .0) (λ m. (x : Segment Zone) × Stands m (c .before .before .args .at) (c .before .before .args .before) x × (pages x ≡ c .before .before .args .len) × (runPages x ≡ 0)) (h .1 .1)))
+
+same-length : tie.Need-same-length
+same-length c = search needs
+
+returns : tie.Need-returns
+returns c = let h = c .before .before .before .before .before .pre in body-back (h .0 .0) _ (λ m. release (c .before .before .before .before .before .args .at * 4096) m) (release-total (h .1 .1 .1) (has-pages (h .0 .0) (h .1 .1 .1))) (c .before .before .give-back .ensures)
+
+pub give-back-spec : {M : Type 1} → statement M
+give-back-spec =
+    tie.close
+    (tie.spec
+    sub-give-back
+    part-give-back-start
+    part-give-back-end
+    give-back-requires
+    same-length
+    returns)

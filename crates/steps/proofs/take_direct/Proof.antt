@@ -1,0 +1,39 @@
+-- `take_direct` meets its contract. Assumes nothing.
+use mathlib.Core.Path.{refl}
+use Prim.Native.Nat.{ℕ, _<_, _≤_}
+use Rattle.pages.specs.Places.{Stands}
+use Rattle.model.specs.Pages.{carve}
+use Rattle.model.specs.Arena.{run, direct}
+use Rattle.steps.proofs.Body.{has-header, body-holds, in-body, body-back, carve-total}
+use borrow.Author.Needs.{needs}
+use Rattle.steps.proofs.take_direct.Statement.{statement}
+use Rattle.steps.proofs.take_direct.Tie as tie
+
+sub-take-direct : tie.Need-sub-take-direct
+sub-take-direct c = has-header (c .before .pre .0 .0)
+
+part-take-direct-start : tie.Need-part-take-direct-start
+part-take-direct-start c = has-header (c .before .pre .0 .0)
+
+part-take-direct-end : tie.Need-part-take-direct-end
+part-take-direct-end c = search needs
+
+take-direct-requires : tie.Need-take-direct-requires
+take-direct-requires c κs = let h = c .before .before .pre in (body-holds (h .0 .0) _ (h .0 .1), in-body (h .0 .0) (λ m. (b : ℕ) × Stands m (c .before .before .args .at) b (run (c .before .before .args .len)) × (0 < c .before .before .args .need) × (c .before .before .args .need ≤ c .before .before .args .len)) (h .1))
+
+same-length : tie.Need-same-length
+same-length c = search needs
+
+returns : tie.Need-returns
+returns c = let h = c .before .before .before .before .before .pre in body-back (h .0 .0) _ (λ m. carve (record { page = c .before .before .before .before .before .args .at; size = c .before .before .before .before .before .args .len }) (c .before .before .before .before .before .args .need) (direct (c .before .before .before .before .before .args .need) (c .before .before .before .before .before .args .group)) m) (carve-total (h .1 .1) (c .before .before .before .before .before .args .need) (direct (c .before .before .before .before .before .args .need) (c .before .before .before .before .before .args .group)) refl (h .1 .2) (h .1 .3)) (c .before .before .take-direct .ensures)
+
+pub take-direct-spec : {M : Type 1} → statement M
+take-direct-spec =
+    tie.close
+    (tie.spec
+    sub-take-direct
+    part-take-direct-start
+    part-take-direct-end
+    take-direct-requires
+    same-length
+    returns)

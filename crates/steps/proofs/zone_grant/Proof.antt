@@ -1,0 +1,49 @@
+-- `zone_grant` meets its contract. Assumes nothing.
+use native.Mathlib.Omega.{arith}
+use mathlib.Core.Path.{_∙_, ap}
+use Rattle.model.specs.Zone.{full, nextChunk, granted}
+use Rattle.steps.proofs.ZonePart.{part-page, part-end, part-zone, part-is, part-put}
+use borrow.Author.Needs.{needs}
+use Rattle.steps.proofs.zone_grant.Statement.{statement}
+use Rattle.steps.proofs.zone_grant.Tie as tie
+
+zone-start-requires : tie.Need-zone-start-requires
+zone-start-requires c κs = let h = c .before .pre in part-page (h .0) _ (h .1)
+
+add-e : tie.Need-add-e
+add-e c = let h = c .before .before .pre in let r = part-end (h .0) _ (h .1) _ (c .zone-start .ensures) in omega arith
+
+mul-grant : tie.Need-mul-grant
+mul-grant c = let h = c .before .before .pre in let r = part-end (h .0) _ (h .1) _ (c .zone-start .ensures) in omega arith
+
+sub-grant : tie.Need-sub-grant
+sub-grant c = search needs
+
+part-grant-start : tie.Need-part-grant-start
+part-grant-start c = search needs
+
+part-grant-end : tie.Need-part-grant-end
+part-grant-end c = let h = c .before .before .pre in let r = part-end (h .0) _ (h .1) _ (c .zone-start .ensures) in omega arith
+
+grant-requires : tie.Need-grant-requires
+grant-requires c κs = let h = c .before .before .before .pre in let a = c .before .zone-start .ensures in (part-zone (h .0) _ (h .1) _ a, ap (λ z. full z) (part-is (h .0) _ (h .1) _ a) ∙ h .2, h .3)
+
+same-length : tie.Need-same-length
+same-length c = search needs
+
+returns : tie.Need-returns
+returns c = let h = c .before .before .before .before .before .before .pre in let a = c .before .before .before .before .zone-start .ensures in let e = c .before .before .grant .ensures in (e .0 ∙ ap (λ z. nextChunk z) (part-is (h .0) _ (h .1) _ a), part-put (h .0) _ (h .1) _ a (λ z. granted (c .before .before .before .before .before .before .args .group) z) _ (e .1))
+
+pub zone-grant-spec : {M : Type 1} → statement M
+zone-grant-spec =
+    tie.close
+    (tie.spec
+    zone-start-requires
+    add-e
+    mul-grant
+    sub-grant
+    part-grant-start
+    part-grant-end
+    grant-requires
+    same-length
+    returns)

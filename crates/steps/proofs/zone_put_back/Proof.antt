@@ -1,0 +1,51 @@
+-- `zone_put_back` meets its contract. Assumes nothing.
+use Prim.Native.Nat.{_<_}
+use native.Mathlib.Omega.{arith}
+use mathlib.Core.Path.{sym, subst}
+use lib.ListN.{getD}
+use Rattle.model.specs.Zone.{putBack}
+use Rattle.steps.proofs.ZonePart.{part-page, part-end, part-zone, part-is, part-put}
+use borrow.Author.Needs.{needs}
+use Rattle.steps.proofs.zone_put_back.Statement.{statement}
+use Rattle.steps.proofs.zone_put_back.Tie as tie
+
+zone-start-requires : tie.Need-zone-start-requires
+zone-start-requires c κs = let h = c .before .pre in part-page (h .0) _ (h .1)
+
+add-e : tie.Need-add-e
+add-e c = let h = c .before .before .pre in let r = part-end (h .0) _ (h .1) _ (c .zone-start .ensures) in omega arith
+
+mul-put-back : tie.Need-mul-put-back
+mul-put-back c = let h = c .before .before .pre in let r = part-end (h .0) _ (h .1) _ (c .zone-start .ensures) in omega arith
+
+sub-put-back : tie.Need-sub-put-back
+sub-put-back c = search needs
+
+part-put-back-start : tie.Need-part-put-back-start
+part-put-back-start c = search needs
+
+part-put-back-end : tie.Need-part-put-back-end
+part-put-back-end c = let h = c .before .before .pre in let r = part-end (h .0) _ (h .1) _ (c .zone-start .ensures) in omega arith
+
+put-back-requires : tie.Need-put-back-requires
+put-back-requires c κs = let h = c .before .before .before .pre in let a = c .before .zone-start .ensures in (part-zone (h .0) _ (h .1) _ a, subst (λ z. 0 < getD (z .owners) (c .before .before .before .args .chunk) 0) (sym (part-is (h .0) _ (h .1) _ a)) (h .2))
+
+same-length : tie.Need-same-length
+same-length c = search needs
+
+returns : tie.Need-returns
+returns c = let h = c .before .before .before .before .before .before .pre in let a = c .before .before .before .before .zone-start .ensures in part-put (h .0) _ (h .1) _ a (λ z. putBack (c .before .before .before .before .before .before .args .chunk) z) _ (c .before .before .put-back .ensures)
+
+pub zone-put-back-spec : {M : Type 1} → statement M
+zone-put-back-spec =
+    tie.close
+    (tie.spec
+    zone-start-requires
+    add-e
+    mul-put-back
+    sub-put-back
+    part-put-back-start
+    part-put-back-end
+    put-back-requires
+    same-length
+    returns)

@@ -1,0 +1,48 @@
+-- `zone_renew` meets its contract. Assumes nothing.
+use native.Mathlib.Omega.{arith}
+use Rattle.model.specs.Zone.{newZone}
+use Rattle.steps.proofs.ZonePart.{part-page, part-end, part-put}
+use borrow.Author.Needs.{needs}
+use Rattle.steps.proofs.zone_renew.Statement.{statement}
+use Rattle.steps.proofs.zone_renew.Tie as tie
+
+zone-start-requires : tie.Need-zone-start-requires
+zone-start-requires c κs = let h = c .before .pre in part-page (h .0) _ (h .1)
+
+add-e : tie.Need-add-e
+add-e c = let h = c .before .before .pre in let r = part-end (h .0) _ (h .1) _ (c .zone-start .ensures) in omega arith
+
+mul-set-up : tie.Need-mul-set-up
+mul-set-up c = let h = c .before .before .pre in let r = part-end (h .0) _ (h .1) _ (c .zone-start .ensures) in omega arith
+
+sub-set-up : tie.Need-sub-set-up
+sub-set-up c = search needs
+
+part-set-up-start : tie.Need-part-set-up-start
+part-set-up-start c = search needs
+
+part-set-up-end : tie.Need-part-set-up-end
+part-set-up-end c = let h = c .before .before .pre in let r = part-end (h .0) _ (h .1) _ (c .zone-start .ensures) in omega arith
+
+set-up-requires : tie.Need-set-up-requires
+set-up-requires c κs = search needs
+
+same-length : tie.Need-same-length
+same-length c = search needs
+
+returns : tie.Need-returns
+returns c = let h = c .before .before .before .before .before .before .pre in let a = c .before .before .before .before .zone-start .ensures in part-put (h .0) _ (h .1) _ a (λ _. newZone (c .before .before .before .before .before .before .args .class) (c .before .before .before .before .before .before .args .group)) _ (c .before .before .set-up .ensures)
+
+pub zone-renew-spec : {M : Type 1} → statement M
+zone-renew-spec =
+    tie.close
+    (tie.spec
+    zone-start-requires
+    add-e
+    mul-set-up
+    sub-set-up
+    part-set-up-start
+    part-set-up-end
+    set-up-requires
+    same-length
+    returns)

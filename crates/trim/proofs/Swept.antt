@@ -1,0 +1,147 @@
+-- The lists as trim changes them, one idle zone after another in ascending page order; in a valid state they end as the model's rule
+-- says. Assumes nothing.
+use Prim.Native.Nat.{ℕ, _+_, _-_, _*_, _≤_, _<_}
+use mathlib.Core.Path.{_≡_, refl, sym, ap, _∙_, subst}
+use mathlib.Core.Bool.{Bool, true, false, cond, not, _&&_}
+use mathlib.Core.List.{List, [], _∷_, _++_, map, List·Memᴰ, List·Memᴰ·head, List·Memᴰ·tail}
+use mathlib.Core.Option.{Option, Option·none-ne-some}
+use native.Mathlib.Omega.{arith}
+use lib.Dec.{ltb, eqb}
+use lib.ListN.{length, getD, set, length-set, length-map, List·getD-map}
+use lib.Seq.{ext-getD, getD-set-same, getD-set-other}
+use borrow.Author.Tests.{ltb-false, eq-eqb, ne-eqb, eqb-true, eqb-false}
+use Rattle.lemmas.specs.Keep.{keep}
+use Rattle.lemmas.specs.Times.{remove}
+use Rattle.lemmas.proofs.Cases.{bool, and-both, cond-same, some-inj}
+use Rattle.lemmas.proofs.Every.{every-of-members}
+use Rattle.lemmas.proofs.Keep.{keep-all}
+use Rattle.model.specs.Arena.{Segment, run, direct, zone, pages, bytes, locate}
+use Rattle.model.specs.Zone.{Zone}
+use Rattle.model.specs.State.{State, listOf, ZoneAt, zoneIn, zoneAt}
+use Rattle.model.specs.PageMap.{idleZone}
+use Rattle.model.specs.Valid.{Valid}
+use Rattle.model.specs.Trim.{busy}
+
+-- The lists once the segment at page p was met; once those from page p on were.
+abbrev pub sweptBy : ℕ → Segment Zone → List (List ℕ) → List (List ℕ)
+sweptBy p (run n) ls = ls
+sweptBy p (direct n g) ls = ls
+sweptBy p (zone z) ls = cond (idleZone z) (set ls (z .class) (remove p (getD ls (z .class) []))) ls
+
+abbrev pub sweptLists : ℕ → List (Segment Zone) → List (List ℕ) → List (List ℕ)
+sweptLists p [] ls = ls
+sweptLists p (x ∷ r) ls = sweptLists (p + pages x) r (sweptBy p x ls)
+
+-- ---- lists that pass two tests, or one of two tests that agree
+
+module _ {A : Type 0} where
+  keep-keep : (f g : A → Bool) (l : List A) → keep g (keep f l) ≡ keep (λ x. f x && g x) l
+  unfolding keep
+  keep-keep f g [] = refl
+  keep-keep f g (x ∷ l) = go (f x) (keep-keep f g l)
+    where
+      go : (b : Bool) → keep g (keep f l) ≡ keep (λ x. f x && g x) l → keep g (cond b (x ∷ []) [] ++ keep f l) ≡ cond (b && g x) (x ∷ []) [] ++ keep (λ x. f x && g x) l
+      go true e = ap (λ (r : List A). cond (g x) (x ∷ []) [] ++ r) e
+      go false e = e
+
+  keep-same : (f g : A → Bool) (l : List A) → ((x : A) → List·Memᴰ x l → f x ≡ g x) → keep f l ≡ keep g l
+  unfolding keep
+  keep-same f g [] h = refl
+  keep-same f g (x ∷ l) h = λ i. cond (h x (List·Memᴰ·head refl) i) (x ∷ []) [] ++ keep-same f g l (λ y m. h y (List·Memᴰ·tail m)) i
+
+  keep-any : (f : A → Bool) (l : List A) → ((x : A) → f x ≡ true) → l ≡ keep f l
+  keep-any f l h = sym (keep-all f l (every-of-members f l (λ x _. h x)))
+
+-- ---- what stays on a class's list
+
+-- Whether page q stays on the list of class c when the segment at page p is met; when those from page p on are.
+abbrev staysBy : ℕ → ℕ → Segment Zone → ℕ → Bool
+staysBy c p (run n) q = true
+staysBy c p (direct n g) q = true
+staysBy c p (zone z) q = cond (idleZone z) (cond (eqb c (z .class)) (not (eqb p q)) true) true
+
+abbrev stays : ℕ → ℕ → List (Segment Zone) → ℕ → Bool
+stays c p [] q = true
+stays c p (x ∷ r) q = staysBy c p x q && stays c (p + pages x) r q
+
+length-by : (p : ℕ) (x : Segment Zone) (ls : List (List ℕ)) → length (sweptBy p x ls) ≡ length ls
+length-by p (run n) ls = refl
+length-by p (direct n g) ls = refl
+length-by p (zone z) ls = bool (idleZone z) (λ t. rw t (length-set ls (z .class) (remove p (getD ls (z .class) [])))) (λ t. rw t)
+
+length-swept : (p : ℕ) (m : List (Segment Zone)) (ls : List (List ℕ)) → length (sweptLists p m ls) ≡ length ls
+length-swept p [] ls = refl
+length-swept p (x ∷ r) ls = length-swept (p + pages x) r (sweptBy p x ls) ∙ length-by p x ls
+
+remove-is : (p : ℕ) (l : List ℕ) → remove p l ≡ keep (λ q. not (eqb p q)) l
+unfolding remove
+remove-is p l = refl
+
+list-by : (c p : ℕ) (x : Segment Zone) (ls : List (List ℕ)) → c < length ls → getD (sweptBy p x ls) c [] ≡ keep (staysBy c p x) (getD ls c [])
+list-by c p (run n) ls h = keep-any (λ _. true) (getD ls c []) (λ _. refl)
+list-by c p (direct n g) ls h = keep-any (λ _. true) (getD ls c []) (λ _. refl)
+list-by c p (zone z) ls h = go (idleZone z) (eqb c (z .class)) (eqb-true c (z .class)) (eqb-false c (z .class))
+  where
+    same : c ≡ z .class → getD (set ls (z .class) (remove p (getD ls (z .class) []))) c [] ≡ remove p (getD ls c [])
+    same e = subst (λ k. getD (set ls k (remove p (getD ls k []))) c [] ≡ remove p (getD ls c [])) e (getD-set-same ls c (remove p (getD ls c [])) [] h)
+
+    go : (i k : Bool) → (k ≡ true → c ≡ z .class) → (k ≡ false → c ≡ z .class → ⊥) → getD (cond i (set ls (z .class) (remove p (getD ls (z .class) []))) ls) c [] ≡ keep (λ q. cond i (cond k (not (eqb p q)) true) true) (getD ls c [])
+    go true true e n = same (e refl) ∙ remove-is p (getD ls c [])
+    go true false e n = getD-set-other ls (z .class) c (remove p (getD ls (z .class) [])) [] (n refl) ∙ keep-any (λ _. true) (getD ls c []) (λ _. refl)
+    go false k e n = keep-any (λ _. true) (getD ls c []) (λ _. refl)
+
+list-swept : (c p : ℕ) (m : List (Segment Zone)) (ls : List (List ℕ)) → c < length ls → getD (sweptLists p m ls) c [] ≡ keep (stays c p m) (getD ls c [])
+list-swept c p [] ls h = keep-any (λ _. true) (getD ls c []) (λ _. refl)
+list-swept c p (x ∷ r) ls h =
+    list-swept c (p + pages x) r (sweptBy p x ls) (omega (arith, length-by p x ls))
+    ∙ ap (λ l. keep (stays c (p + pages x) r) l) (list-by c p x ls h)
+    ∙ keep-keep (staysBy c p x) (stays c (p + pages x) r) (getD ls c [])
+
+-- ---- against the zone that stands at a page
+
+-- A page at which no zone is met stays; so does one in front of all segments.
+by-past : (c p q : ℕ) (x : Segment Zone) → (pages x ≡ 8 → p ≡ q → ⊥) → staysBy c p x q ≡ true
+by-past c p q (run n) h = refl
+by-past c p q (direct n g) h = refl
+by-past c p q (zone z) h = rw (ne-eqb p q (h refl)) (rw (cond-same (eqb c (z .class)) true) (cond-same (idleZone z) true))
+
+stays-past : (c p q : ℕ) (m : List (Segment Zone)) → q < p → stays c p m q ≡ true
+stays-past c p q [] h = refl
+stays-past c p q (x ∷ r) h = and-both (staysBy c p x q) (stays c (p + pages x) r q) (by-past c p q x (λ _ e. omega arith)) (stays-past c (p + pages x) q r (omega arith))
+
+-- A page at which a zone of the class begins stays just if the zone is not idle.
+stays-zone : (c p q : ℕ) (m : List (Segment Zone)) (z : Zone) → ZoneAt m q z → z .class ≡ c → stays c p m (p + q) ≡ not (idleZone z)
+stays-zone c p q [] z b e = absurd (Option·none-ne-some (record { away = 0; segment = zone z }) b)
+stays-zone c p q (x ∷ r) z b e = bool (ltb (q * 4096) (bytes x))
+    (λ t. let k = some-inj (rw t at b) in here (omega (arith, ap (λ a. a .away) k)) (ap (λ a. a .segment) k))
+    (λ t.
+    let a = ltb-false (q * 4096) (bytes x) t in
+    there a (stays-zone c (p + pages x) (q - pages x) r z (ap (λ o. locate o r) (let u : (q - pages x) * 4096 ≡ q * 4096 - bytes x = omega arith in u) ∙ (rw t at b)) e))
+  where
+    here : q ≡ 0 → x ≡ zone z → stays c p (x ∷ r) (p + q) ≡ not (idleZone z)
+    here a k = subst (λ y. stays c p (y ∷ r) (p + q) ≡ not (idleZone z)) (sym k) (rw (eq-eqb c (z .class) (sym e), eq-eqb p (p + q) (omega arith), stays-past c (p + 8) (p + q) r (omega arith)) (go (idleZone z)))
+      where
+        go : (i : Bool) → (cond i false true && true) ≡ not i
+        go true = refl
+        go false = refl
+
+    there : bytes x ≤ q * 4096 → stays c (p + pages x) r (p + pages x + (q - pages x)) ≡ not (idleZone z) → stays c p (x ∷ r) (p + q) ≡ not (idleZone z)
+    there a k =
+        ap (λ (t : Bool). t && stays c (p + pages x) r (p + q)) (by-past c p (p + q) x (λ u w. omega arith))
+        ∙ ap (stays c (p + pages x) r) (let u : p + q ≡ p + pages x + (q - pages x) = omega arith in u)
+        ∙ k
+
+-- The lists of a valid state.
+pub lists-swept : (s : State) → Valid s → sweptLists 0 (s .segments) (s .lists) ≡ map (busy (s .segments)) (s .lists)
+unfolding keep
+lists-swept s v =
+    ext-getD [] (sweptLists 0 (s .segments) (s .lists)) (map (busy (s .segments)) (s .lists)) (length-swept 0 (s .segments) (s .lists) ∙ sym (length-map (s .lists) (busy (s .segments))))
+    (λ c h.
+    list-swept c 0 (s .segments) (s .lists) (omega (arith, length-swept 0 (s .segments) (s .lists)))
+    ∙ keep-same (stays c 0 (s .segments)) (λ q. not (idleZone (zoneAt q (s .segments)))) (listOf s c) (λ q i. same c q i)
+    ∙ sym (List·getD-map (busy (s .segments)) (s .lists) c []))
+  where
+    same : (c q : ℕ) → List·Memᴰ q (listOf s c) → stays c 0 (s .segments) q ≡ not (idleZone (zoneAt q (s .segments)))
+    same c q i =
+        let o = v .listed c q i in
+        ap (stays c 0 (s .segments)) (let u : q ≡ 0 + q = omega arith in u) ∙ stays-zone c 0 q (s .segments) (o .0) (o .1) (o .2) ∙ sym (ap (λ a. not (idleZone (zoneIn a))) (o .1))
