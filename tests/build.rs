@@ -1,15 +1,18 @@
-//! Has the static library of the crate `measure` written, which has the proved check, whenever a
-//! crate has changed, so that the tests meet the code that stands here.
+//! Has the static libraries of the crates `measure`, which has the proved check, and `capi`, which
+//! has the calls, written whenever a crate has changed, so that the tests meet the code that stands
+//! here.
 //!
-//! `rt staticlib measure` writes it to target/staticlib below the repository's root. The environment
-//! variable NOSTRIMEL_STATICLIB names another folder, by its whole path, that has it already.
+//! `rt staticlib NAME` writes them to target/staticlib below the repository's root. The environment
+//! variable NOSTRIMEL_STATICLIB names another folder, by its whole path, that has them already.
+//!
+//! Both go into one program: the functions that they have in common are not visible outside each.
 
 use std::env;
 use std::path::{Path, PathBuf};
 use std::process::{exit, Command};
 
 const NAMED: &str = "NOSTRIMEL_STATICLIB";
-const FILE: &str = "libmeasure.a";
+const LIBRARIES: [&str; 2] = ["measure", "capi"];
 
 fn main() {
     println!("cargo:rerun-if-env-changed={NAMED}");
@@ -19,33 +22,44 @@ fn main() {
         exit(1);
     });
     println!("cargo:rustc-link-search=native={}", folder.display());
-    println!("cargo:rustc-link-lib=static=measure");
+    for library in LIBRARIES {
+        println!("cargo:rustc-link-lib=static={library}");
+    }
 }
 
-/// The folder that has the library, or one line that says why there is none.
+/// The folder that has the libraries, or one line that says why there is none.
 fn find() -> Result<PathBuf, String> {
     if let Some(named) = env::var_os(NAMED) {
         let folder = PathBuf::from(named);
-        return if folder.join(FILE).is_file() {
-            println!("cargo:rerun-if-changed={}", folder.join(FILE).display());
-            Ok(folder)
-        } else {
-            Err(format!("{NAMED}: {} has no {FILE}", folder.display()))
-        };
+        for library in LIBRARIES {
+            let file = folder.join(file_of(library));
+            if !file.is_file() {
+                return Err(format!("{NAMED}: there is no {}", file.display()));
+            }
+            println!("cargo:rerun-if-changed={}", file.display());
+        }
+        return Ok(folder);
     }
     let root = repository();
     for watched in ["crates", "crates.txt"] {
         println!("cargo:rerun-if-changed={}", root.join(watched).display());
     }
     let folder = root.join("target").join("staticlib");
-    write_library(&root)?;
-    if folder.join(FILE).is_file() {
-        Ok(folder)
-    } else {
-        Err(format!(
-            "rt staticlib measure left no target/staticlib/{FILE}"
-        ))
+    for library in LIBRARIES {
+        write_library(&root, library)?;
+        if !folder.join(file_of(library)).is_file() {
+            return Err(format!(
+                "rt staticlib {library} left no target/staticlib/{}",
+                file_of(library)
+            ));
+        }
     }
+    Ok(folder)
+}
+
+/// The library's file.
+fn file_of(library: &str) -> String {
+    format!("lib{library}.a")
 }
 
 /// The folder above this package.
@@ -58,13 +72,14 @@ fn repository() -> PathBuf {
 
 /// Proves the crate and writes its library. What `rt` prints is kept from cargo, which would take
 /// lines of it for this program's.
-fn write_library(root: &Path) -> Result<(), String> {
+fn write_library(root: &Path, library: &str) -> Result<(), String> {
     let done = Command::new("rt")
-        .args(["staticlib", "measure"])
+        .args(["staticlib", library])
         .current_dir(root)
         .output()
         .map_err(|error| {
-            format!("rt does not run, which writes target/staticlib/{FILE}: {error}")
+            let file = file_of(library);
+            format!("rt does not run, which writes target/staticlib/{file}: {error}")
         })?;
     if done.status.success() {
         return Ok(());
@@ -73,7 +88,7 @@ fn write_library(root: &Path) -> Result<(), String> {
     let said = String::from_utf8_lossy(&said);
     let last = said.trim_end().lines().last().unwrap_or("it says nothing");
     Err(format!(
-        "rt staticlib measure failed ({}): {last}",
+        "rt staticlib {library} failed ({}): {last}",
         done.status
     ))
 }

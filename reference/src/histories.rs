@@ -45,6 +45,82 @@ const FEW_TO_A_ZONE: [u32; 5] = [8_191, 8_191, 7_000, 5_000, 4_096];
 /// Sizes of which a zone has many.
 const SMALL: [u32; 8] = [1, 8, 100, 127, 128, 129, 257, 1_025];
 
+/// What a history is rich in.
+#[derive(Clone, Copy, Debug, PartialEq, Eq)]
+pub enum Profile {
+    /// Something of all, mostly chunks of a size that few of fill a zone.
+    Mixed,
+    /// Chunks of many sizes.
+    Chunks,
+    /// Direct blocks.
+    Pages,
+    /// Resets and trims.
+    Resets,
+    /// Groups, sizes and offsets that are wrong.
+    Wrong,
+}
+
+impl Profile {
+    pub const ALL: [Profile; 5] = [
+        Profile::Mixed,
+        Profile::Chunks,
+        Profile::Pages,
+        Profile::Resets,
+        Profile::Wrong,
+    ];
+
+    fn weights(self) -> Weights {
+        let mixed = Weights {
+            wrong: 0,
+            odd: 4,
+            resets: 1,
+            trims: 1,
+            requests: [12, 67],
+            sizes: [24, 6, 2, 7],
+        };
+        match self {
+            Profile::Mixed => mixed,
+            Profile::Chunks => Weights {
+                requests: [14, 75],
+                sizes: [12, 20, 6, 2],
+                ..mixed
+            },
+            Profile::Pages => Weights {
+                sizes: [4, 1, 1, 31],
+                ..mixed
+            },
+            Profile::Resets => Weights {
+                resets: 6,
+                trims: 4,
+                requests: [50, 75],
+                ..mixed
+            },
+            Profile::Wrong => Weights {
+                wrong: 40,
+                requests: [10, 40],
+                ..mixed
+            },
+        }
+    }
+}
+
+/// How likely each kind of call is, of 100. One call is a query and one a
+/// listing; those that are left are returns.
+#[derive(Clone, Copy, Debug)]
+struct Weights {
+    /// Calls with a wrong value of any kind, mostly near a right one.
+    wrong: u32,
+    /// Calls with a value on an edge.
+    odd: u32,
+    resets: u32,
+    trims: u32,
+    /// Requests in a stretch of mostly returns, and in one of mostly requests.
+    requests: [u32; 2],
+    /// Of 40 requests: those of the two favourite sizes, of any chunk, and of
+    /// a few pages. Those that are left may have any size.
+    sizes: [u32; 4],
+}
+
 /// A block that the answers have shown to be live.
 #[derive(Clone, Copy, Debug, PartialEq, Eq)]
 pub struct Granted {
@@ -63,11 +139,19 @@ pub struct History {
     /// Chunk sizes that this history asks for most, so that a class has
     /// several zones.
     favourites: [u32; 2],
+    weights: Weights,
+    /// The block returned last.
+    returned: Option<Granted>,
 }
 
 impl History {
     /// A history after a start that was not refused.
     pub fn new(seed: u64) -> History {
+        History::with(Profile::Mixed, seed)
+    }
+
+    /// A history of this profile after a start that was not refused.
+    pub fn with(profile: Profile, seed: u64) -> History {
         let mut random = Xorshift::new(seed);
         let favourites = [random.pick(&FEW_TO_A_ZONE), random.pick(&SMALL)];
         History {
@@ -75,7 +159,15 @@ impl History {
             live: Vec::new(),
             filling: true,
             favourites,
+            weights: profile.weights(),
+            returned: None,
         }
+    }
+
+    /// The history with these blocks live at its beginning.
+    pub fn knowing(mut self, live: Vec<Granted>) -> History {
+        self.live = live;
+        self
     }
 
     /// The blocks that are live by the answers shown, in no order.
@@ -89,27 +181,40 @@ impl History {
             self.filling = !self.filling;
         }
         self.filling |= self.live.is_empty();
-        let requests = if self.filling { 75 } else { 20 };
-        match self.random.below(100) {
-            0..=3 => self.odd_call(),
-            4 => Call::Reset {
+        let weights = self.weights;
+        let mut number = self.random.below(100);
+        // Whether the number falls to a kind of call that is this likely.
+        let mut falls_to = |weight: u32| {
+            let falls = number < weight;
+            number = number.wrapping_sub(weight);
+            falls
+        };
+        if falls_to(weights.odd) {
+            self.odd_call()
+        } else if falls_to(weights.resets) {
+            Call::Reset {
                 group: self.group(),
-            },
-            5 => Call::Trim,
-            6 => Call::Query {
+            }
+        } else if falls_to(weights.trims) {
+            Call::Trim
+        } else if falls_to(1) {
+            Call::Query {
                 offset: self.live_or_any().offset,
-            },
-            7 => Call::Listing {
+            }
+        } else if falls_to(1) {
+            Call::Listing {
                 capacity: listing::LONGEST,
-            },
-            number if number < requests => Call::Allocate {
+            }
+        } else if falls_to(weights.requests[usize::from(self.filling)]) {
+            Call::Allocate {
                 group: self.group(),
                 size: self.size(),
-            },
-            _ => {
-                let Granted { group, offset } = self.live_or_any();
-                Call::Free { group, offset }
             }
+        } else if falls_to(weights.wrong) {
+            self.wrong_call()
+        } else {
+            let Granted { group, offset } = self.live_or_any();
+            Call::Free { group, offset }
         }
     }
 
@@ -121,8 +226,9 @@ impl History {
                 let offset = *offset;
                 self.live.push(Granted { group, offset });
             }
-            (Call::Free { offset, .. }, Answer::Done) => {
+            (Call::Free { group, offset }, Answer::Done) => {
                 self.live.retain(|block| block.offset != offset);
+                self.returned = Some(Granted { group, offset });
             }
             (Call::Reset { group }, Answer::Counted(_)) => {
                 self.live.retain(|block| block.group != group);
@@ -157,17 +263,61 @@ impl History {
         }
     }
 
+    /// A call with a group, a size or an offset that is likely to be wrong.
+    fn wrong_call(&mut self) -> Call {
+        let block = self.live_or_any();
+        let group = self.random.pick(&[0, GROUPS + 1, 257, u32::MAX]);
+        let offset = match self.random.below(5) {
+            0 => self.random.below(MAX_SIZE),
+            1 => self.random.below(MAX_SIZE / PAGE_BYTES) * PAGE_BYTES,
+            2 => block.offset + self.random.pick(&[1, 8, 104, PAGE_BYTES]),
+            3 => self.returned.unwrap_or(block).offset,
+            _ => u32::MAX - self.random.below(PAGE_BYTES),
+        };
+        match self.random.below(8) {
+            0 => Call::Allocate {
+                group,
+                size: self.size(),
+            },
+            1 => Call::Allocate {
+                group: self.group(),
+                size: self.random.pick(&[0, MAX_SIZE + 1, u32::MAX]),
+            },
+            2 => Call::Free {
+                group,
+                offset: block.offset,
+            },
+            // Another group's block, mostly.
+            3 | 4 => Call::Free {
+                group: self.group(),
+                offset: block.offset,
+            },
+            5 => Call::Free {
+                group: block.group,
+                offset,
+            },
+            6 => Call::Reset { group },
+            _ => Call::Query { offset },
+        }
+    }
+
     fn group(&mut self) -> u32 {
         1 + self.random.below(GROUPS)
     }
 
     fn size(&mut self) -> u32 {
-        match self.random.below(40) {
-            0..=23 => self.favourites[0],
-            24..=29 => self.favourites[1],
-            30..=31 => 1 + self.random.below(8_191),
-            32..=38 => 8_192 + self.random.below(20_000),
-            _ => 1 + self.random.below(MAX_SIZE),
+        let [first, second, chunks, pages] = self.weights.sizes;
+        let number = self.random.below(40);
+        if number < first {
+            self.favourites[0]
+        } else if number < first + second {
+            self.favourites[1]
+        } else if number < first + second + chunks {
+            1 + self.random.below(8_191)
+        } else if number < first + second + chunks + pages {
+            8_192 + self.random.below(20_000)
+        } else {
+            1 + self.random.below(MAX_SIZE)
         }
     }
 

@@ -17,3 +17,4 @@ pub mod ValidTrim
 pub mod Validity
 pub mod Disjoint
 pub mod Groups
+pub mod Totals

@@ -178,6 +178,15 @@ fn put_rest(part: &mut [u32], n: usize)
     put_run(part, n);
 }
 
+// Sets the words of n pages up as one free run, whatever they held.
+pub fn set_up(words: &mut [u32], n: usize)
+    requires { ⌜ (length (now words) ≡ 520 * n) × (0 < n) × (n ≤ 256) ⌝ }
+    ensures { λ _. ⌜ now (words .exit) ≡ segmentsEncoding (run n ∷ []) ⌝ }
+{
+    scan::clear(words);
+    put_run(words, n);
+}
+
 // The words of a run become those of a direct block in its low pages and of the rest.
 fn cut_direct(part: &mut [u32], len: usize, need: usize, group: u32)
     requires { ⌜ (now part ≡ segmentEncoding (run len)) × (0 < need) × (need ≤ len) × (len ≤ 256) ⌝ }

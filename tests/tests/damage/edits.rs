@@ -17,12 +17,17 @@ pub fn values_in_turn(old: u32, random: &mut Xorshift) -> [u32; 6] {
     [0, up, down, any, small, random.pick(&MEANINGFUL)]
 }
 
+/// One word changed, anywhere.
+pub fn one_word(subject: &mut Subject, random: &mut Xorshift) {
+    let at = any_place(subject, random);
+    let value = any_value(subject, at, random);
+    subject.set(at, value);
+}
+
 /// 1 to 8 words changed, anywhere.
 pub fn random_edits(subject: &mut Subject, random: &mut Xorshift) {
     for _ in 0..1 + random.below(8) {
-        let at = any_place(subject, random);
-        let value = any_value(subject, at, random);
-        subject.set(at, value);
+        one_word(subject, random);
     }
 }
 

@@ -1,10 +1,13 @@
-//! The damage test: words are damaged in every way that came to mind, and on each the proved check
-//! must answer what the second reading of the words says, and change no word.
+//! The damage tests: words are damaged in every way that came to mind. On each the proved check
+//! must answer what the second reading of the words says, and change no word; and a call must be
+//! refused, or be answered and leave what the second program says of the state that the second
+//! reading finds.
 //!
 //!     cargo test --offline --locked -p tests --test damage
 //!
-//! It prints its cases by kind. The damage is the same in every run.
+//! They print their cases by kind. The damage is the same in every run.
 
+mod calls;
 mod edits;
 mod pool;
 mod shapes;

@@ -8,9 +8,9 @@ use tests::layout::{decode, encode, used_words};
 pub struct Subject {
     /// What the words encode while they are as they were made.
     pub state: State,
-    /// What the check is lent.
+    /// What the check, or a call, is lent.
     words: Vec<u32>,
-    /// The same words, which the check never sees.
+    /// The same words, which neither ever sees.
     twin: Vec<u32>,
     /// The places changed and what stood there, first change first.
     changes: Vec<(usize, u32)>,
@@ -88,6 +88,26 @@ impl Subject {
             legal: decode(&self.twin[..count]).is_some(),
             kept: self.words == self.twin,
         }
+    }
+
+    /// The words as they are to be, which no proved function sees.
+    pub fn twin(&self) -> &[u32] {
+        &self.twin
+    }
+
+    /// All words as they are, those behind the lent ones among them.
+    pub fn words(&self) -> &[u32] {
+        &self.words
+    }
+
+    /// The first `count` words, for a call that may change them.
+    pub fn lend(&mut self, count: usize) -> &mut [u32] {
+        &mut self.words[..count]
+    }
+
+    /// Makes the words again what they were before a call.
+    pub fn undo(&mut self) {
+        self.words.copy_from_slice(&self.twin);
     }
 
     /// Takes all changes back.

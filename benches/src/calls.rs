@@ -1,0 +1,214 @@
+//! How long the calls take, beside the bare check of the same words; and a reset beside single
+//! returns.
+//!
+//!     cargo run --release --offline --locked -p benches --bin calls
+//!
+//! A call reads all of its state's words before it does anything, so what the check takes is the
+//! least that it can take; the bar says how much more it may. The check is `nostrimel_check`, and
+//! is measured in the state that the call meets, in the same round.
+//!
+//! Each call is measured by itself. What brings the words to its state and what puts them right
+//! again is outside of the measured part, and after each round the words are again those of the
+//! first. The figures are the fastest of many rounds, less what the clock takes. The exit status is
+//! 1 if a bar is missed.
+
+mod arenas;
+mod resets;
+mod single;
+
+use arenas::{arenas, Arena};
+use reference::state::State;
+use resets::{reset_of, returns_of};
+use single::{clock, time_of};
+use std::process::ExitCode;
+use tests::calls::{allocate, free, query, trim};
+use tests::check::check;
+use tests::layout::encode;
+
+/// The greatest ratio of a call to the check.
+const CALL_BAR: f64 = 1.5;
+/// The greatest ratio of a reset to single returns.
+const RESET_BAR: f64 = 1.0 / 50.0;
+/// The greatest ratio of a reset of twice the blocks.
+const TWICE_BAR: f64 = 2.5;
+/// The chunks of the reset.
+const CHUNKS: u32 = 100_000;
+
+/// The group that asks. Before a call it holds nothing but what is granted for that call.
+const GROUP: u32 = 12;
+/// Bytes of a request that takes pages.
+const LARGE: u32 = 8_192;
+
+/// How often all calls are gone through: a slow stretch of the machine can last for seconds.
+const PASSES: u32 = 5;
+/// Rounds of one call in one go.
+const ROUNDS: u32 = 300;
+
+/// A call with what comes before and behind it.
+struct Measured {
+    pages: u32,
+    arena: &'static str,
+    call: &'static str,
+    words: Vec<u32>,
+    before: Step,
+    step: Step,
+    behind: Step,
+    /// The fastest check and the fastest call.
+    nanoseconds: [f64; 2],
+}
+
+/// A step of a round: what it does, and whether it was answered as it should be.
+type Step = Box<dyn Fn(&mut [u32]) -> bool>;
+
+fn step(does: impl Fn(&mut [u32]) -> bool + 'static) -> Step {
+    Box::new(does)
+}
+
+/// All that is measured on one arena.
+fn measured(arena: Arena) -> Vec<Measured> {
+    let Arena { name, state, chunk } = arena;
+    let mut words = encode(&state);
+    assert_eq!(check(&mut words), 1, "the check refuses: {name}");
+    let one = |call, before, step, behind| Measured {
+        pages: state.pages,
+        arena: name,
+        call,
+        words: words.clone(),
+        before,
+        step,
+        behind,
+        nanoseconds: [f64::INFINITY; 2],
+    };
+    let nothing = || step(|_| true);
+    // Where a block of this size will be each time.
+    let place = |size| allocate(&mut words.clone(), GROUP, size).expect("room");
+    let (small, large) = (place(chunk), place(LARGE));
+    let grant = |size, offset| step(move |words| allocate(words, GROUP, size) == Ok(offset));
+    let give = |offset| step(move |words| free(words, GROUP, offset) == Ok(()));
+    // Without the trim a fresh arena would keep the chunk's zone; in the others it finds nothing.
+    let give_and_trim =
+        |offset| step(move |words| free(words, GROUP, offset) == Ok(()) && trim(words).is_ok());
+    let tidy = || step(|words| trim(words).is_ok());
+    let asked = last_block(&state);
+    vec![
+        one(
+            "allocate, chunk",
+            nothing(),
+            grant(chunk, small),
+            give_and_trim(small),
+        ),
+        one(
+            "allocate, pages",
+            nothing(),
+            grant(LARGE, large),
+            give(large),
+        ),
+        one("free, chunk", grant(chunk, small), give(small), tidy()),
+        one("free, pages", grant(LARGE, large), give(large), nothing()),
+        one(
+            "query",
+            nothing(),
+            step(move |words| query(words, asked.unwrap_or(0)).is_ok() == asked.is_some()),
+            nothing(),
+        ),
+        one(
+            "trim of none",
+            nothing(),
+            step(|words| trim(words) == Ok(0)),
+            nothing(),
+        ),
+    ]
+}
+
+/// The offset of the last live block; the fresh arena has none, and there 0 is asked for, in vain.
+fn last_block(state: &State) -> Option<u32> {
+    state.live_blocks().last().map(|block| block.offset)
+}
+
+impl Measured {
+    /// Lowers the nanoseconds to those of the fastest round here, if that was faster.
+    fn lower(&mut self, clock: f64) {
+        let first = self.words.clone();
+        for _ in 0..ROUNDS {
+            assert!((self.before)(&mut self.words), "{}", self.title());
+            // Once more than is measured, so that both find the words near.
+            check(&mut self.words);
+            let (check_time, _) = time_of(|| check(&mut self.words));
+            let (time, as_expected) = time_of(|| (self.step)(&mut self.words));
+            assert!(as_expected, "{}", self.title());
+            assert!((self.behind)(&mut self.words), "{}", self.title());
+            for (best, time) in self.nanoseconds.iter_mut().zip([check_time, time]) {
+                *best = best.min(time - clock);
+            }
+        }
+        assert!(self.words == first, "{}: the words changed", self.title());
+    }
+
+    fn title(&self) -> String {
+        format!("{} pages, {}, {}", self.pages, self.arena, self.call)
+    }
+
+    /// Prints a line, and says whether the bar is met.
+    fn print(&self) -> bool {
+        let [check_ns, call_ns] = self.nanoseconds;
+        let ratio = call_ns / check_ns;
+        let Measured {
+            pages, arena, call, ..
+        } = self;
+        let met = ratio <= CALL_BAR;
+        println!(
+            "{pages:>5}  {arena:<12}{call:<16}{call_ns:>12.0}{check_ns:>12.0}{ratio:>8.2}  {}",
+            remark(met, "1.5")
+        );
+        met
+    }
+}
+
+fn remark(met: bool, bar: &str) -> String {
+    match met {
+        true => format!("bar met (at most {bar})"),
+        false => format!("bar MISSED (at most {bar})"),
+    }
+}
+
+fn main() -> ExitCode {
+    let clock = clock();
+    let arenas = [24, 256].into_iter().flat_map(arenas);
+    let mut all: Vec<Measured> = arenas.flat_map(measured).collect();
+    for _ in 0..PASSES {
+        all.iter_mut().for_each(|one| one.lower(clock));
+    }
+    println!(
+        "{:>5}  {:<12}{:<16}{:>12}{:>12}{:>8}",
+        "pages", "arena", "call", "call ns", "check ns", "ratio"
+    );
+    let calls_met = all.iter().filter(|one| !one.print()).count() == 0;
+    let resets_met = resets();
+    ExitCode::from(u8::from(!(calls_met && resets_met)))
+}
+
+/// Prints two lines about resets, and says whether both bars are met.
+fn resets() -> bool {
+    let (whole, half) = (reset_of(CHUNKS), reset_of(CHUNKS / 2));
+    let singly = returns_of(CHUNKS);
+    let (share, growth) = (whole / singly, whole / half);
+    let (share_met, growth_met) = (share <= RESET_BAR, growth <= TWICE_BAR);
+    println!(
+        "\nA reset of chunks of 8 bytes in 256 pages, in ms; single returns: a sample scaled up"
+    );
+    println!(
+        "{CHUNKS} chunks {:.2}, by single returns {:.0}, ratio 1/{:.0}: {}",
+        whole / 1e6,
+        singly / 1e6,
+        1.0 / share,
+        remark(share_met, "1/50")
+    );
+    println!(
+        "{CHUNKS} chunks {:.2}, {} chunks {:.2}, ratio {growth:.2}: {}",
+        whole / 1e6,
+        CHUNKS / 2,
+        half / 1e6,
+        remark(growth_met, "2.5")
+    );
+    share_met && growth_met
+}

@@ -1,0 +1,23 @@
+-- `nostrimel_allocate` meets its contract. Assumes nothing.
+use mathlib.Core.Path.{_∙_, ap}
+use Rattle.capi.specs.Values.{firstOr}
+use Rattle.model.specs.Calls.{reading}
+use borrow.Author.Needs.{needs}
+use Rattle.capi.proofs.nostrimel_allocate.Statement.{statement}
+use Rattle.capi.proofs.nostrimel_allocate.Tie as tie
+
+call-requires : tie.Need-call-requires
+call-requires c κs = search needs
+
+tell-first-requires : tie.Need-tell-first-requires
+tell-first-requires c κs = search needs
+
+same-length : tie.Need-same-length
+same-length c = search needs
+
+returns : tie.Need-returns
+returns c = let e = c .before .before .before .before .call .ensures in let d = c .tell-first .ensures in (d .0 ∙ ap (λ x. reading x .refusal) (e .0), (e .1, d .1 ∙ ap (λ x. firstOr (c .before .before .before .before .before .before .before .args .offset .now) (reading x .values)) (e .0)))
+
+pub nostrimel-allocate-spec : {M : Type 1} → statement M
+nostrimel-allocate-spec =
+    tie.close (tie.spec call-requires tell-first-requires same-length returns)

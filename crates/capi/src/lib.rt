@@ -1,0 +1,201 @@
+// The library for C. Each function answers 0 or document 01's number of the refusal, and writes the answer's values, if it has any,
+// through the pointers lent for them. include/nostrimel.h says what a caller must keep.
+ghost use mathlib.Core.Path.{_≡_};
+ghost use lib.ListN.{length};
+ghost use Rattle.model.specs.Calls as rules;
+ghost use Rattle.model.specs.Calls.{number, reading};
+ghost use Rattle.model.specs.declared.Operation.the-variants as operation;
+ghost use Rattle.slab.specs.Calls.{answerOf, metaAfter, textAfter};
+ghost use Rattle.capi.specs.Values.{firstOr, secondOr};
+use model::Answer;
+use model::Call;
+use model::Operation;
+use model::Refusal;
+
+// Document 01's number of a refusal.
+fn number_of(refusal: Refusal) -> u32
+    ensures { λ r. ⌜ r ≡ number refusal ⌝ }
+{
+    match refusal {
+        Refusal::BadPages => 1,
+        Refusal::FewWords => 2,
+        Refusal::NoState => 3,
+        Refusal::BadGroup => 4,
+        Refusal::BadSize => 5,
+        Refusal::NoRoom => 6,
+        Refusal::NoBlock => 7,
+        Refusal::OtherGroup => 8,
+        Refusal::ShortBuffer => 12,
+    }
+}
+
+// The refusal's number, 0 where the answer is none.
+fn refusal_of(answer: Answer) -> u32
+    ensures { λ r. ⌜ r ≡ reading answer .refusal ⌝ }
+{
+    match answer {
+        Answer::Granted(offset) => 0,
+        Answer::Refused(refusal) => number_of(refusal),
+        Answer::Done => 0,
+        Answer::Counted(count) => 0,
+        Answer::Block(group, room) => 0,
+    }
+}
+
+// The same, and the first value of the answer goes out.
+fn tell_first(answer: Answer, value: &mut u32) -> u32
+    ensures { λ r. ⌜ r ≡ reading answer .refusal ⌝ }
+    ensures { λ _. ⌜ now (value .exit) ≡ firstOr (now (value .entry)) (reading answer .values) ⌝ }
+{
+    match answer {
+        Answer::Granted(offset) => {
+            *value = offset;
+            0
+        }
+        Answer::Refused(refusal) => number_of(refusal),
+        Answer::Done => 0,
+        Answer::Counted(count) => {
+            *value = count;
+            0
+        }
+        Answer::Block(group, room) => {
+            *value = group;
+            0
+        }
+    }
+}
+
+// The same, and both values go out.
+fn tell_both(answer: Answer, first: &mut u32, second: &mut u32) -> u32
+    ensures { λ r. ⌜ r ≡ reading answer .refusal ⌝ }
+    ensures { λ _. ⌜ now (first .exit) ≡ firstOr (now (first .entry)) (reading answer .values) ⌝ }
+    ensures { λ _. ⌜ now (second .exit) ≡ secondOr (now (second .entry)) (reading answer .values) ⌝ }
+{
+    match answer {
+        Answer::Granted(offset) => {
+            *first = offset;
+            0
+        }
+        Answer::Refused(refusal) => number_of(refusal),
+        Answer::Done => 0,
+        Answer::Counted(count) => {
+            *first = count;
+            0
+        }
+        Answer::Block(group, room) => {
+            *first = group;
+            *second = room;
+            0
+        }
+    }
+}
+
+// The same for a length in bytes.
+fn tell_length(answer: Answer, value: &mut usize) -> u32
+    ensures { λ r. ⌜ r ≡ reading answer .refusal ⌝ }
+    ensures { λ _. ⌜ now (value .exit) ≡ firstOr (now (value .entry)) (reading answer .values) ⌝ }
+{
+    match answer {
+        Answer::Granted(offset) => {
+            *value = offset as usize;
+            0
+        }
+        Answer::Refused(refusal) => number_of(refusal),
+        Answer::Done => 0,
+        Answer::Counted(count) => {
+            *value = count as usize;
+            0
+        }
+        Answer::Block(group, room) => {
+            *value = group as usize;
+            0
+        }
+    }
+}
+
+#[no_mangle]
+pub extern "C" fn nostrimel_init(meta: &mut [u32], pages: u32) -> u32
+    ensures { λ r. ⌜ r ≡ reading (answerOf (now (meta .entry)) (rules.init pages)) .refusal ⌝ }
+    ensures { λ _. ⌜ now (meta .exit) ≡ metaAfter (now (meta .entry)) (rules.init pages) ⌝ }
+{
+    refusal_of(slab::init(meta, pages))
+}
+
+#[no_mangle]
+pub extern "C" fn nostrimel_allocate(
+    meta: &mut [u32],
+    group: u32,
+    size: u32,
+    offset: &mut u32,
+) -> u32
+    ensures { λ r. ⌜ r ≡ reading (answerOf (now (meta .entry)) (rules.act (rules.group (record { group = group; operation = operation.Allocate size })))) .refusal ⌝ }
+    ensures { λ _. ⌜ now (meta .exit) ≡ metaAfter (now (meta .entry)) (rules.act (rules.group (record { group = group; operation = operation.Allocate size }))) ⌝ }
+    ensures { λ _. ⌜ now (offset .exit) ≡ firstOr (now (offset .entry)) (reading (answerOf (now (meta .entry)) (rules.act (rules.group (record { group = group; operation = operation.Allocate size })))) .values) ⌝ }
+{
+    let answer = slab::call(
+        meta,
+        Call {
+            group: group,
+            operation: Operation::Allocate(size),
+        },
+    );
+    tell_first(answer, offset)
+}
+
+#[no_mangle]
+pub extern "C" fn nostrimel_free(meta: &mut [u32], group: u32, offset: u32) -> u32
+    ensures { λ r. ⌜ r ≡ reading (answerOf (now (meta .entry)) (rules.act (rules.group (record { group = group; operation = operation.Free offset })))) .refusal ⌝ }
+    ensures { λ _. ⌜ now (meta .exit) ≡ metaAfter (now (meta .entry)) (rules.act (rules.group (record { group = group; operation = operation.Free offset }))) ⌝ }
+{
+    let answer = slab::call(
+        meta,
+        Call {
+            group: group,
+            operation: Operation::Free(offset),
+        },
+    );
+    refusal_of(answer)
+}
+
+#[no_mangle]
+pub extern "C" fn nostrimel_reset(meta: &mut [u32], group: u32, count: &mut u32) -> u32
+    ensures { λ r. ⌜ r ≡ reading (answerOf (now (meta .entry)) (rules.act (rules.group (record { group = group; operation = operation.Reset })))) .refusal ⌝ }
+    ensures { λ _. ⌜ now (meta .exit) ≡ metaAfter (now (meta .entry)) (rules.act (rules.group (record { group = group; operation = operation.Reset }))) ⌝ }
+    ensures { λ _. ⌜ now (count .exit) ≡ firstOr (now (count .entry)) (reading (answerOf (now (meta .entry)) (rules.act (rules.group (record { group = group; operation = operation.Reset })))) .values) ⌝ }
+{
+    let answer = slab::call(
+        meta,
+        Call {
+            group: group,
+            operation: Operation::Reset,
+        },
+    );
+    tell_first(answer, count)
+}
+
+#[no_mangle]
+pub extern "C" fn nostrimel_trim(meta: &mut [u32], count: &mut u32) -> u32
+    ensures { λ r. ⌜ r ≡ reading (answerOf (now (meta .entry)) (rules.act rules.trim)) .refusal ⌝ }
+    ensures { λ _. ⌜ now (meta .exit) ≡ metaAfter (now (meta .entry)) (rules.act rules.trim) ⌝ }
+    ensures { λ _. ⌜ now (count .exit) ≡ firstOr (now (count .entry)) (reading (answerOf (now (meta .entry)) (rules.act rules.trim)) .values) ⌝ }
+{
+    tell_first(slab::trim(meta), count)
+}
+
+#[no_mangle]
+pub extern "C" fn nostrimel_query(meta: &[u32], offset: u32, group: &mut u32, room: &mut u32) -> u32
+    ensures { λ r. ⌜ r ≡ reading (answerOf (now (meta .entry)) (rules.act (rules.query offset))) .refusal ⌝ }
+    ensures { λ _. ⌜ now (group .exit) ≡ firstOr (now (group .entry)) (reading (answerOf (now (meta .entry)) (rules.act (rules.query offset))) .values) ⌝ }
+    ensures { λ _. ⌜ now (room .exit) ≡ secondOr (now (room .entry)) (reading (answerOf (now (meta .entry)) (rules.act (rules.query offset))) .values) ⌝ }
+{
+    tell_both(slab::query(meta, offset), group, room)
+}
+
+#[no_mangle]
+pub extern "C" fn nostrimel_listing(meta: &[u32], text: &mut [u8], used: &mut usize) -> u32
+    ensures { λ r. ⌜ r ≡ reading (answerOf (now (meta .entry)) (rules.act (rules.listing (length (now (text .entry)))))) .refusal ⌝ }
+    ensures { λ _. ⌜ now (text .exit) ≡ textAfter (now (meta .entry)) (now (text .entry)) ⌝ }
+    ensures { λ _. ⌜ now (used .exit) ≡ firstOr (now (used .entry)) (reading (answerOf (now (meta .entry)) (rules.act (rules.listing (length (now (text .entry)))))) .values) ⌝ }
+{
+    tell_length(slab::listing(meta, text), used)
+}

@@ -1,0 +1,23 @@
+-- `set_up` meets its contract. Assumes nothing.
+use Rattle.lemmas.specs.Zeros.{zeros}
+use mathlib.Core.Path.{_∙_, sym, ap}
+use Rattle.pages.proofs.Laws.{encoding-one}
+use Rattle.pages.proofs.Words.{zero-blank}
+use borrow.Author.Needs.{needs}
+use Rattle.pages.proofs.set_up.Statement.{statement}
+use Rattle.pages.proofs.set_up.Tie as tie
+
+clear-requires : tie.Need-clear-requires
+clear-requires c κs = search needs
+
+put-run-requires : tie.Need-put-run-requires
+put-run-requires c κs = zero-blank _ 2 _ (c .before .before .before .clear .ensures ∙ ap zeros (c .before .before .before .before .before .before .pre .0)) (c .before .before .before .before .before .before .pre .1) (c .before .before .before .before .before .before .pre .2)
+
+same-length : tie.Need-same-length
+same-length c = search needs
+
+returns : tie.Need-returns
+returns c = c .before .before .put-run .ensures ∙ sym (encoding-one _)
+
+pub set-up-spec : {M : Type 1} → statement M
+set-up-spec = tie.close (tie.spec clear-requires put-run-requires same-length returns)

@@ -1,0 +1,95 @@
+-- Init: its refusals, and the words that it sets up. Assumes nothing.
+use Prim.Native.Nat.{ℕ, _+_, _-_, _≤_, _<_}
+use mathlib.Core.Path.{_≡_, refl, sym, ap, _∙_}
+use mathlib.Core.List.{List, [], _∷_, _++_, append-assoc}
+use mathlib.Core.Bool.{Bool, true, false, _&&_}
+use native.Mathlib.Omega.{arith}
+use lib.Dec.{leb}
+use lib.ListN.{length, take, drop, replicate}
+use lib.Seq.{length-take-le, take-at, drop-at, drop-drop}
+use borrow.Author.Tests.{leb-true, le-leb, lt-leb}
+use Rattle.lemmas.specs.Parts.{putMid}
+use Rattle.lemmas.proofs.Cases.{and-left, and-right, and-both, refuted}
+use Rattle.model.specs.declared.Refusal.the-variants.{BadPages, FewWords}
+use Rattle.model.specs.declared.Answer.the-variants.{Refused, Done}
+use Rattle.model.specs.Arena.{run, total}
+use Rattle.model.specs.State.{freshState}
+use Rattle.model.specs.Calls.{init, Outcome, answers, isRefused, provided}
+use Rattle.model.specs.Perform.{Metadata, headerWords, wordsFor, holding}
+use Rattle.model.proofs.Validity.{fresh-valid}
+use Rattle.header.specs.Keys.{classes}
+use Rattle.header.specs.Encoding.{headerEncoding}
+use Rattle.header.proofs.Encoded.{length-header}
+use Rattle.pages.specs.Encoding.{segmentsEncoding}
+use Rattle.metadata.specs.Encoding.{encode}
+use Rattle.metadata.proofs.States.{encode-long}
+use Rattle.slab.specs.Calls.{viewOf, written, answerOf, metaAfter}
+use Rattle.slab.proofs.Words.{refused-same}
+
+-- The front of words, as long as it was asked.
+pub front-there : (a : ℕ) (w : List ℕ) → a ≤ length w → length (take a w) ≡ a
+front-there a w h = length-take-le a w h
+
+-- Words h and g, of a and k words, in front of what stood behind.
+put-front : (a k : ℕ) (w h g : List ℕ) → length h ≡ a → putMid a k (h ++ drop a w) g ≡ (h ++ g) ++ drop (a + k) w
+put-front a k w h g l =
+    (λ i. take-at h (drop a w) a l i ++ (g ++ drop k (drop-at h (drop a w) a l i)))
+    ∙ ap (λ d. h ++ (g ++ d)) (drop-drop k a w)
+    ∙ sym (append-assoc h g (drop (a + k) w))
+
+-- The words of the fresh state.
+fresh-encoded : (n : ℕ) → headerEncoding n [] (replicate classes []) ++ segmentsEncoding (run n ∷ []) ≡ encode (freshState n)
+unfolding encode
+fresh-encoded n = ap (λ k. headerEncoding k [] (replicate classes []) ++ segmentsEncoding (run n ∷ [])) (let q : n ≡ total (freshState n .segments) = omega arith in q)
+
+module _ (w : List ℕ) (n : ℕ) where
+  -- Init by the results of its two tests.
+  abbrev tested : Bool → Bool → Outcome Metadata
+  tested a b = provided a BadPages (viewOf w) (provided b FewWords (viewOf w) (answers (holding (viewOf w) (freshState n)) Done))
+
+  tested-answer : (a b : Bool) → (leb 1 n && leb n 256) ≡ a → leb (wordsFor n) (length w) ≡ b → (tested a b) .answer ≡ answerOf w (init n)
+  unfolding answerOf
+  tested-answer a b p q = λ i. (tested (sym p i) (sym q i)) .answer
+
+  tested-words : (a b : Bool) → (leb 1 n && leb n 256) ≡ a → leb (wordsFor n) (length w) ≡ b → written w ((tested a b) .after .state) ≡ metaAfter w (init n)
+  unfolding metaAfter
+  tested-words a b p q = λ i. written w ((tested (sym p i) (sym q i)) .after .state)
+
+  -- Refusal 1.
+  bad-answer : (leb 1 n && leb n 256) ≡ false → Refused BadPages ≡ answerOf w (init n)
+  bad-answer t = tested-answer false (leb (wordsFor n) (length w)) t refl
+
+  bad : (leb 1 n && leb n 256) ≡ false → (Refused BadPages ≡ answerOf w (init n)) × (w ≡ metaAfter w (init n))
+  bad t = (bad-answer t, sym (refused-same w (init n) (ap (λ r. isRefused r) (sym (bad-answer t)))))
+
+  pub no-pages : n ≡ 0 → (Refused BadPages ≡ answerOf w (init n)) × (w ≡ metaAfter w (init n))
+  no-pages z = bad (refuted (leb 1 n && leb n 256) (λ t. omega (arith, leb-true 1 n (and-left (leb 1 n) (leb n 256) t))))
+
+  pub many-pages : 256 < n → (Refused BadPages ≡ answerOf w (init n)) × (w ≡ metaAfter w (init n))
+  many-pages h = bad (refuted (leb 1 n && leb n 256) (λ t. omega (arith, leb-true n 256 (and-right (leb 1 n) (leb n 256) t))))
+
+  module _ (some : (n ≡ 0 → ⊥)) (few : n ≤ 256) where
+    legal : (leb 1 n && leb n 256) ≡ true
+    legal = and-both (leb 1 n) (leb n 256) (le-leb 1 n (omega (arith, some))) (le-leb n 256 few)
+
+    module _ (e : ℕ) (at : e ≡ wordsFor n) where
+      -- Refusal 2.
+      short-answer : length w < e → Refused FewWords ≡ answerOf w (init n)
+      short-answer h = tested-answer true false legal (lt-leb (wordsFor n) (length w) (omega (arith, at)))
+
+      pub few-words : length w < e → (Refused FewWords ≡ answerOf w (init n)) × (w ≡ metaAfter w (init n))
+      few-words h = (short-answer h, sym (refused-same w (init n) (ap (λ r. isRefused r) (sym (short-answer h)))))
+
+      -- The header and the pages are set up.
+      fresh-long : headerWords + (e - headerWords) ≡ length (encode (freshState n))
+      fresh-long = omega (arith, at, encode-long (freshState n) (fresh-valid n (omega (arith, some)) few))
+
+      pub set-up-done : e ≤ length w → (h g : List ℕ) → h ≡ headerEncoding n [] (replicate classes []) → g ≡ segmentsEncoding (run n ∷ []) → (Done ≡ answerOf w (init n)) × (putMid headerWords (e - headerWords) (h ++ drop headerWords w) g ≡ metaAfter w (init n))
+      set-up-done l h g p q =
+          let long : leb (wordsFor n) (length w) ≡ true = le-leb (wordsFor n) (length w) (omega (arith, at)) in (
+            tested-answer true true legal long,
+            put-front headerWords (e - headerWords) w h g (ap length p ∙ length-header n [] (replicate classes []))
+                ∙ (λ i. (p i ++ q i) ++ drop (fresh-long i) w)
+                ∙ ap (λ l. l ++ drop (length (encode (freshState n))) w) (fresh-encoded n)
+                ∙ tested-words true true legal long,
+          )

@@ -1,0 +1,4 @@
+pub mod Words
+pub mod Promises
+pub mod Acting
+pub mod Fresh

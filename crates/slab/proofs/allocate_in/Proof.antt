@@ -1,0 +1,34 @@
+-- `allocate_in` meets its contract. Assumes nothing.
+use Rattle.slab.proofs.Acting.{arena-few, arena-inside, arena-part, arena-good, arena-answer, arena-words}
+use borrow.Author.Needs.{needs}
+use Rattle.slab.proofs.allocate_in.Statement.{statement}
+use Rattle.slab.proofs.allocate_in.Tie as tie
+
+words-for-requires : tie.Need-words-for-requires
+words-for-requires c κs = arena-few (c .before .pre)
+
+slice-relend-prefix-allocate : tie.Need-slice-relend-prefix-allocate
+slice-relend-prefix-allocate c = arena-inside (c .before .before .pre) _ (c .words-for .ensures)
+
+slice-aggregate-allocate : tie.Need-slice-aggregate-allocate
+slice-aggregate-allocate c = arena-part (c .before .before .before .pre) _ (c .before .words-for .ensures)
+
+allocate-requires : tie.Need-allocate-requires
+allocate-requires c κs = arena-good (c .before .before .before .pre) _ (c .before .words-for .ensures)
+
+same-length : tie.Need-same-length
+same-length c = search needs
+
+returns : tie.Need-returns
+returns c = let h = c .before .before .before .before .before .before .pre in let e = c .before .before .before .before .words-for .ensures in let r = c .before .before .allocate .ensures in (arena-answer h _ e _ _ (r .0), arena-words h _ e _ _ (r .1))
+
+pub allocate-in-spec : {M : Type 1} → statement M
+allocate-in-spec =
+    tie.close
+    (tie.spec
+    words-for-requires
+    slice-relend-prefix-allocate
+    slice-aggregate-allocate
+    allocate-requires
+    same-length
+    returns)

@@ -1,0 +1,70 @@
+-- `call` meets its contract. Assumes nothing.
+use Rattle.slab.proofs.Acting.{refused-answer, refused-words, arena-of, same-call}
+use borrow.Author.Needs.{needs}
+use Rattle.slab.proofs.call.Statement.{statement}
+use Rattle.slab.proofs.call.Tie as tie
+
+arena-pages-requires : tie.Need-arena-pages-requires
+arena-pages-requires c κs = search needs
+
+same-length : tie.Need-same-length
+same-length c = search needs
+
+returns : tie.Need-returns
+returns c = (refused-answer _ _ (c .before .arena-pages .ensures) (c .if1 .taken) _, refused-words _ _ (c .before .arena-pages .ensures) (c .if1 .taken) _)
+
+enum-known-operation : tie.Need-enum-known-operation
+enum-known-operation c = search needs
+
+allocate-in-requires : tie.Need-allocate-in-requires
+allocate-in-requires c κs = arena-of _ _ (c .before .before .before .before .before .arena-pages .ensures) (c .before .before .before .before .if1 .left)
+
+enum-known-operation-2 : tie.Need-enum-known-operation-2
+enum-known-operation-2 c = search needs
+
+free-in-requires : tie.Need-free-in-requires
+free-in-requires c κs = arena-of _ _ (c .before .before .before .before .before .arena-pages .ensures) (c .before .before .before .before .if1 .left)
+
+enum-told : tie.Need-enum-told
+enum-told c = search needs
+
+reset-in-requires : tie.Need-reset-in-requires
+reset-in-requires c κs = arena-of _ _ (c .before .before .before .before .arena-pages .ensures) (c .before .before .before .if1 .left)
+
+same-length-2 : tie.Need-same-length-2
+same-length-2 c = search needs
+
+returns-2 : tie.Need-returns-2
+returns-2 c = same-call _ (c .before .before .before .before .before .before .before .before .before .before .before .args .call) _ (c .before .before .before .before .before .operation .given .1) _ _ (c .before .before .allocate-in .ensures)
+
+same-length-3 : tie.Need-same-length-3
+same-length-3 c = search needs
+
+returns-3 : tie.Need-returns-3
+returns-3 c = same-call _ (c .before .before .before .before .before .before .before .before .before .before .before .args .call) _ (c .before .before .before .before .before .operation2 .given .1) _ _ (c .before .before .free-in .ensures)
+
+same-length-4 : tie.Need-same-length-4
+same-length-4 c = search needs
+
+returns-4 : tie.Need-returns-4
+returns-4 c = same-call _ (c .before .before .before .before .before .before .before .before .before .before .args .call) _ (c .before .before .before .before .enum-told .given .1) _ _ (c .before .before .reset-in .ensures)
+
+pub call-spec : {M : Type 1} → statement M
+call-spec =
+    tie.close
+    (tie.spec
+    arena-pages-requires
+    same-length
+    returns
+    enum-known-operation
+    allocate-in-requires
+    enum-known-operation-2
+    free-in-requires
+    enum-told
+    reset-in-requires
+    same-length-2
+    returns-2
+    same-length-3
+    returns-3
+    same-length-4
+    returns-4)

@@ -1,0 +1,34 @@
+-- `free_in` meets its contract. Assumes nothing.
+use Rattle.slab.proofs.Acting.{arena-few, arena-inside, arena-part, arena-good, arena-answer, arena-words}
+use borrow.Author.Needs.{needs}
+use Rattle.slab.proofs.free_in.Statement.{statement}
+use Rattle.slab.proofs.free_in.Tie as tie
+
+words-for-requires : tie.Need-words-for-requires
+words-for-requires c κs = arena-few (c .before .pre)
+
+slice-relend-prefix-free : tie.Need-slice-relend-prefix-free
+slice-relend-prefix-free c = arena-inside (c .before .before .pre) _ (c .words-for .ensures)
+
+slice-aggregate-free : tie.Need-slice-aggregate-free
+slice-aggregate-free c = arena-part (c .before .before .before .pre) _ (c .before .words-for .ensures)
+
+free-requires : tie.Need-free-requires
+free-requires c κs = arena-good (c .before .before .before .pre) _ (c .before .words-for .ensures)
+
+same-length : tie.Need-same-length
+same-length c = search needs
+
+returns : tie.Need-returns
+returns c = let h = c .before .before .before .before .before .before .pre in let e = c .before .before .before .before .words-for .ensures in let r = c .before .before .free .ensures in (arena-answer h _ e _ _ (r .0), arena-words h _ e _ _ (r .1))
+
+pub free-in-spec : {M : Type 1} → statement M
+free-in-spec =
+    tie.close
+    (tie.spec
+    words-for-requires
+    slice-relend-prefix-free
+    slice-aggregate-free
+    free-requires
+    same-length
+    returns)

@@ -1,0 +1,64 @@
+-- `init` meets its contract. Assumes nothing.
+use Rattle.slab.proofs.Fresh.{set-up-done, front-there, no-pages, many-pages, few-words}
+use mathlib.Core.Path.{sym}
+use native.Mathlib.Omega.{arith}
+use borrow.Author.Needs.{needs}
+use Rattle.slab.proofs.init.Statement.{statement}
+use Rattle.slab.proofs.init.Tie as tie
+
+returns : tie.Need-returns
+returns c = no-pages _ _ (c .if1 .taken)
+
+returns-2 : tie.Need-returns-2
+returns-2 c = many-pages _ _ (c .if2 .taken)
+
+words-for-requires : tie.Need-words-for-requires
+words-for-requires c κs = search needs
+
+returns-3 : tie.Need-returns-3
+returns-3 c = few-words _ _ (c .before .before .before .if1 .left) (c .before .before .if2 .left) _ (c .before .words-for .ensures) (c .if3 .taken)
+
+slice-relend-prefix-set-up : tie.Need-slice-relend-prefix-set-up
+slice-relend-prefix-set-up c = search needs
+
+slice-aggregate-set-up : tie.Need-slice-aggregate-set-up
+slice-aggregate-set-up c = sym (front-there 1024 (c .before .before .before .before .before .before .args .meta .now) (omega (arith, c .before .before .words-for .ensures)))
+
+set-up-requires : tie.Need-set-up-requires
+set-up-requires c κs = search (front-there 1024 (c .before .before .before .before .before .before .args .meta .now) (omega (arith, c .before .before .words-for .ensures)))
+
+sub-set-up : tie.Need-sub-set-up
+sub-set-up c = search needs
+
+part-set-up-start : tie.Need-part-set-up-start
+part-set-up-start c = search needs
+
+part-set-up-end : tie.Need-part-set-up-end
+part-set-up-end c = search needs
+
+set-up-requires-2 : tie.Need-set-up-requires-2
+set-up-requires-2 c κs = search needs
+
+same-length : tie.Need-same-length
+same-length c = search needs
+
+returns-4 : tie.Need-returns-4
+returns-4 c = set-up-done _ _ (c .before .before .before .before .before .before .before .before .before .before .before .if1 .left) (c .before .before .before .before .before .before .before .before .before .before .if2 .left) _ (c .before .before .before .before .before .before .before .before .before .words-for .ensures) (c .before .before .before .before .before .before .before .before .if3 .left) _ _ (c .before .before .before .before .before .before .set-up .ensures) (c .before .before .set-up2 .ensures)
+
+pub init-spec : {M : Type 1} → statement M
+init-spec =
+    tie.close
+    (tie.spec
+    returns
+    returns-2
+    words-for-requires
+    returns-3
+    slice-relend-prefix-set-up
+    slice-aggregate-set-up
+    set-up-requires
+    sub-set-up
+    part-set-up-start
+    part-set-up-end
+    set-up-requires-2
+    same-length
+    returns-4)

@@ -1,0 +1,34 @@
+-- `reset_in` meets its contract. Assumes nothing.
+use Rattle.slab.proofs.Acting.{arena-few, arena-inside, arena-part, arena-good, arena-answer, arena-words}
+use borrow.Author.Needs.{needs}
+use Rattle.slab.proofs.reset_in.Statement.{statement}
+use Rattle.slab.proofs.reset_in.Tie as tie
+
+words-for-requires : tie.Need-words-for-requires
+words-for-requires c κs = arena-few (c .before .pre)
+
+slice-relend-prefix-reset : tie.Need-slice-relend-prefix-reset
+slice-relend-prefix-reset c = arena-inside (c .before .before .pre) _ (c .words-for .ensures)
+
+slice-aggregate-reset : tie.Need-slice-aggregate-reset
+slice-aggregate-reset c = arena-part (c .before .before .before .pre) _ (c .before .words-for .ensures)
+
+reset-requires : tie.Need-reset-requires
+reset-requires c κs = arena-good (c .before .before .before .pre) _ (c .before .words-for .ensures)
+
+same-length : tie.Need-same-length
+same-length c = search needs
+
+returns : tie.Need-returns
+returns c = let h = c .before .before .before .before .before .before .pre in let e = c .before .before .before .before .words-for .ensures in let r = c .before .before .reset .ensures in (arena-answer h _ e _ _ (r .0), arena-words h _ e _ _ (r .1))
+
+pub reset-in-spec : {M : Type 1} → statement M
+reset-in-spec =
+    tie.close
+    (tie.spec
+    words-for-requires
+    slice-relend-prefix-reset
+    slice-aggregate-reset
+    reset-requires
+    same-length
+    returns)

@@ -1,0 +1,48 @@
+-- `trim` meets its contract. Assumes nothing.
+use Rattle.slab.proofs.Acting.{refused-answer, refused-words, arena-of, arena-few, arena-inside, arena-part, arena-good, arena-answer, arena-words}
+use Rattle.model.specs.declared.Answer.the-variants.{Counted}
+use mathlib.Core.Path.{ap}
+use borrow.Author.Needs.{needs}
+use Rattle.slab.proofs.trim.Statement.{statement}
+use Rattle.slab.proofs.trim.Tie as tie
+
+arena-pages-requires : tie.Need-arena-pages-requires
+arena-pages-requires c κs = search needs
+
+same-length : tie.Need-same-length
+same-length c = search needs
+
+returns : tie.Need-returns
+returns c = (refused-answer _ _ (c .before .arena-pages .ensures) (c .if1 .taken) _, refused-words _ _ (c .before .arena-pages .ensures) (c .if1 .taken) _)
+
+words-for-requires : tie.Need-words-for-requires
+words-for-requires c κs = arena-few (arena-of _ _ (c .before .arena-pages .ensures) (c .if1 .left))
+
+slice-relend-prefix-trim-all : tie.Need-slice-relend-prefix-trim-all
+slice-relend-prefix-trim-all c = arena-inside (arena-of _ _ (c .before .before .arena-pages .ensures) (c .before .if1 .left)) _ (c .words-for .ensures)
+
+slice-aggregate-trim-all : tie.Need-slice-aggregate-trim-all
+slice-aggregate-trim-all c = arena-part (arena-of _ _ (c .before .before .before .arena-pages .ensures) (c .before .before .if1 .left)) _ (c .before .words-for .ensures)
+
+trim-all-requires : tie.Need-trim-all-requires
+trim-all-requires c κs = arena-good (arena-of _ _ (c .before .before .before .arena-pages .ensures) (c .before .before .if1 .left)) _ (c .before .words-for .ensures)
+
+same-length-2 : tie.Need-same-length-2
+same-length-2 c = search needs
+
+returns-2 : tie.Need-returns-2
+returns-2 c = let h = arena-of _ _ (c .before .before .before .before .before .before .arena-pages .ensures) (c .before .before .before .before .before .if1 .left) in let e = c .before .before .before .before .words-for .ensures in let r = c .before .before .trim-all .ensures in (arena-answer h _ e _ _ (ap Counted (r .0)), arena-words h _ e _ _ (r .1))
+
+pub trim-spec : {M : Type 1} → statement M
+trim-spec =
+    tie.close
+    (tie.spec
+    arena-pages-requires
+    same-length
+    returns
+    words-for-requires
+    slice-relend-prefix-trim-all
+    slice-aggregate-trim-all
+    trim-all-requires
+    same-length-2
+    returns-2)

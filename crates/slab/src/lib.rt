@@ -1,0 +1,145 @@
+// The public calls. Any words may be lent: every call but `init` first checks that they begin with the words of a valid state, and is
+// refused otherwise. specs/Calls.antt says what each call answers and leaves; proofs/Promises.antt what follows from it.
+ghost use mathlib.Core.Path.{_≡_};
+ghost use Prim.Native.Nat.{_≤_};
+ghost use lib.ListN.{length};
+ghost use Rattle.model.specs.Calls as rules;
+ghost use Rattle.model.specs.declared.Operation.the-variants as operation;
+ghost use Rattle.model.specs.Perform.{wordsFor};
+ghost use Rattle.metadata.specs.Decoding.{stateOf};
+ghost use Rattle.slab.specs.Calls.{answerOf, metaAfter, textAfter};
+ghost use Rattle.slab.specs.Arena.{pagesOf, Arena};
+use header::WORDS as HEADER;
+use model::Answer;
+use model::Call;
+use model::Operation;
+use model::Refusal;
+use pages::PAGE;
+
+const MOST_PAGES: u32 = 256;
+
+// The words of an arena of n pages.
+fn words_for(n: usize) -> usize
+    requires { ⌜ n ≤ 256 ⌝ }
+    ensures { λ r. ⌜ r ≡ wordsFor n ⌝ }
+{
+    HEADER + PAGE * n
+}
+
+// The pages of the arena with whose words the words begin, 0 where they do not begin with the words of a valid state.
+fn arena_pages(meta: &[u32]) -> usize
+    ensures { λ r. ⌜ r ≡ pagesOf (stateOf (now (meta .entry))) ⌝ }
+{
+    if !metadata::check(meta) {
+        return 0;
+    }
+    header::pages(&meta[..HEADER]) as usize
+}
+
+// Sets the words up for an arena of so many pages, all free, whatever the words held.
+pub fn init(meta: &mut [u32], pages: u32) -> Answer
+    ensures { λ r. ⌜ r ≡ answerOf (now (meta .entry)) (rules.init pages) ⌝ }
+    ensures { λ _. ⌜ now (meta .exit) ≡ metaAfter (now (meta .entry)) (rules.init pages) ⌝ }
+{
+    if pages == 0 {
+        return Answer::Refused(Refusal::BadPages);
+    }
+    if MOST_PAGES < pages {
+        return Answer::Refused(Refusal::BadPages);
+    }
+    let n = pages as usize;
+    let e = words_for(n);
+    if meta.len() < e {
+        return Answer::Refused(Refusal::FewWords);
+    }
+    header::set_up(&mut meta[..HEADER], pages);
+    pages::set_up(&mut meta[HEADER..e], n);
+    Answer::Done
+}
+
+// Gives back every zone that has no live chunk, and answers how many there were.
+pub fn trim(meta: &mut [u32]) -> Answer
+    ensures { λ r. ⌜ r ≡ answerOf (now (meta .entry)) (rules.act rules.trim) ⌝ }
+    ensures { λ _. ⌜ now (meta .exit) ≡ metaAfter (now (meta .entry)) (rules.act rules.trim) ⌝ }
+{
+    let n = arena_pages(meta);
+    if n == 0 {
+        return Answer::Refused(Refusal::NoState);
+    }
+    let e = words_for(n);
+    let count = trim::trim_all(&mut meta[..e], n);
+    Answer::Counted(count)
+}
+
+// The group and the room of the live block that begins at the offset.
+pub fn query(meta: &[u32], offset: u32) -> Answer
+    ensures { λ r. ⌜ r ≡ answerOf (now (meta .entry)) (rules.act (rules.query offset)) ⌝ }
+{
+    let n = arena_pages(meta);
+    if n == 0 {
+        return Answer::Refused(Refusal::NoState);
+    }
+    let e = words_for(n);
+    blocks::describe(&meta[..e], n, offset)
+}
+
+// Writes the arena's listing to the front of the buffer, if it has room for all of it, and answers the listing's bytes.
+pub fn listing(meta: &[u32], text: &mut [u8]) -> Answer
+    ensures { λ r. ⌜ r ≡ answerOf (now (meta .entry)) (rules.act (rules.listing (length (now (text .entry))))) ⌝ }
+    ensures { λ _. ⌜ now (text .exit) ≡ textAfter (now (meta .entry)) (now (text .entry)) ⌝ }
+{
+    let n = arena_pages(meta);
+    if n == 0 {
+        return Answer::Refused(Refusal::NoState);
+    }
+    let e = words_for(n);
+    listing::list_into(&meta[HEADER..e], n, text)
+}
+
+// The group is granted a block of so many bytes.
+fn allocate_in(meta: &mut [u32], n: usize, group: u32, size: u32) -> Answer
+    requires { ⌜ Arena (now meta) n ⌝ }
+    ensures { λ r. ⌜ r ≡ answerOf (now (meta .entry)) (rules.act (rules.group (record { group = group; operation = operation.Allocate size }))) ⌝ }
+    ensures { λ _. ⌜ now (meta .exit) ≡ metaAfter (now (meta .entry)) (rules.act (rules.group (record { group = group; operation = operation.Allocate size }))) ⌝ }
+{
+    let e = words_for(n);
+    allocate::allocate(&mut meta[..e], n, group, size)
+}
+
+// The group's block that begins at the offset comes back.
+fn free_in(meta: &mut [u32], n: usize, group: u32, offset: u32) -> Answer
+    requires { ⌜ Arena (now meta) n ⌝ }
+    ensures { λ r. ⌜ r ≡ answerOf (now (meta .entry)) (rules.act (rules.group (record { group = group; operation = operation.Free offset }))) ⌝ }
+    ensures { λ _. ⌜ now (meta .exit) ≡ metaAfter (now (meta .entry)) (rules.act (rules.group (record { group = group; operation = operation.Free offset }))) ⌝ }
+{
+    let e = words_for(n);
+    free::free(&mut meta[..e], n, group, offset)
+}
+
+// All the group's blocks come back.
+fn reset_in(meta: &mut [u32], n: usize, group: u32) -> Answer
+    requires { ⌜ Arena (now meta) n ⌝ }
+    ensures { λ r. ⌜ r ≡ answerOf (now (meta .entry)) (rules.act (rules.group (record { group = group; operation = operation.Reset }))) ⌝ }
+    ensures { λ _. ⌜ now (meta .exit) ≡ metaAfter (now (meta .entry)) (rules.act (rules.group (record { group = group; operation = operation.Reset }))) ⌝ }
+{
+    let e = words_for(n);
+    reset::reset(&mut meta[..e], n, group)
+}
+
+// A group's call: it asks for a block, gives one back, or gives back all of its blocks.
+pub fn call(meta: &mut [u32], call: Call) -> Answer
+    ensures { λ r. ⌜ r ≡ answerOf (now (meta .entry)) (rules.act (rules.group call)) ⌝ }
+    ensures { λ _. ⌜ now (meta .exit) ≡ metaAfter (now (meta .entry)) (rules.act (rules.group call)) ⌝ }
+{
+    let n = arena_pages(meta);
+    if n == 0 {
+        return Answer::Refused(Refusal::NoState);
+    }
+    let group = call.group;
+    let operation = call.operation;
+    match operation {
+        Operation::Allocate(size) => allocate_in(meta, n, group, size),
+        Operation::Free(offset) => free_in(meta, n, group, offset),
+        Operation::Reset => reset_in(meta, n, group),
+    }
+}

@@ -1,0 +1,131 @@
+/*
+ * A board of 24 pages that several groups share: requests, a refusal, a return, a reset, a trim, and the listing in between.
+ *
+ *     ./library
+ *     cc -std=c99 -Wall -Wextra -Wpedantic -Werror -Itarget/nostrimel examples/board.c target/nostrimel/libnostrimel.a
+ *
+ * It prints what board.txt holds. Every answer is compared with the expected one; the first that differs ends it with status 1.
+ */
+#include <nostrimel.h>
+
+#include <stdio.h>
+#include <stdlib.h>
+
+enum { PAGES = 24, WORDS = NOSTRIMEL_WORDS(PAGES) };
+
+/* The metadata, which the library is lent with each call. The arena that the offsets are for would be 24 * 4,096 bytes. */
+static uint32_t meta[WORDS];
+
+/* Ends the program unless what came is what was expected. */
+static void expect(const char *what, unsigned long came, unsigned long expected)
+{
+    if (came != expected) {
+        fprintf(stderr, "%s: %lu came, %lu was expected\n", what, came, expected);
+        exit(EXIT_FAILURE);
+    }
+}
+
+/* A request that is granted at the expected offset. */
+static uint32_t request(uint32_t group, uint32_t size, uint32_t expected)
+{
+    uint32_t offset;
+
+    expect("request", nostrimel_allocate(meta, WORDS, group, size, &offset), NOSTRIMEL_DONE);
+    expect("offset", offset, expected);
+    printf("group %2u asks for %5u bytes: at %5u\n", (unsigned)group, (unsigned)size, (unsigned)offset);
+    return offset;
+}
+
+/* A request that is refused. The offset is not written. */
+static void refused(uint32_t group, uint32_t size, enum nostrimel_refusal expected)
+{
+    uint32_t offset = 77;
+    uint32_t number = nostrimel_allocate(meta, WORDS, group, size, &offset);
+
+    expect("refusal", number, (unsigned long)expected);
+    expect("offset after a refusal", offset, 77);
+    printf("group %2u asks for %5u bytes: no %u\n", (unsigned)group, (unsigned)size, (unsigned)number);
+}
+
+/* A return, served or refused. */
+static void give_back(uint32_t group, uint32_t offset, enum nostrimel_refusal expected)
+{
+    uint32_t number = nostrimel_free(meta, WORDS, group, offset);
+
+    expect("return", number, (unsigned long)expected);
+    printf("group %2u returns %u: ", (unsigned)group, (unsigned)offset);
+    if (number == NOSTRIMEL_DONE) {
+        printf("done\n");
+    } else {
+        printf("no %u\n", (unsigned)number);
+    }
+}
+
+/* Whose block begins at an offset, and how long it is. */
+static void ask(uint32_t offset, uint32_t expected_group, uint32_t expected_room)
+{
+    uint32_t group, room;
+
+    expect("query", nostrimel_query(meta, WORDS, offset, &group, &room), NOSTRIMEL_DONE);
+    expect("group", group, expected_group);
+    expect("room", room, expected_room);
+    printf("at %u: %u bytes of group %u\n", (unsigned)offset, (unsigned)room, (unsigned)group);
+}
+
+/*
+ * Free runs (start page, pages), blocks of whole pages (start page, pages, group), zones (start page, class, live chunks). The text
+ * has no NUL at its end; its length says where that is.
+ */
+static void list(void)
+{
+    static uint8_t text[NOSTRIMEL_LONGEST_LISTING];
+    size_t length;
+
+    expect("listing", nostrimel_listing(meta, WORDS, text, sizeof text, &length), NOSTRIMEL_DONE);
+    printf("-- %u bytes\n", (unsigned)length);
+    fwrite(text, 1, length, stdout);
+    printf("--\n");
+}
+
+int main(void)
+{
+    uint32_t small, large, count;
+
+    /* Words that nobody has started are no state: they are static, so all zero. */
+    expect("trim before init", nostrimel_trim(meta, WORDS, &count), NOSTRIMEL_NO_STATE);
+    expect("init", nostrimel_init(meta, WORDS, PAGES), NOSTRIMEL_DONE);
+    printf("%u pages, %u words of metadata\n", (unsigned)PAGES, (unsigned)WORDS);
+
+    /* 100 bytes are a chunk of 104 in a zone of 8 pages; 9,000 bytes are three pages; 8,191 bytes are the largest chunk. */
+    small = request(1, 100, 0);
+    request(2, 97, 104);
+    large = request(3, 9000, 8 * NOSTRIMEL_PAGE_BYTES);
+    request(1, 8191, 11 * NOSTRIMEL_PAGE_BYTES);
+    ask(small, 1, 104);
+    ask(large, 3, 3 * NOSTRIMEL_PAGE_BYTES);
+
+    /* Five pages are left, and these would be six. */
+    refused(4, 24576, NOSTRIMEL_NO_ROOM);
+    refused(13, 24576, NOSTRIMEL_BAD_GROUP);
+    list();
+
+    /* A block comes back once, and from its own group. */
+    give_back(2, small, NOSTRIMEL_OTHER_GROUP);
+    give_back(1, small, NOSTRIMEL_DONE);
+    give_back(1, small, NOSTRIMEL_NO_BLOCK);
+
+    /* The untouched chunks of a zone go out before the returned ones. */
+    request(5, 104, 208);
+
+    /* Group 1 packs up. Its zone of large chunks is empty then, but keeps its pages until the trim. */
+    expect("reset", nostrimel_reset(meta, WORDS, 1, &count), NOSTRIMEL_DONE);
+    expect("blocks of group 1", count, 1);
+    printf("group  1 packs up: %u block\n", (unsigned)count);
+    refused(4, 24576, NOSTRIMEL_NO_ROOM);
+    expect("trim", nostrimel_trim(meta, WORDS, &count), NOSTRIMEL_DONE);
+    expect("zones given back", count, 1);
+    printf("trim: %u zone given back\n", (unsigned)count);
+    request(4, 24576, 11 * NOSTRIMEL_PAGE_BYTES);
+    list();
+    return EXIT_SUCCESS;
+}

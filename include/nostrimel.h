@@ -1,0 +1,119 @@
+/*
+ * Nostrimel: a proved memory allocator for one arena of 1 to 256 pages of 4,096 bytes, which groups 1 to 12 share.
+ *
+ * It hands out byte offsets from the arena's start and never reads or writes the arena. All it knows stands in 32-bit words
+ * that the caller lends with each call, the metadata; between calls it keeps nothing anywhere else. Requests below 8,192 bytes
+ * get a chunk in a zone of 8 pages, larger ones whole pages.
+ *
+ *     ./library       writes target/nostrimel/libnostrimel.a and puts this file beside it
+ *     cc -std=c99 -Itarget/nostrimel board.c target/nostrimel/libnostrimel.a
+ *
+ * Answers. Every function returns 0, or the number of the refusal (enum nostrimel_refusal). Which numbers a function can return
+ * stands at the function, in the order in which they are tested: the first that applies is returned. A refused call changes no
+ * word of the metadata and no byte of the text, and writes nothing through its other pointers: results are written only where the
+ * function returns 0.
+ *
+ * What the caller keeps. These are conditions of C, which no callee can test:
+ *   - meta points to an array of that many words, text to one of capacity bytes. Neither is NULL, even if the number is 0.
+ *   - A pointer to a result (offset, count, group, room, length) points to one such object and is not NULL.
+ *   - What two pointers of one call point to does not overlap: not the metadata with a result or with the text, not two results.
+ *   - While a call runs, nobody else writes what it was lent, or reads what it may write. There are no locks: calls on the same
+ *     words take turns; only queries and listings may run beside each other.
+ * Nothing is asked of what the words hold. Whatever stands in them, every call ends, and reads and writes nothing but what it was
+ * lent; words that are no valid state are refused by NOSTRIMEL_NO_STATE. docs/LAYOUT.md says what the words mean.
+ *
+ * How many words. An arena of N pages has its state in the first NOSTRIMEL_WORDS(N) words. More may be lent; the words behind are
+ * never read or changed.
+ */
+#ifndef NOSTRIMEL_H
+#define NOSTRIMEL_H
+
+#include <stddef.h>
+#include <stdint.h>
+
+#ifdef __cplusplus
+extern "C" {
+#endif
+
+/* Bytes of a page, the most pages of an arena, and its groups: 1 to NOSTRIMEL_GROUPS. */
+#define NOSTRIMEL_PAGE_BYTES 4096u
+#define NOSTRIMEL_MAX_PAGES 256u
+#define NOSTRIMEL_GROUPS 12u
+
+/* The largest size that a request may name, in bytes: all of the largest arena. */
+#define NOSTRIMEL_MAX_SIZE 1048576u
+
+/* How many words of metadata an arena of so many pages needs: 13,504 for 24 pages, 134,144 for 256. */
+#define NOSTRIMEL_WORDS(pages) ((size_t)1024 + (size_t)520 * (size_t)(pages))
+
+/* Bytes of the longest listing of any valid state: with a text of this capacity a listing is never refused for want of room. */
+#define NOSTRIMEL_LONGEST_LISTING 2220u
+
+/* Why a call was refused. 9 to 11 are kept for later. */
+enum nostrimel_refusal {
+    NOSTRIMEL_DONE = 0,         /* not refused */
+    NOSTRIMEL_BAD_PAGES = 1,    /* the number of pages is 0 or above 256 */
+    NOSTRIMEL_FEW_WORDS = 2,    /* fewer words than so many pages need */
+    NOSTRIMEL_NO_STATE = 3,     /* the words hold no valid state, or are fewer than theirs needs */
+    NOSTRIMEL_BAD_GROUP = 4,    /* the group is not 1 to 12 */
+    NOSTRIMEL_BAD_SIZE = 5,     /* the size is 0 or above 1,048,576 */
+    NOSTRIMEL_NO_ROOM = 6,      /* pages are needed, and nowhere are so many free ones in a row */
+    NOSTRIMEL_NO_BLOCK = 7,     /* no live block begins at the offset */
+    NOSTRIMEL_OTHER_GROUP = 8,  /* the block is another group's */
+    NOSTRIMEL_SHORT_BUFFER = 12 /* the capacity is less than the listing's length */
+};
+
+/*
+ * Makes the metadata those of a fresh arena: all pages free, no block live. Whatever the words held is forgotten, an arena in use
+ * among them.
+ * Refusals: BAD_PAGES, FEW_WORDS.
+ */
+uint32_t nostrimel_init(uint32_t *meta, size_t words, uint32_t pages);
+
+/*
+ * Requests a block of at least size bytes for a group. *offset is where it begins, in bytes from the arena's start. The block is
+ * live until the group returns it, and shares no byte with another live block.
+ * Refusals: NO_STATE, BAD_GROUP, BAD_SIZE, NO_ROOM.
+ */
+uint32_t nostrimel_allocate(uint32_t *meta, size_t words, uint32_t group, uint32_t size, uint32_t *offset);
+
+/*
+ * Returns the group's live block that begins at the offset.
+ * Refusals: NO_STATE, BAD_GROUP, NO_BLOCK (a second return and an offset inside a block among them), OTHER_GROUP.
+ */
+uint32_t nostrimel_free(uint32_t *meta, size_t words, uint32_t group, uint32_t offset);
+
+/*
+ * Returns all live blocks of a group, in ascending offset, each as nostrimel_free would. *count is how many there were; 0 is
+ * possible.
+ * Refusals: NO_STATE, BAD_GROUP.
+ */
+uint32_t nostrimel_reset(uint32_t *meta, size_t words, uint32_t group, uint32_t *count);
+
+/*
+ * Gives the pages of every zone without a live chunk back. *count is how many zones there were; 0 is possible.
+ * Refusals: NO_STATE.
+ */
+uint32_t nostrimel_trim(uint32_t *meta, size_t words, uint32_t *count);
+
+/*
+ * Tells of the live block that begins at the offset: the group that holds it, and its room in bytes, which is the size asked for
+ * rounded up to the chunk's or to whole pages. Changes no word.
+ * Refusals: NO_STATE, NO_BLOCK.
+ */
+uint32_t nostrimel_query(const uint32_t *meta, size_t words, uint32_t offset, uint32_t *group, uint32_t *room);
+
+/*
+ * Writes the listing at the front of the text; *length is its bytes. Later bytes stay, and no NUL is written behind it. It is
+ * ASCII, each line ended by LF: "runs" and how many free runs there are, then a line for each (start page, pages); "direct" and
+ * the blocks of whole pages (start page, pages, group); "zones" and the zones (start page, class, live chunks); each section in
+ * ascending order of start pages. Changes no word.
+ * Refusals: NO_STATE, SHORT_BUFFER.
+ */
+uint32_t nostrimel_listing(const uint32_t *meta, size_t words, uint8_t *text, size_t capacity, size_t *length);
+
+#ifdef __cplusplus
+}
+#endif
+
+#endif

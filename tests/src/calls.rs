@@ -1,0 +1,163 @@
+//! The allocator's calls, through C. include/nostrimel.h says what each of them does.
+//!
+//! A refusal is told by its number. What only this file can see is looked at here: that a refused
+//! call writes no result, and a listing no byte behind its text. Who lends the words looks at
+//! those.
+
+use reference::calls::{Answer, Call};
+
+extern "C" {
+    fn nostrimel_init(meta: *mut u32, words: usize, pages: u32) -> u32;
+    fn nostrimel_allocate(
+        meta: *mut u32,
+        words: usize,
+        group: u32,
+        size: u32,
+        offset: *mut u32,
+    ) -> u32;
+    fn nostrimel_free(meta: *mut u32, words: usize, group: u32, offset: u32) -> u32;
+    fn nostrimel_reset(meta: *mut u32, words: usize, group: u32, count: *mut u32) -> u32;
+    fn nostrimel_trim(meta: *mut u32, words: usize, count: *mut u32) -> u32;
+    fn nostrimel_query(
+        meta: *const u32,
+        words: usize,
+        offset: u32,
+        group: *mut u32,
+        room: *mut u32,
+    ) -> u32;
+    fn nostrimel_listing(
+        meta: *const u32,
+        words: usize,
+        text: *mut u8,
+        capacity: usize,
+        length: *mut usize,
+    ) -> u32;
+}
+
+/// Document 01's number of a refusal.
+pub type Number = u32;
+
+/// What stands in the place of a result before the call; no result is as large.
+const UNWRITTEN: u32 = 0xa5a5_a5a5;
+
+/// What stands in a listing's buffer before the call; no listing has this byte.
+const BLANK: u8 = 0xa5;
+
+/// Bytes behind the ones lent for a listing.
+const BEHIND: usize = 16;
+
+pub fn init(words: &mut [u32], pages: u32) -> Result<(), Number> {
+    // SAFETY: pointer and count are those of one slice, which nothing else reaches meanwhile.
+    let number = unsafe { nostrimel_init(words.as_mut_ptr(), words.len(), pages) };
+    done(number)
+}
+
+pub fn allocate(words: &mut [u32], group: u32, size: u32) -> Result<u32, Number> {
+    // SAFETY: as in `init`; the result is a local of its own.
+    result(|offset| unsafe {
+        nostrimel_allocate(words.as_mut_ptr(), words.len(), group, size, offset)
+    })
+}
+
+pub fn free(words: &mut [u32], group: u32, offset: u32) -> Result<(), Number> {
+    // SAFETY: as in `init`.
+    let number = unsafe { nostrimel_free(words.as_mut_ptr(), words.len(), group, offset) };
+    done(number)
+}
+
+pub fn reset(words: &mut [u32], group: u32) -> Result<u32, Number> {
+    // SAFETY: as in `allocate`.
+    result(|count| unsafe { nostrimel_reset(words.as_mut_ptr(), words.len(), group, count) })
+}
+
+pub fn trim(words: &mut [u32]) -> Result<u32, Number> {
+    // SAFETY: as in `allocate`.
+    result(|count| unsafe { nostrimel_trim(words.as_mut_ptr(), words.len(), count) })
+}
+
+/// Group and room. It only reads; why the words are lent for writing all the same is said at
+/// [`crate::check::check`].
+pub fn query(words: &mut [u32], offset: u32) -> Result<(u32, u32), Number> {
+    let mut room = UNWRITTEN;
+    // SAFETY: as in `allocate`; the two results are two locals.
+    let group = result(|group| unsafe {
+        nostrimel_query(words.as_mut_ptr(), words.len(), offset, group, &mut room)
+    });
+    assert!(group.is_ok() || room == UNWRITTEN, "a refusal wrote a room");
+    group.map(|group| (group, room))
+}
+
+/// The length of the listing, which stands at the front of the text then.
+pub fn listing(words: &mut [u32], text: &mut [u8]) -> Result<usize, Number> {
+    let mut length = usize::MAX;
+    // SAFETY: as in `allocate`; pointer and capacity are those of one slice too.
+    let number = unsafe {
+        nostrimel_listing(
+            words.as_mut_ptr(),
+            words.len(),
+            text.as_mut_ptr(),
+            text.len(),
+            &mut length,
+        )
+    };
+    match number {
+        0 => Ok(length),
+        _ => {
+            assert_eq!(length, usize::MAX, "a refusal wrote a length");
+            Err(number)
+        }
+    }
+}
+
+/// The listing that a buffer of so many bytes takes; all other bytes stay.
+pub fn listed(words: &mut [u32], capacity: usize) -> Result<String, Number> {
+    let mut text = vec![BLANK; capacity + BEHIND];
+    let length = listing(words, &mut text[..capacity]);
+    let kept = &text[length.unwrap_or(0)..];
+    assert!(kept.iter().all(|byte| *byte == BLANK), "bytes were written");
+    text.truncate(length?);
+    Ok(String::from_utf8(text).expect("a listing is ASCII"))
+}
+
+/// A call of any kind. A refusal is no [`Answer`] here, only its number.
+pub fn serve(words: &mut [u32], call: Call) -> Result<Answer, Number> {
+    match call {
+        Call::Init { pages } => init(words, pages).map(|()| Answer::Done),
+        Call::Allocate { group, size } => {
+            allocate(words, group, size).map(|offset| Answer::Granted { offset })
+        }
+        Call::Free { group, offset } => free(words, group, offset).map(|()| Answer::Done),
+        Call::Reset { group } => reset(words, group).map(Answer::Counted),
+        Call::Trim => trim(words).map(Answer::Counted),
+        Call::Query { offset } => {
+            query(words, offset).map(|(group, room)| Answer::Held { group, room })
+        }
+        Call::Listing { capacity } => listed(words, capacity).map(Answer::Listed),
+    }
+}
+
+/// The second program's answer in the same form.
+pub fn told(answer: Answer) -> Result<Answer, Number> {
+    match answer {
+        Answer::Refused(refusal) => Err(refusal.number()),
+        served => Ok(served),
+    }
+}
+
+fn done(number: u32) -> Result<(), Number> {
+    match number {
+        0 => Ok(()),
+        _ => Err(number),
+    }
+}
+
+/// The result of a call that writes one.
+fn result(call: impl FnOnce(&mut u32) -> u32) -> Result<u32, Number> {
+    let mut result = UNWRITTEN;
+    let number = call(&mut result);
+    assert!(
+        number == 0 || result == UNWRITTEN,
+        "a refusal wrote {result}"
+    );
+    done(number).map(|()| result)
+}

@@ -1,0 +1,210 @@
+//! Calls on damaged words. Where the second reading finds no state in them, a call is refused by 3
+//! and nothing changes; only an init is served on any words. Where it finds one, the call answers
+//! as the second program does on that state, and leaves the words of the state that it makes.
+
+use crate::edits;
+use crate::pool;
+use crate::subject::Subject;
+use crate::surgery;
+use crate::Edit;
+use reference::calls::{Allocator, Call};
+use reference::histories::Xorshift;
+use reference::listing::LONGEST;
+use reference::sizes::chunk_size;
+use reference::state::State;
+use std::io::Write;
+use std::thread;
+use tests::calls::{serve, told};
+use tests::layout::{decode, encode};
+
+/// Cases of each kind in each part, in arenas of 1 to 40 pages.
+const CASES: [(&str, u32, Edit); 4] = [
+    ("one word", 40_000, edits::one_word),
+    ("any edit", 20_000, edits::any_edit),
+    ("zone slots", 15_000, edits::zone_slots),
+    ("surgery", 60_000, surgery::operate),
+];
+
+/// Cases of each kind in each part, in arenas of up to 256 pages.
+const LARGE_CASES: u32 = 1_500;
+
+/// Parts with seeds of their own, which run beside each other.
+const PARTS: u64 = 2;
+
+/// What came of the cases.
+#[derive(Default)]
+struct Outcomes {
+    cases: u32,
+    /// Refused by 3.
+    stateless: u32,
+    /// Not refused at all.
+    served: u32,
+    differences: Vec<String>,
+}
+
+#[test]
+fn calls_on_damaged_words_do_what_the_second_program_does() {
+    let parts: Vec<Outcomes> = thread::scope(|scope| {
+        let parts: Vec<_> = (0..PARTS)
+            .map(|seed| scope.spawn(move || part(seed)))
+            .collect();
+        let done = parts.into_iter().map(|part| part.join());
+        done.map(|part| part.expect("no part panics")).collect()
+    });
+    let sum = |count: fn(&Outcomes) -> u32| parts.iter().map(count).sum::<u32>();
+    let cases = sum(|part| part.cases);
+    let stateless = sum(|part| part.stateless);
+    let served = sum(|part| part.served);
+    let differences: Vec<&String> = parts.iter().flat_map(|part| &part.differences).collect();
+    // Not by print!, which a test that passes keeps to itself.
+    writeln!(
+        std::io::stdout(),
+        "\ncalls: {cases} cases, {stateless} refused by 3, {served} served, {} differences",
+        differences.len()
+    )
+    .expect("standard output takes the line");
+    let first: Vec<&&String> = differences.iter().take(10).collect();
+    assert!(first.is_empty(), "{first:#?}");
+    assert!(cases >= 280_000);
+    assert!(stateless > 80_000 && served > 25_000);
+}
+
+/// All kinds once, from one seed.
+fn part(seed: u64) -> Outcomes {
+    let mut random = Xorshift::new(seed + 4_000);
+    let mut outcomes = Outcomes::default();
+    let mut small = pool::small();
+    let mut large = pool::large();
+    for (name, cases, edit) in CASES {
+        damage(name, &mut outcomes, &mut small, cases, &mut random, edit);
+        damage(
+            name,
+            &mut outcomes,
+            &mut large,
+            LARGE_CASES,
+            &mut random,
+            edit,
+        );
+    }
+    outcomes
+}
+
+/// So many cases by an edit, on one subject after the other.
+fn damage(
+    name: &str,
+    outcomes: &mut Outcomes,
+    pool: &mut [Subject],
+    cases: u32,
+    random: &mut Xorshift,
+    edit: Edit,
+) {
+    let end = outcomes.cases + cases;
+    while outcomes.cases < end {
+        let at = random.below(pool.len() as u32) as usize;
+        let subject = &mut pool[at];
+        // Several on one subject, while its words are near.
+        for _ in 0..16 {
+            edit(subject, random);
+            if subject.is_changed() && outcomes.cases < end {
+                let count = match random.below(8) {
+                    0 => subject.len(),
+                    _ => subject.used(),
+                };
+                outcomes.judge(name, subject, count, random);
+            }
+            subject.restore();
+        }
+    }
+}
+
+impl Outcomes {
+    /// Makes one call on the first `count` words.
+    fn judge(&mut self, name: &str, subject: &mut Subject, count: usize, random: &mut Xorshift) {
+        let found = decode(&subject.twin()[..count]);
+        let call = any_call(found.as_ref().unwrap_or(&subject.state), random);
+        let mut second = match found {
+            Some(state) => Allocator::picturing(count, state),
+            None => Allocator::zeroed(count),
+        };
+        let ours = serve(subject.lend(count), call);
+        let theirs = told(second.serve(call));
+        let (words, twin) = (subject.words(), subject.twin());
+        let as_expected = match second.state() {
+            Some(state) if theirs.is_ok() => {
+                let own = encode(state);
+                words.starts_with(&own) && words[own.len()..] == twin[own.len()..]
+            }
+            _ => words == twin,
+        };
+        if ours != theirs || !as_expected {
+            self.differences.push(format!(
+                "{name}: {call:?} on {count} words: {ours:?}, not {theirs:?}, words as expected \
+                 {as_expected}; {}",
+                subject.describe()
+            ));
+        }
+        subject.undo();
+        self.cases += 1;
+        self.stateless += u32::from(theirs == Err(3));
+        self.served += u32::from(theirs.is_ok());
+    }
+}
+
+/// A call that a state is likely to serve: about its blocks, its classes, its groups.
+fn any_call(state: &State, random: &mut Xorshift) -> Call {
+    let (owner, offset) = any_block(state, random);
+    let group = match random.below(8) {
+        0 => random.pick(&[0, 1, 12, 13]),
+        _ => owner,
+    };
+    match random.below(16) {
+        0 => Call::Init {
+            pages: random.pick(&[0, 1, state.pages - 1, state.pages, state.pages + 1, 257]),
+        },
+        1..=6 => Call::Allocate {
+            group: group.max(1),
+            size: any_size(state, random),
+        },
+        7..=10 => Call::Free { group, offset },
+        11 | 12 => Call::Reset { group },
+        13 => Call::Trim,
+        14 => Call::Query { offset },
+        _ => Call::Listing {
+            capacity: random.pick(&[LONGEST, 100, 29, 10]),
+        },
+    }
+}
+
+/// A group and an offset: of a live block, of a chunk that isn't live, or of nothing.
+fn any_block(state: &State, random: &mut Xorshift) -> (u32, u32) {
+    let anything = (1 + random.below(12), random.below(state.pages * 4_096));
+    let starts: Vec<u32> = state.zones.keys().copied().collect();
+    let blocks: Vec<u32> = state.direct.keys().copied().collect();
+    match random.below(8) {
+        0 => anything,
+        1..=5 if !starts.is_empty() => {
+            let start = random.pick(&starts);
+            let zone = &state.zones[&start];
+            let chunk = random.below(zone.handed_out + 1);
+            let owner = zone.owners.get(chunk as usize).copied().flatten();
+            let group = owner.map_or(anything.0, u32::from);
+            (group, start * 4_096 + chunk * zone.chunk_size())
+        }
+        _ if !blocks.is_empty() => {
+            let start = random.pick(&blocks);
+            (u32::from(state.direct[&start].group), start * 4_096)
+        }
+        _ => anything,
+    }
+}
+
+/// A size: of a class that has a zone more often than of another, or of a few pages.
+fn any_size(state: &State, random: &mut Xorshift) -> u32 {
+    let classes: Vec<u32> = state.zones.values().map(|zone| zone.class).collect();
+    match random.below(8) {
+        0 => 1 + random.below(8_191),
+        1 => random.pick(&[0, 1, 1_048_576, 1_048_577]),
+        2..=5 if !classes.is_empty() => chunk_size(random.pick(&classes)).min(8_191),
+        _ => 8_192 + random.below(30_000),
+    }
+}

@@ -1,0 +1,51 @@
+//! Document 01's whole session, by the calls.
+
+use reference::calls::{Answer, Call, Refusal};
+use reference::lines::{parse, render};
+use tests::calls::Number;
+use tests::pair::Pair;
+
+const INPUT: &str = include_str!("../../../reference/tests/data/session.in");
+const OUTPUT: &str = include_str!("../../../reference/tests/data/session.out");
+
+/// The bench program's words.
+const WORDS: usize = 13_504;
+
+/// What the bench program would write.
+fn written(answer: Result<Answer, Number>) -> String {
+    match answer {
+        Ok(answer) => render(&answer),
+        Err(number) => format!("no {number}\n"),
+    }
+}
+
+fn calls() -> impl Iterator<Item = Call> {
+    let lines = INPUT.lines();
+    lines.map(|line| parse(line.as_bytes()).expect("a call"))
+}
+
+#[test]
+fn the_session() {
+    let mut pair = Pair::zeroed(WORDS);
+    let output: String = calls().map(|call| written(pair.call(call))).collect();
+    assert_eq!(output, OUTPUT);
+    assert_eq!(pair.query(104), Ok((2, 104)));
+}
+
+#[test]
+fn the_session_on_words_of_any_kind_and_number() {
+    for more in [0, 1, 520, 5_000] {
+        let mut pair = Pair::noisy(WORDS + more);
+        let output: String = calls().map(|call| written(pair.call(call))).collect();
+        assert_eq!(output, OUTPUT);
+    }
+}
+
+#[test]
+fn before_its_start_everything_is_refused_by_3() {
+    let mut pair = Pair::zeroed(WORDS);
+    for call in calls().skip(1) {
+        assert_eq!(pair.call(call), Err(Refusal::NoLegalState.number()));
+    }
+    assert_eq!(pair.init(25), Err(2));
+}

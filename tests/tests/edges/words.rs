@@ -1,0 +1,138 @@
+//! How many words are lent: exactly enough, one too few, and more, which stay as they are.
+
+use reference::calls::Call;
+use reference::listing::LONGEST;
+use tests::layout::{encode, used_words};
+use tests::pair::{noise, Pair};
+use tests::states::{odd, reached};
+
+/// A call of every kind but init.
+const CALLS: [Call; 6] = [
+    Call::Allocate {
+        group: 1,
+        size: 100,
+    },
+    Call::Free {
+        group: 1,
+        offset: 0,
+    },
+    Call::Reset { group: 1 },
+    Call::Trim,
+    Call::Query { offset: 0 },
+    Call::Listing { capacity: LONGEST },
+];
+
+#[test]
+fn an_arena_of_n_pages_needs_1024_and_520_n_words() {
+    assert_eq!(used_words(1), 1_544);
+    assert_eq!(used_words(24), 13_504);
+    assert_eq!(used_words(32), 17_664);
+    assert_eq!(used_words(255), 133_624);
+    assert_eq!(used_words(256), 134_144);
+}
+
+#[test]
+fn init_with_exactly_enough_words_is_served() {
+    for pages in 1..=256 {
+        assert_eq!(Pair::noisy(used_words(pages)).init(pages), Ok(()));
+    }
+}
+
+#[test]
+fn init_with_one_word_too_few_is_refused_by_2() {
+    for pages in 1..=256 {
+        assert_eq!(Pair::noisy(used_words(pages) - 1).init(pages), Err(2));
+    }
+}
+
+#[test]
+fn init_with_far_too_few_words_is_refused_by_2() {
+    for lent in [0, 1, 2, 1_023, 1_024, 1_543] {
+        for pages in [1, 2, 255, 256] {
+            assert_eq!(Pair::noisy(lent).init(pages), Err(2));
+        }
+    }
+}
+
+#[test]
+fn a_state_in_exactly_enough_words_is_served() {
+    for pages in [1, 32, 255, 256] {
+        let mut pair = Pair::over(encode(&reached(pages, 200, 1)));
+        assert!(pair.text().starts_with("runs "));
+        for call in CALLS {
+            assert_ne!(pair.call(call), Err(3), "{pages} pages, {call:?}");
+        }
+    }
+}
+
+#[test]
+fn a_state_in_one_word_too_few_is_refused_by_3() {
+    for pages in [1, 32, 255, 256] {
+        for state in [reached(pages, 200, 1), odd(pages, 2)] {
+            let mut words = encode(&state);
+            words.pop();
+            let mut pair = Pair::over(words);
+            for call in CALLS {
+                assert_eq!(pair.call(call), Err(3), "{pages} pages, {call:?}");
+            }
+        }
+    }
+}
+
+/// The last word is there, behind the lent ones: it is not read.
+#[test]
+fn a_word_that_is_not_lent_is_not_read() {
+    for pages in [1, 32, 255, 256] {
+        let mut words = encode(&reached(pages, 200, 3));
+        let short = words.len() - 1;
+        let before = words.clone();
+        for call in CALLS {
+            assert_eq!(tests::calls::serve(&mut words[..short], call), Err(3));
+        }
+        assert_eq!(tests::calls::init(&mut words[..short], pages), Err(2));
+        assert_eq!(words, before);
+    }
+}
+
+/// The comparison of every word has the later ones in it, lent or not.
+#[test]
+fn later_words_are_neither_read_nor_changed() {
+    for pages in [1, 8, 32, 255, 256] {
+        for more in [1, 519, 520, 2_000] {
+            let mut words = encode(&reached(pages, 150, u64::from(pages)));
+            words.extend(noise(more, more as u64));
+            let mut pair = Pair::over(words);
+            for call in CALLS.into_iter().chain(CALLS) {
+                assert_ne!(pair.call(call), Err(3), "{pages} pages, {call:?}");
+            }
+            assert_eq!(pair.init(pages), Ok(()));
+        }
+    }
+}
+
+#[test]
+fn an_init_forgets_what_the_words_held() {
+    for pages in [32, 255, 256] {
+        let mut pair = Pair::over(encode(&reached(pages, 300, 5)));
+        assert_eq!(pair.init(pages), Ok(()));
+        assert_eq!(
+            pair.text(),
+            format!("runs 1\n0 {pages}\ndirect 0\nzones 0\n")
+        );
+        assert_eq!(pair.query(0), Err(7));
+    }
+}
+
+/// What the larger arena had behind the smaller one's words stays there.
+#[test]
+fn an_init_with_fewer_pages_leaves_the_words_behind_them() {
+    let mut pair = Pair::over(encode(&reached(255, 300, 7)));
+    for pages in [254, 32, 33, 1, 255] {
+        assert_eq!(pair.init(pages), Ok(()));
+        assert_eq!(
+            pair.text(),
+            format!("runs 1\n0 {pages}\ndirect 0\nzones 0\n")
+        );
+    }
+    assert_eq!(pair.init(256), Err(2));
+}

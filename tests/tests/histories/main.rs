@@ -1,0 +1,188 @@
+//! Pseudo-random histories of calls, made through C and on the second program: 2,000 of 500 calls
+//! or more that begin with an init, and 400 that begin with a valid state of any kind, be it one
+//! that no call makes.
+//!
+//!     cargo test --offline --locked -p tests --test histories
+//!
+//! Both programs give the same answer to every call and the same listing after every tenth. Their
+//! words are the same after every fiftieth call and at the end; to compare them after every call
+//! would take minutes in the large arenas. At the end both answer the same to a query of every live
+//! offset and of the byte behind it; of a beginning with any number of blocks, to 100 of them.
+//!
+//! The tests print what their histories came upon. They are the same in every run.
+
+mod counts;
+
+use counts::Counts;
+use reference::calls::{Answer, Call};
+use reference::histories::{Granted, History, Profile, Xorshift};
+use reference::listing::LONGEST;
+use std::io::Write;
+use std::sync::atomic::{AtomicU32, Ordering};
+use std::thread;
+use tests::layout::{encode, used_words};
+use tests::pair::{noise, Pair};
+use tests::states::odd;
+
+const CALLS: u32 = 500;
+/// Every so many calls the listing is compared.
+const LISTING: u32 = 10;
+/// Every so many calls the words are compared.
+const WORDS: u32 = 50;
+/// The most live offsets asked for at the end where the beginning had any number of them.
+const ASKED: usize = 100;
+
+/// Arenas of more interest than others; half of the histories are in one of these.
+const SIZES: [u32; 10] = [1, 8, 16, 24, 24, 32, 32, 40, 255, 256];
+
+#[test]
+fn histories_that_begin_with_an_init() {
+    let counts = all(2_000, from_init);
+    print("From an init", &counts);
+    assert!(counts.get("calls") >= 2_000 * CALLS);
+    counts.expect_each(300);
+}
+
+#[test]
+fn histories_that_begin_with_any_valid_state() {
+    let counts = all(400, from_any_state);
+    print("From any valid state", &counts);
+    assert!(counts.get("calls") >= 400 * CALLS);
+    counts.expect_each(50);
+}
+
+/// Not by print!, which a test that passes keeps to itself.
+fn print(title: &str, counts: &Counts) {
+    write!(std::io::stdout(), "\n{title}\n{counts}").expect("standard output takes the table");
+}
+
+/// The numbers of the histories still to come, which the threads share.
+struct Left {
+    next: AtomicU32,
+    end: u32,
+}
+
+impl Left {
+    fn take(&self) -> Option<u32> {
+        let number = self.next.fetch_add(1, Ordering::Relaxed);
+        (number < self.end).then_some(number)
+    }
+}
+
+/// Ends the other threads too when one fails.
+struct Guard<'a>(&'a Left);
+
+impl Drop for Guard<'_> {
+    fn drop(&mut self) {
+        if thread::panicking() {
+            self.0.next.store(self.0.end, Ordering::Relaxed);
+        }
+    }
+}
+
+/// So many histories, each told by its number, on all processors.
+fn all(histories: u32, one: fn(u32, &mut Counts)) -> Counts {
+    let left = Left {
+        next: AtomicU32::new(0),
+        end: histories,
+    };
+    let work = || {
+        let guard = Guard(&left);
+        let mut counts = Counts::default();
+        while let Some(number) = guard.0.take() {
+            one(number, &mut counts);
+        }
+        counts
+    };
+    let mut counts = Counts::default();
+    thread::scope(|scope| {
+        let threads = thread::available_parallelism().map_or(1, |count| count.get());
+        let workers: Vec<_> = (0..threads).map(|_| scope.spawn(work)).collect();
+        for worker in workers {
+            counts.add(worker.join().expect("a history failed, as said above"));
+        }
+    });
+    counts
+}
+
+fn from_init(number: u32, counts: &mut Counts) {
+    let mut random = Xorshift::new(u64::from(number) + 1_000_000);
+    let (pages, profile) = draw(number, &mut random);
+    let more = random.pick(&[0, 0, 1, 520, 700]);
+    let name = format!("history {number}, {profile:?}, {pages} pages");
+    let mut pair = Pair::noisy(used_words(pages) + more).named(name);
+    assert_eq!(pair.init(pages), Ok(()));
+    let history = History::with(profile, u64::from(number));
+    follow(&mut pair, history, &mut random, counts, usize::MAX);
+}
+
+fn from_any_state(number: u32, counts: &mut Counts) {
+    let mut random = Xorshift::new(u64::from(number) + 2_000_000);
+    let (pages, profile) = draw(number, &mut random);
+    let state = odd(pages, u64::from(number));
+    let name = format!("history {number} from a state, {profile:?}, {pages} pages");
+    let mut words = encode(&state);
+    words.extend(noise(random.below(700) as usize, u64::from(number)));
+    let live = state.live_blocks().into_iter().map(|block| Granted {
+        group: u32::from(block.group),
+        offset: block.offset,
+    });
+    let history = History::with(profile, u64::from(number)).knowing(live.collect());
+    let mut pair = Pair::over(words).named(name);
+    follow(&mut pair, history, &mut random, counts, ASKED);
+}
+
+/// An arena's pages and a profile.
+fn draw(number: u32, random: &mut Xorshift) -> (u32, Profile) {
+    let pages = match number % 2 {
+        0 => random.pick(&SIZES),
+        _ => 1 + random.below(256),
+    };
+    (pages, Profile::ALL[number as usize % Profile::ALL.len()])
+}
+
+/// Makes the calls of a history, and compares as said above.
+fn follow(
+    pair: &mut Pair,
+    mut history: History,
+    random: &mut Xorshift,
+    counts: &mut Counts,
+    asked: usize,
+) {
+    let calls = CALLS * random.pick(&[1, 1, 1, 1, 1, 1, 1, 3]);
+    // Half of them have an init in the middle, which is refused or begins a smaller arena.
+    let anew = (random.below(2) == 0).then(|| 1 + random.below(calls));
+    for made in 1..=calls {
+        let call = match anew {
+            Some(here) if here == made => Call::Init {
+                pages: 1 + random.below(256),
+            },
+            _ => history.next_call(),
+        };
+        let answer = pair.serve(call);
+        counts.answer(&call, &answer);
+        if let Ok(answer) = answer {
+            history.observe(&call, &answer);
+        }
+        if made % LISTING == 0 {
+            let capacity = LONGEST;
+            assert!(pair.serve(Call::Listing { capacity }).is_ok());
+        }
+        if made % WORDS == 0 {
+            pair.compare();
+            counts.state(pair.state());
+        }
+    }
+    counts.count("calls", calls);
+    let live = history.live();
+    assert_eq!(live.len(), pair.state().live_blocks().len());
+    for block in live.iter().take(asked) {
+        for offset in [block.offset, block.offset + 1] {
+            let answer = pair.serve(Call::Query { offset });
+            let begins = matches!(answer, Ok(Answer::Held { group, .. }) if group == block.group);
+            assert_eq!(begins, offset == block.offset);
+        }
+        counts.count("live blocks asked for at the end", 1);
+    }
+    pair.compare();
+}
