@@ -22,6 +22,8 @@
  * Nothing is asked of what the words hold. Whatever stands in them, every call ends, and reads and writes nothing but what it was
  * lent; words that are no valid state are refused by NOSTRIMEL_NO_STATE. docs/LAYOUT.md says what the words mean.
  *
+ * What the library needs: memset, and nothing else from outside (no heap, no input or output). It keeps nothing in static memory.
+ *
  * How many words. An arena of N pages has its state in the first NOSTRIMEL_WORDS(N) words. More may be lent; the words behind are
  * never read or changed.
  */
@@ -46,7 +48,8 @@ extern "C" {
 /* How many words of metadata an arena of so many pages needs: 13,504 for 24 pages, 134,144 for 256. */
 #define NOSTRIMEL_WORDS(pages) ((size_t)1024 + (size_t)520 * (size_t)(pages))
 
-/* Bytes of the longest listing of any valid state: with a text of this capacity a listing is never refused for want of room. */
+/* Bytes of the longest listing of any valid state (searched for and tested, not proved): with a text of this capacity a listing is
+ * not refused for want of room. */
 #define NOSTRIMEL_LONGEST_LISTING 2220u
 
 /* Why a call was refused. 9 to 11 are kept for later. */

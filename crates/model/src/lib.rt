@@ -13,7 +13,7 @@ pub struct Call {
     pub operation: Operation,
 }
 
-// Why a call is refused. Document 01's number of each case is `number` in specs/Answers.antt.
+// Why a call is refused. Document 01's number of each case is `number` in specs/Calls.antt.
 pub enum Refusal {
     BadPages,
     FewWords,
