@@ -27,9 +27,10 @@ use Rattle.metadata.specs.Decoding.{decode}
 use Rattle.steps.specs.Lent.{Encodes, ZoneHere}
 use Rattle.steps.specs.Moves.{fronted, spared, rezoned, carved}
 use Rattle.steps.proofs.Lent.{lent-decoded}
-use Rattle.allocate.specs.Outcomes.{Asked}
+use Rattle.allocate.specs.Asked.{Asked}
 use Rattle.allocate.proofs.Found.{front-page, front-nothing, found-run, found-nothing}
-use Rattle.allocate.proofs.Places.{Free, free, zone-begins}
+use Rattle.steps.proofs.Zones.{zone-there}
+use Rattle.allocate.proofs.Places.{Free, free}
 use Rattle.allocate.proofs.Between.{follows, between, room-for}
 
 module _ {w : List ℕ} {n c g : ℕ} (h : Asked w n c g) (empty : frontOf (listOf (decode w) c) ≡ Nothing) where
@@ -85,7 +86,7 @@ module _ {w : List ℕ} {n c g : ℕ} (h : Asked w n c g) (empty : frontOf (list
       behind-words = record { words = e; fits = fits-spare-pop (h .good .lent .fits); sound = h .good .lent .sound }
 
       pub behind-zone : ZoneHere (decode w₁) p
-      behind-zone = let f = h .good .valid .spared p on-spare in subst (λ x. ZoneHere x p) (sym (lent-decoded behind-words)) (zone-begins m p (f .0) (f .1))
+      behind-zone = let f = h .good .valid .spared p on-spare in subst (λ x. ZoneHere x p) (sym (lent-decoded behind-words)) (zone-there m p (f .0) (f .1))
 
       module _ {w₂ : List ℕ} (e₂ : w₂ ≡ encode (rezoned p new (decode w₁))) where
         pub renewed-words : Encodes w₂ (rezoned p new s₁)

@@ -23,7 +23,7 @@ use Rattle.metadata.specs.Encoding.{encode}
 use Rattle.metadata.specs.Decoding.{decode}
 use Rattle.steps.specs.Lent.{Good}
 use Rattle.steps.specs.Moves.{carved}
-use Rattle.allocate.specs.Outcomes.{Makes}
+use Rattle.steps.specs.Outcomes.{Makes}
 use Rattle.allocate.proofs.Found.{found-run, found-nothing}
 use Rattle.allocate.proofs.Places.{Free, free}
 

@@ -28,9 +28,9 @@ use Rattle.metadata.specs.Decoding.{decode}
 use Rattle.steps.specs.Lent.{Encodes, ZoneHere}
 use Rattle.steps.specs.Moves.{rezoned, unlisted}
 use Rattle.steps.proofs.Lent.{lent-decoded}
-use Rattle.allocate.specs.Outcomes.{Asked}
+use Rattle.allocate.specs.Asked.{Asked}
 use Rattle.allocate.proofs.Found.{front-page}
-use Rattle.allocate.proofs.Places.{zone-is, zone-begins}
+use Rattle.steps.proofs.Zones.{zone-at, zone-there}
 use Rattle.allocate.proofs.Between.{follows, between}
 
 module _ {w : List ℕ} {n c g : ℕ} (h : Asked w n c g) {p : ℕ} (front : frontOf (listOf (decode w) c) ≡ Page p) where
@@ -65,16 +65,16 @@ module _ {w : List ℕ} {n c g : ℕ} (h : Asked w n c g) {p : ℕ} (front : fro
   serve-page = h .good .lent .fits .list-pages c p on-list
 
   pub serve-zone : ZoneHere s p
-  serve-zone = zone-begins m p (opens .0) (opens .1)
+  serve-zone = zone-there m p (opens .0) (opens .1)
 
   pub serve-open : full z ≡ false
-  serve-open = ap (λ y. full y) (zone-is m p (opens .0) (opens .1)) ∙ opens .3
+  serve-open = ap (λ y. full y) (zone-at m p (opens .0) (opens .1)) ∙ opens .3
 
   zone-valid : ValidZone z
   zone-valid = each-locate ValidSegment m (p * 4096) (record { away = 0; segment = zone z }) (h .good .valid .sound) serve-zone
 
   class-is : z .class ≡ c
-  class-is = ap (λ y. y .class) (zone-is m p (opens .0) (opens .1)) ∙ opens .2
+  class-is = ap (λ y. y .class) (zone-at m p (opens .0) (opens .1)) ∙ opens .2
 
   -- The chunk lies inside the zone.
   pub serve-inside : {i r : ℕ} → i ≡ nextChunk z → r ≡ room c → i * r < 32768
@@ -95,10 +95,10 @@ module _ {w : List ℕ} {n c g : ℕ} (h : Asked w n c g) {p : ℕ} (front : fro
     here = put-new m p z (granted g z) serve-zone
 
     pub granted-zone : ZoneHere (decode w₁) p
-    granted-zone = subst (λ x. ZoneHere x p) (sym (lent-decoded granted-words)) (zone-begins (putZone p (granted g z) m) p (granted g z) here)
+    granted-zone = subst (λ x. ZoneHere x p) (sym (lent-decoded granted-words)) (zone-there (putZone p (granted g z) m) p (granted g z) here)
 
     granted-full : {t : Bool} → t ≡ full (zoneAt p (decode w₁ .segments)) → t ≡ full (granted g z)
-    granted-full q = q ∙ ap (λ x. full (zoneAt p (x .segments))) (lent-decoded granted-words) ∙ ap (λ y. full y) (zone-is (putZone p (granted g z) m) p (granted g z) here)
+    granted-full q = q ∙ ap (λ x. full (zoneAt p (x .segments))) (lent-decoded granted-words) ∙ ap (λ y. full y) (zone-at (putZone p (granted g z) m) p (granted g z) here)
 
     -- The zone stays on its list, or leaves it.
     abbrev listing : Bool → List (List ℕ)

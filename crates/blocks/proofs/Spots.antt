@@ -1,6 +1,6 @@
 -- The segment that holds a byte, as the search by page tells it on the words of a valid state. Assumes nothing.
 use Prim.Native.Nat.{ℕ, _+_, _-_, _*_, _/_, _≤_, _<_}
-use mathlib.Core.Path.{_≡_, refl, sym, ap, _∙_, subst}
+use mathlib.Core.Path.{_≡_, sym, subst}
 use mathlib.Core.List.{List}
 use mathlib.Core.Option.{none}
 use native.Mathlib.Omega.{arith}
@@ -22,7 +22,8 @@ use Rattle.steps.proofs.Body.{bodyIn, of-body}
 use Rattle.blocks.specs.declared.Place.{Place}
 use Rattle.blocks.specs.declared.Place.the-variants.{Whole, Chunk, Nothing}
 use Rattle.blocks.specs.Places.{Tells}
-use Rattle.blocks.proofs.Standing.{zone-valid, block-past, found-whole, whole-off, run-none}
+use Rattle.steps.proofs.Zones.{zone-valid}
+use Rattle.blocks.proofs.Standing.{block-past, found-whole, whole-off, run-none}
 
 -- The segment at page a, of kind k and len pages behind a run of b pages, holds the byte o.
 pub record Held (s : State) (o a k len b : ℕ) : Type 0 where

@@ -1,45 +1,29 @@
 -- The live block at a byte, told from the segment that stands there. Assumes nothing.
 use Prim.Native.Nat.{ℕ, zero, suc, _+_, _-_, _*_, _/_, _%_, _≤_, _<_}
-use mathlib.Core.Path.{_≡_, refl, sym, ap, _∙_, subst}
-use mathlib.Core.List.{List, [], _∷_, map}
-use mathlib.Core.Option.{Option, none, some}
-use mathlib.Core.Bool.{Bool, true, false, cond}
+use mathlib.Core.Path.{_≡_, refl, sym, ap, _∙_}
+use mathlib.Core.List.{List}
+use mathlib.Core.Option.{none, some}
 use native.Mathlib.Omega.{arith}
 use native.Mathlib.Nat.{div-add-mod'}
-use lib.Dec.{ltb, eqb}
+use lib.Dec.{ltb}
 use lib.ListN.{length, getD}
 use borrow.Author.Tests.{ltb-true, ltb-false, eq-eqb, ne-eqb}
 use Rattle.lemmas.proofs.Cases.{bool}
-use Rattle.model.specs.Sizes.{room, chunks, pageBytes}
-use Rattle.model.specs.Arena.{Segment, run, direct, zone, pages, bytes, total, Place, locate, retold}
-use Rattle.model.specs.Zone.{Zone, touched}
-use Rattle.model.specs.State.{State, ZoneAt, zoneIn, zoneAt}
-use Rattle.model.specs.PageMap.{Occupancy, padded, occupancy, shown, pageMap, whole, chunk, chunkOf, blockIn, blockThere, blockAt, Block}
-use Rattle.model.specs.Valid.{ValidZone, ValidSegment, Valid}
-use Rattle.model.proofs.Arena.{locate-past, retoldPlace, locate-retold, total-retold, each-locate}
+use Rattle.model.specs.Sizes.{room, chunks}
+use Rattle.model.specs.Arena.{Segment, run, direct, zone, bytes, total, retold}
+use Rattle.model.specs.Zone.{Zone}
+use Rattle.model.specs.State.{State, zoneAt}
+use Rattle.model.specs.PageMap.{padded, occupancy, pageMap, chunk, chunkOf, blockIn, blockThere, blockAt}
+use Rattle.model.specs.Valid.{ValidZone, Valid}
+use Rattle.model.proofs.Arena.{locate-past, retoldPlace, locate-retold, total-retold}
 use Rattle.model.proofs.Sizes.{room-pos}
 use Rattle.model.proofs.Zones.{owned-touched}
 use Rattle.model.proofs.Blocks.{padded-in, padded-length}
 use Rattle.pages.specs.Places.{Stands}
 use Rattle.pages.proofs.Spots.{stands-locate}
-use Rattle.steps.specs.Lent.{ZoneHere}
-use Rattle.steps.proofs.Body.{stands-begins}
+use Rattle.steps.proofs.Zones.{zone-is, zone-valid}
 use Rattle.blocks.specs.declared.Place.the-variants.{Whole, Chunk, Nothing}
 use Rattle.blocks.specs.Places.{Tells}
-
--- The zone that stands at a page.
-module _ (s : State) (p b : ℕ) (z : Zone) (t : Stands (s .segments) p b (zone z)) where
-  pub zone-begins : ZoneAt (s .segments) p z
-  zone-begins = stands-begins t (omega arith)
-
-  pub zone-is : zoneAt p (s .segments) ≡ z
-  zone-is = ap zoneIn zone-begins
-
-  pub zone-stands : ZoneHere s p
-  zone-stands = subst (ZoneAt (s .segments) p) (sym zone-is) zone-begins
-
-  pub zone-valid : Valid s → ValidZone z
-  zone-valid v = each-locate ValidSegment (s .segments) (p * 4096) (record { away = 0; segment = zone z }) (v .sound) zone-begins
 
 -- The block d bytes behind the start of a segment.
 pub block-here : (s : State) {p b : ℕ} {x : Segment Zone} → Stands (s .segments) p b x → (o d : ℕ) → o ≡ p * 4096 + d → d < bytes x → blockAt (pageMap s) o ≡ blockIn d (retold occupancy x)

@@ -4,7 +4,7 @@ use mathlib.Core.Path.{_≡_}
 use mathlib.Core.Option.{none, some}
 use lib.ListN.{getD}
 use Rattle.model.specs.Sizes.{room, pageBytes}
-use Rattle.model.specs.Arena.{Segment, direct, zone}
+use Rattle.model.specs.Arena.{direct, zone}
 use Rattle.model.specs.Zone.{Zone}
 use Rattle.model.specs.State.{State}
 use Rattle.model.specs.PageMap.{pageMap, whole, chunk, blockAt}

@@ -1,39 +1,26 @@
 -- The answers to a return, by the tests that the code makes. Assumes nothing.
-use Prim.Native.Nat.{ℕ, zero, suc, _+_, _-_, _*_, _/_, _≤_, _<_}
-use mathlib.Core.Path.{_≡_, refl, sym, ap, _∙_, subst}
-use mathlib.Core.List.{List}
-use mathlib.Core.Bool.{Bool, true, false}
-use mathlib.Core.Option.{Option, none, some}
+use Prim.Native.Nat.{ℕ, zero, suc, _-_, _*_, _/_, _<_}
+use mathlib.Core.Path.{_≡_, refl, sym, ap, _∙_}
+use mathlib.Core.Bool.{true, false}
+use mathlib.Core.Option.{none, some}
 use native.Mathlib.Omega.{arith}
-use lib.Dec.{eqb}
-use lib.ListN.{getD}
 use borrow.Author.Tests.{eq-eqb, ne-eqb}
-use Rattle.model.specs.declared.Refusal.{Refusal}
 use Rattle.model.specs.declared.Refusal.the-variants.{BadGroup, NoBlock, OtherGroup}
-use Rattle.model.specs.declared.Answer.{Answer}
-use Rattle.model.specs.declared.Answer.the-variants.{Refused, Done}
+use Rattle.model.specs.declared.Answer.the-variants.{Done}
 use Rattle.model.specs.Sizes.{room, pageBytes}
-use Rattle.model.specs.Arena.{Segment, direct, zone, pages, total}
+use Rattle.model.specs.Arena.{Segment, direct, pages}
 use Rattle.model.specs.Zone.{Zone}
 use Rattle.model.specs.State.{State, arranged, zoneAt}
 use Rattle.model.specs.PageMap.{pageMap, whole, chunk, Block, groupOf, blockAt}
-use Rattle.model.specs.Valid.{ValidSegment, Valid}
 use Rattle.model.specs.Pages.{release}
-use Rattle.model.specs.Calls.{Outcome, refuses, answers, groupOk}
+use Rattle.model.specs.Calls.{refuses, answers, groupOk}
 use Rattle.model.specs.Free.{chunkBack, freed, free}
 use Rattle.pages.specs.Places.{Stands, runPages}
-use Rattle.metadata.specs.Encoding.{encode}
-use Rattle.metadata.specs.Decoding.{decode}
-use Rattle.steps.specs.Lent.{Good}
 use Rattle.steps.specs.Moves.{released}
-use Rattle.blocks.specs.declared.Place.the-variants.{Whole, Chunk, Nothing}
+use Rattle.blocks.specs.declared.Place.the-variants.{Whole, Chunk}
 use Rattle.blocks.specs.Places.{Tells}
-use Rattle.blocks.proofs.Standing.{zone-is}
+use Rattle.steps.proofs.Zones.{zone-is}
 use Rattle.free.specs.Back.{LiveChunk}
-
--- What a call answers and leaves, by an equation with the rule.
-pub by-rule : {u : List ℕ} (r : Outcome State) (t : State) (a : Answer) → r ≡ answers t a → u ≡ encode t → (a ≡ r .answer) × (u ≡ encode (r .after))
-by-rule {u} r t a e f = (ap (λ k. k .answer) (sym e), f ∙ ap (λ k. encode (k .after)) (sym e))
 
 module _ (s : State) (g o : ℕ) where
   pub free-bad : groupOk g ≡ false → free g o s ≡ refuses s BadGroup

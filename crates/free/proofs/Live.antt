@@ -1,15 +1,15 @@
 -- A live chunk of a zone that stands in lent words, and the words when it is on its zone's chain. Assumes nothing.
-use Prim.Native.Nat.{ℕ, _+_, _-_, _*_, _/_, _≤_, _<_}
+use Prim.Native.Nat.{ℕ, _+_, _-_, _*_, _/_, _<_}
 use mathlib.Core.Path.{_≡_, refl, sym, ap, _∙_, subst}
 use mathlib.Core.List.{List, [], _∷_}
-use mathlib.Core.Bool.{Bool, true, false, cond}
+use mathlib.Core.Bool.{true, false, cond}
 use native.Mathlib.Omega.{arith}
 use lib.ListN.{length, getD, set}
 use lib.Seq.{set-getD}
-use Rattle.model.specs.Sizes.{room, chunks}
-use Rattle.model.specs.Arena.{Segment, zone, pages, total}
+use Rattle.model.specs.Sizes.{room}
+use Rattle.model.specs.Arena.{zone, pages, total}
 use Rattle.model.specs.Zone.{Zone, full, putBack}
-use Rattle.model.specs.State.{State, listOf, arranged, ZoneAt, zoneAt, putZone}
+use Rattle.model.specs.State.{State, listOf, arranged, zoneAt, putZone}
 use Rattle.model.specs.Valid.{ValidZone, Valid}
 use Rattle.model.proofs.Zones.{owned-touched, putBack-valid}
 use Rattle.model.proofs.Freed.{ChunkAt}
@@ -26,8 +26,8 @@ use Rattle.steps.specs.Lent.{Encodes, Lent, ZoneHere, Good}
 use Rattle.steps.specs.Moves.{fronted, rezoned}
 use Rattle.steps.proofs.Lent.{lent, lent-decoded}
 use Rattle.steps.proofs.Kept.{kept-zone, had-room, good-of, good-decoded, put-stands, put-zone-at}
-use Rattle.blocks.proofs.Standing.{zone-begins, zone-is, zone-stands, zone-valid}
-use Rattle.free.specs.Back.{relisted, chained, LiveChunk}
+use Rattle.steps.proofs.Zones.{zone-begins, zone-is, zone-stands, zone-valid}
+use Rattle.free.specs.Back.{chained, LiveChunk}
 
 -- A chunk that is live, where its zone begins.
 abbrev pub chunk-there : (s : State) → Valid s → (p b i : ℕ) (z : Zone) → Stands (s .segments) p b (zone z) → 0 < getD (z .owners) i 0 → ChunkAt s (p * 4096 + i * room (z .class)) (z .class) i (getD (z .owners) i 0)

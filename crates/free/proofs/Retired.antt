@@ -1,8 +1,8 @@
 -- A zone without a live chunk leaves its class's list. Assumes nothing.
-use Prim.Native.Nat.{ℕ, _+_, _*_, _≤_, _<_}
+use Prim.Native.Nat.{ℕ, _≤_, _<_}
 use mathlib.Core.Path.{_≡_, refl, sym, ap, _∙_, subst}
-use mathlib.Core.List.{List, [], _∷_}
-use mathlib.Core.Bool.{Bool, true, false, cond}
+use mathlib.Core.List.{List, _∷_}
+use mathlib.Core.Bool.{true, false}
 use native.Mathlib.Omega.{arith}
 use lib.Dec.{ltb}
 use lib.ListN.{length, take}
@@ -10,7 +10,7 @@ use borrow.Author.Tests.{lt-ltb, le-ltb}
 use Rattle.model.specs.Perform.{headerWords}
 use Rattle.model.specs.Arena.{Segment, zone, pages, total}
 use Rattle.model.specs.Zone.{Zone}
-use Rattle.model.specs.State.{State, listOf, arranged}
+use Rattle.model.specs.State.{State, listOf}
 use Rattle.model.specs.Valid.{Apart}
 use Rattle.model.specs.Free.{retired}
 use Rattle.header.specs.Encoding.{Header, spareIn, spareSlots}
@@ -22,7 +22,7 @@ use Rattle.steps.specs.Lent.{Encodes, Lent, Good}
 use Rattle.steps.specs.Moves.{unlisted, spared, released}
 use Rattle.steps.proofs.Lent.{lent, lent-decoded, header-lent}
 use Rattle.steps.proofs.Kept.{kept-without}
-use Rattle.blocks.proofs.Standing.{zone-valid}
+use Rattle.steps.proofs.Zones.{zone-valid}
 
 module _ {w : List ℕ} {n p b c : ℕ} (good : Good w n) (z : Zone) (t : Stands (decode w .segments) p b (zone z)) (class : c ≡ z .class) where
   abbrev s : State

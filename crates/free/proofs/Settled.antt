@@ -1,22 +1,22 @@
 -- After a chunk's return the zone stays where it is, or retires. Assumes nothing.
-use Prim.Native.Nat.{ℕ, _+_, _*_, _≤_, _<_}
-use mathlib.Core.Path.{_≡_, refl, sym, ap, _∙_, subst}
+use Prim.Native.Nat.{ℕ, _*_, _≤_, _<_}
+use mathlib.Core.Path.{_≡_, sym, ap, _∙_}
 use mathlib.Core.List.{List, [], _∷_}
 use mathlib.Core.Bool.{Bool, true, false, cond, _&&_}
 use native.Mathlib.Omega.{arith}
 use lib.Dec.{ltb}
 use lib.ListN.{length, getD, set, take}
 use lib.Seq.{getD-set-same, set-set}
-use borrow.Author.Tests.{lt-ltb, le-ltb, ltb-true, ltb-false}
+use borrow.Author.Tests.{lt-ltb, le-ltb}
 use Rattle.lemmas.specs.Times.{remove}
-use Rattle.lemmas.proofs.Cases.{bool, and-both, and-false}
+use Rattle.lemmas.proofs.Cases.{and-both, and-false}
 use Rattle.model.specs.Perform.{headerWords}
 use Rattle.model.specs.Sizes.{pageBytes}
-use Rattle.model.specs.Zone.{Zone, full, putBack}
+use Rattle.model.specs.Zone.{Zone, putBack}
 use Rattle.model.specs.State.{State, listOf, arranged, zoneAt, putZone}
 use Rattle.model.specs.PageMap.{idleZone}
 use Rattle.model.specs.Pages.{release}
-use Rattle.model.specs.Free.{retired, settled, chunkBack}
+use Rattle.model.specs.Free.{retired, chunkBack}
 use Rattle.header.specs.Encoding.{listsIn}
 use Rattle.metadata.specs.Encoding.{encode}
 use Rattle.metadata.specs.Decoding.{decode}

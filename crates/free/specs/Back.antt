@@ -1,16 +1,15 @@
 -- A chunk's return in the two halves in which the code does it. Assumes nothing.
-use Prim.Native.Nat.{ℕ, _+_, _*_, _<_}
+use Prim.Native.Nat.{ℕ, _*_, _<_}
 use mathlib.Core.Path.{_≡_}
-use mathlib.Core.List.{List, [], _∷_}
+use mathlib.Core.List.{List, _∷_}
 use mathlib.Core.Bool.{Bool, true, false, cond}
 use lib.ListN.{getD, set}
 use Rattle.model.specs.Sizes.{pageBytes}
-use Rattle.model.specs.Arena.{Segment, zone}
+use Rattle.model.specs.Arena.{zone}
 use Rattle.model.specs.Zone.{Zone, full, putBack}
-use Rattle.model.specs.State.{State, listOf, arranged, zoneAt, putZone}
+use Rattle.model.specs.State.{State, listOf, arranged, putZone}
 use Rattle.model.specs.PageMap.{idleZone}
 use Rattle.model.specs.Pages.{release}
-use Rattle.model.specs.Free.{chunkBack}
 use Rattle.pages.specs.Places.{Stands}
 
 -- The list of the class c once the zone z at page p has a chunk that is not live: a zone that was full goes to its front.

@@ -14,6 +14,7 @@ ghost use Rattle.model.specs.Free as rules;
 ghost use Rattle.pages.specs.Places.{Stands};
 ghost use Rattle.metadata.specs.Encoding.{encode};
 ghost use Rattle.metadata.specs.Decoding.{decode};
+ghost use Rattle.steps.specs.Outcomes.{Makes};
 ghost use Rattle.steps.specs.Lent.{Good, ZoneHere};
 ghost use Rattle.free.specs.Back.{chained, LiveChunk, Remains};
 use blocks::Place;
@@ -73,7 +74,7 @@ pub fn chunk_back(words: &mut [u32], n: usize, at: usize, before: usize, chunk: 
 // The group's block that begins at the offset comes back. Refusals in document 01's order: 4, 7, 8.
 pub fn free(words: &mut [u32], n: usize, group: u32, offset: u32) -> Answer
     requires { ⌜ Good (now words) n ⌝ }
-    ensures { λ r. ⌜ (r ≡ rules.free group offset (decode (now (words .entry))) .answer) × (now (words .exit) ≡ encode (rules.free group offset (decode (now (words .entry))) .after)) ⌝ }
+    ensures { λ r. ⌜ Makes (rules.free group offset (decode (now (words .entry)))) r (now (words .exit)) ⌝ }
 {
     if group == 0 {
         return Answer::Refused(Refusal::BadGroup);

@@ -1,15 +1,15 @@
 -- The walk goes on behind the run that given back pages have become part of. Assumes nothing.
 use Prim.Native.Nat.{ℕ, _+_, _-_, _*_, _≤_, _<_}
-use mathlib.Core.Path.{_≡_, refl, sym, ap, _∙_, subst}
+use mathlib.Core.Path.{_≡_, refl, sym, ap, _∙_}
 use mathlib.Core.List.{List, [], _∷_, _++_, append-assoc}
-use mathlib.Core.Bool.{Bool, true, false}
+use mathlib.Core.Bool.{false}
 use native.Mathlib.Omega.{arith}
 use lib.ListN.{length}
 use Rattle.model.specs.Arena.{Segment, run, pages, total, Each}
 use Rattle.model.specs.Zone.{Zone}
 use Rattle.model.specs.State.{State}
 use Rattle.model.specs.Valid.{Apart, ValidSegment}
-use Rattle.model.specs.Pages.{release, withRun}
+use Rattle.model.specs.Pages.{release}
 use Rattle.model.specs.Free.{freedAll}
 use Rattle.model.proofs.Arena.{total-append}
 use Rattle.pages.specs.Encoding.{segmentsEncoding}

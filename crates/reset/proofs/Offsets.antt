@@ -2,16 +2,16 @@
 use Prim.Native.Nat.{ℕ, zero, suc, _+_, _*_, _≤_, _<_}
 use mathlib.Core.Path.{_≡_, refl, sym, ap, _∙_, subst}
 use mathlib.Core.List.{List, [], _∷_, _++_}
-use mathlib.Core.Bool.{Bool, true, false}
+use mathlib.Core.Bool.{true}
 use native.Mathlib.Omega.{arith}
 use native.Mathlib.Nat.{zero-mul}
-use lib.Dec.{ltb, eqb}
+use lib.Dec.{eqb}
 use lib.ListN.{length, getD, set, drop, length-append}
-use lib.Seq.{drop-cons, drop-nil}
+use lib.Seq.{drop-cons}
 use borrow.Author.Tests.{eq-eqb, ne-eqb}
 use Rattle.lemmas.proofs.Cases.{bool, true-false}
 use Rattle.model.specs.Sizes.{room, chunks}
-use Rattle.model.specs.Arena.{Segment, run, direct, zone, pages, total, Each}
+use Rattle.model.specs.Arena.{Segment, run, direct, zone, total, Each}
 use Rattle.model.specs.Zone.{Zone, putBack}
 use Rattle.model.specs.PageMap.{padded, occupancy, shown, allZero, idleZone}
 use Rattle.model.specs.Valid.{ValidZone, ValidSegment}

@@ -1,12 +1,12 @@
 -- The steps of the walk, as the code makes them. Assumes nothing.
-use Prim.Native.Nat.{ℕ, _+_, _-_, _*_, _≤_, _<_}
+use Prim.Native.Nat.{ℕ, _+_, _-_, _≤_, _<_}
 use mathlib.Core.Path.{_≡_, refl, sym, ap, _∙_, subst}
-use mathlib.Core.List.{List, [], _∷_, _++_}
+use mathlib.Core.List.{List, _∷_, _++_}
 use mathlib.Core.Bool.{Bool, true, false}
 use native.Mathlib.Omega.{arith}
-use lib.ListN.{length, getD, length-set}
+use lib.ListN.{length, getD}
 use Rattle.lemmas.proofs.Cases.{some-inj}
-use Rattle.model.specs.Arena.{Segment, run, direct, zone, pages, total}
+use Rattle.model.specs.Arena.{Segment, run, direct, zone, pages}
 use Rattle.model.specs.Zone.{Zone, touched, putBack}
 use Rattle.model.specs.State.{State, zoneAt, putZone}
 use Rattle.model.specs.Free.{chunkBack, freedAll}
@@ -21,9 +21,9 @@ use Rattle.steps.specs.Lent.{Good, ZoneHere}
 use Rattle.steps.specs.Moves.{released}
 use Rattle.steps.proofs.Body.{stands-begins, has-pages}
 use Rattle.steps.proofs.Kept.{good-long}
-use Rattle.blocks.proofs.Standing.{zone-is, zone-stands, zone-valid}
+use Rattle.steps.proofs.Zones.{zone-is, zone-stands, zone-valid}
 use Rattle.free.specs.Back.{LiveChunk, Remains}
-use Rattle.reset.specs.Sweep.{offsetsAt, offsetsIn, Sweep, InZone}
+use Rattle.reset.specs.Sweep.{offsetsAt, Sweep, InZone}
 use Rattle.reset.proofs.Offsets.{at-run, at-other, at-zone}
 use Rattle.reset.proofs.Behind.{run-stands, sweep-behind, next-on}
 use Rattle.reset.proofs.Sweeps.{Here, here, here-stands, sweep-past, zone-skip, zone-done, zone-live, zone-stays, stays-touched, gone-good, gone-segments, gone-joined, gone-rest, gone-counted, block-good, block-segments, block-joined, block-rest, block-counted}

@@ -1,29 +1,29 @@
 -- The walk of a reset: over the segments, and over the chunks of a zone. Assumes nothing.
-use Prim.Native.Nat.{ℕ, zero, suc, _+_, _-_, _*_, _/_, _%_, _≤_, _<_}
+use Prim.Native.Nat.{ℕ, zero, suc, _+_, _-_, _*_, _%_, _≤_, _<_}
 use mathlib.Core.Path.{_≡_, refl, sym, ap, _∙_, subst}
 use mathlib.Core.List.{List, [], _∷_, _++_, append-assoc}
-use mathlib.Core.Option.{Option, none, some}
-use mathlib.Core.Bool.{Bool, true, false}
+use mathlib.Core.Option.{some}
+use mathlib.Core.Bool.{true, false}
 use native.Mathlib.Omega.{arith}
 use native.Mathlib.Nat.{mul-div-cancel, mul-mod-left}
 use lib.ListN.{length, getD, length-set}
 use borrow.Author.Tests.{eq-eqb}
 use Rattle.model.specs.Sizes.{room, chunks}
-use Rattle.model.specs.Arena.{Segment, run, direct, zone, pages, total, Each}
+use Rattle.model.specs.Arena.{Segment, direct, zone, pages, total, Each}
 use Rattle.model.specs.Zone.{Zone, touched, putBack}
-use Rattle.model.specs.State.{State, arranged, zoneAt, putZone}
+use Rattle.model.specs.State.{State, zoneAt, putZone}
 use Rattle.model.specs.PageMap.{pageMap, occupancy, idleZone, whole, chunk, chunkOf, blockAt}
 use Rattle.model.specs.Valid.{ValidZone, Valid}
 use Rattle.model.specs.Pages.{release}
-use Rattle.model.specs.Free.{chunkBack, freed, freedIf, freedAll, offsetsOf}
+use Rattle.model.specs.Free.{chunkBack, freedIf, freedAll, offsetsOf}
 use Rattle.model.proofs.Arena.{total-append}
 use Rattle.model.proofs.Moves.{put-size, put-apart, put-sound}
 use Rattle.model.proofs.Sizes.{room-pos, chunk-begins}
 use Rattle.model.proofs.Zones.{owned-touched, putBack-valid}
 use Rattle.model.proofs.ValidFree.{freed-valid}
-use Rattle.pages.specs.Encoding.{kindOf, Writable}
+use Rattle.pages.specs.Encoding.{Writable}
 use Rattle.pages.proofs.Laws.{each-right}
-use Rattle.pages.specs.Places.{runPages, runAtEnd, Stands}
+use Rattle.pages.specs.Places.{runPages, Stands}
 use Rattle.pages.proofs.Walk.{run-at-end}
 use Rattle.pages.proofs.Middle.{edit-stands}
 use Rattle.metadata.specs.Encoding.{encode}
@@ -34,12 +34,13 @@ use Rattle.steps.proofs.Body.{release-total}
 use Rattle.steps.proofs.Kept.{good-of, good-decoded, put-stands, put-zone-at}
 use Rattle.blocks.specs.declared.Place.the-variants.{Whole, Chunk}
 use Rattle.blocks.specs.Places.{Tells}
-use Rattle.blocks.proofs.Standing.{zone-begins, zone-is, zone-valid, block-here, group-shown, found-whole}
+use Rattle.steps.proofs.Zones.{zone-begins, zone-is, zone-valid}
+use Rattle.blocks.proofs.Standing.{block-here, group-shown, found-whole}
 use Rattle.free.specs.Back.{LiveChunk, Remains}
 use Rattle.free.proofs.Live.{back-valid}
 use Rattle.free.proofs.Answers.{whole-freed, chunk-freed}
 use Rattle.reset.specs.Sweep.{offsetsAt, offsetsIn, Sweep, InZone}
-use Rattle.reset.proofs.Offsets.{at-run, at-other, at-direct, at-zone, in-skip, in-take, in-back, in-past, in-idle, few-offsets}
+use Rattle.reset.proofs.Offsets.{at-direct, in-skip, in-take, in-back, in-past, in-idle, few-offsets}
 use Rattle.pages.proofs.Given.{Joined}
 use Rattle.reset.proofs.Behind.{joined-run}
 

@@ -12,6 +12,7 @@ ghost use Rattle.model.specs.Free as rules;
 ghost use Rattle.pages.specs.Places.{Stands};
 ghost use Rattle.metadata.specs.Encoding.{encode};
 ghost use Rattle.metadata.specs.Decoding.{decode};
+ghost use Rattle.steps.specs.Outcomes.{Makes};
 ghost use Rattle.steps.specs.Lent.{Good};
 ghost use Rattle.reset.specs.Sweep.{Sweep, InZone};
 use model::Answer;
@@ -134,7 +135,7 @@ fn sweep(words: &mut [u32], n: usize, group: u32) -> u32
 // The group's live blocks come back, and the answer counts them. Refusal 4.
 pub fn reset(words: &mut [u32], n: usize, group: u32) -> Answer
     requires { ⌜ Good (now words) n ⌝ }
-    ensures { λ r. ⌜ (r ≡ rules.reset group (decode (now (words .entry))) .answer) × (now (words .exit) ≡ encode (rules.reset group (decode (now (words .entry))) .after)) ⌝ }
+    ensures { λ r. ⌜ Makes (rules.reset group (decode (now (words .entry)))) r (now (words .exit)) ⌝ }
 {
     if group == 0 {
         return Answer::Refused(Refusal::BadGroup);

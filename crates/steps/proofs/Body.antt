@@ -1,28 +1,27 @@
 -- The pages' words of lent words, as the code lends them on, and all words when they have come back. Assumes nothing.
 use Prim.Native.Nat.{ℕ, _+_, _-_, _*_, _≤_, _<_}
-use mathlib.Core.Path.{_≡_, refl, sym, ap, _∙_, subst}
+use mathlib.Core.Path.{_≡_, sym, ap, _∙_, subst}
 use mathlib.Core.List.{List, [], _∷_, _++_, append-nil}
-use mathlib.Core.Option.{Option, none, some}
-use mathlib.Core.Bool.{Bool, true, false}
+use mathlib.Core.Bool.{false}
 use native.Mathlib.Omega.{arith}
 use lib.ListN.{length, take, drop, length-drop}
 use lib.Seq.{take-all, drop-length, length-take-le}
 use borrow.Author.Tests.{lt-ltb}
 use Rattle.lemmas.specs.Parts.{mid, putMid}
-use Rattle.model.specs.Perform.{headerWords, pageWords}
-use Rattle.model.specs.Arena.{Segment, run, direct, zone, pages, bytes, total, Place, locate, edit, Each}
+use Rattle.model.specs.Perform.{headerWords}
+use Rattle.model.specs.Arena.{Segment, run, pages, bytes, total, locate, edit, Each}
 use Rattle.model.specs.Zone.{Zone}
-use Rattle.model.specs.Pages.{FreeRun, withRun, carve, freePages, release}
-use Rattle.model.specs.State.{State, arranged, Begins}
-use Rattle.model.proofs.Arena.{total-append, locate-right, total-edit}
+use Rattle.model.specs.Pages.{withRun, carve, freePages, release}
+use Rattle.model.specs.State.{arranged, Begins}
+use Rattle.model.proofs.Arena.{locate-right, total-edit}
 use Rattle.model.proofs.Joins.{total-joined, total-withRun}
 use Rattle.pages.specs.Encoding.{segmentsEncoding, Writable}
 use Rattle.pages.specs.Decoding.{segmentsOf, Holds}
 use Rattle.pages.specs.Places.{Stands}
 use Rattle.pages.proofs.Laws.{each-right}
 use Rattle.metadata.specs.Encoding.{encode}
-use Rattle.metadata.specs.Decoding.{pagesPart, decode}
-use Rattle.steps.specs.Lent.{Encodes, Lent}
+use Rattle.metadata.specs.Decoding.{decode}
+use Rattle.steps.specs.Lent.{Lent}
 use Rattle.steps.proofs.Lent.{lent-long, body-lent, segments-lent, body-put}
 
 -- The pages' words, as the code lends them on.

@@ -1,27 +1,26 @@
 -- What each step makes has words again, so the next step can be lent them. Assumes nothing.
-use Prim.Native.Nat.{ℕ, _+_, _*_, _≤_, _<_}
-use mathlib.Core.Path.{_≡_, refl, sym, ap, _∙_, subst}
+use Prim.Native.Nat.{ℕ, _*_, _<_}
+use mathlib.Core.Path.{_≡_, sym, ap, _∙_, subst}
 use mathlib.Core.List.{List, [], _∷_}
 use native.Mathlib.Omega.{arith}
-use lib.ListN.{length, getD, set}
-use Rattle.lemmas.specs.Times.{remove}
-use Rattle.model.specs.Arena.{Segment, zone, pages, total, Each}
+use lib.ListN.{length, set}
+use Rattle.model.specs.Arena.{Segment, zone, pages, total}
 use Rattle.model.specs.Zone.{Zone}
 use Rattle.model.specs.State.{State, listOf, arranged, ZoneAt, zoneIn, zoneAt, putZone}
 use Rattle.model.specs.Valid.{ValidZone, Valid}
 use Rattle.model.proofs.Arena.{each-edit}
 use Rattle.model.proofs.Moves.{put-size, put-new}
 use Rattle.header.specs.Keys.{classes, mostPages, keysOf}
-use Rattle.header.specs.Encoding.{Fits, spareSlots, listSlots}
-use Rattle.header.proofs.Kept.{fits-push, fits-remove, fits-spare-push, length-keys-set}
+use Rattle.header.specs.Encoding.{Fits, listSlots}
+use Rattle.header.proofs.Kept.{fits-push, fits-remove, length-keys-set}
 use Rattle.pages.specs.Encoding.{Writable}
 use Rattle.pages.specs.Places.{Stands}
 use Rattle.pages.proofs.Middle.{edit-stands}
 use Rattle.metadata.specs.Encoding.{encode}
 use Rattle.metadata.specs.Decoding.{decode}
 use Rattle.metadata.proofs.States.{valid-fits}
-use Rattle.steps.specs.Lent.{Encodes, Lent, ZoneHere, Good}
-use Rattle.steps.specs.Moves.{fronted, unlisted, spared, rezoned}
+use Rattle.steps.specs.Lent.{Encodes, Good}
+use Rattle.steps.specs.Moves.{fronted, unlisted, rezoned}
 use Rattle.steps.proofs.Lent.{lent, lent-long, lent-decoded, valid-lent}
 
 -- Words of a valid state.
@@ -55,10 +54,7 @@ module _ {w : List ℕ} {s : State} (h : Encodes w s) (v : List ℕ) where
 pub had-room : (s : State) (c p : ℕ) (m : List (Segment Zone)) (sp : List ℕ) → Valid (arranged s m (set (s .lists) c (p ∷ listOf s c)) sp) → c < length (s .lists) → length (keysOf (s .lists)) < listSlots
 had-room s c p m sp v h = omega (arith, valid-fits (arranged s m (set (s .lists) c (p ∷ listOf s c)) sp) v .room, length-keys-set c (s .lists) (p ∷ listOf s c) h)
 
--- The zone at a page, and another in its place.
-pub zone-at : (m : List (Segment Zone)) (p : ℕ) (z : Zone) → ZoneAt m p z → zoneAt p m ≡ z
-zone-at m p z b = ap zoneIn b
-
+-- Another zone in the place of the one at a page.
 pub put-zone-at : (m : List (Segment Zone)) (p : ℕ) (z z′ : Zone) → ZoneAt m p z → zoneAt p (putZone p z′ m) ≡ z′
 put-zone-at m p z z′ b = ap zoneIn (put-new m p z z′ b)
 

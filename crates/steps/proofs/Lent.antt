@@ -1,22 +1,22 @@
 -- The words of a state in their parts: the header, the pages' words, one zone's; and all words when a part has come back changed.
 -- Assumes nothing.
-use Prim.Native.Nat.{ℕ, _+_, _-_, _*_, _≤_, _<_}
-use mathlib.Core.Path.{_≡_, refl, sym, ap, _∙_, subst}
+use Prim.Native.Nat.{ℕ, _+_, _-_, _*_, _≤_}
+use mathlib.Core.Path.{_≡_, sym, ap, _∙_, subst}
 use mathlib.Core.List.{List, [], _∷_, _++_, append-assoc}
-use mathlib.Core.Bool.{Bool, true, false}
+use mathlib.Core.Bool.{true, false}
 use native.Mathlib.Omega.{arith}
 use lib.ListN.{length, take, drop, length-append}
 use lib.Seq.{take-at, drop-at, take-all}
 use Rattle.lemmas.specs.Parts.{mid, putMid}
 use Rattle.lemmas.proofs.Parts.{mid-at, put-at}
 use Rattle.model.specs.Perform.{headerWords, pageWords}
-use Rattle.model.specs.Arena.{Segment, run, direct, zone, pages, total, Place, locate, Each}
+use Rattle.model.specs.Arena.{Segment, zone, total, Each}
 use Rattle.model.specs.Zone.{Zone}
-use Rattle.model.specs.State.{State, arranged, ZoneAt, zoneAt, putZone}
+use Rattle.model.specs.State.{State, arranged, ZoneAt, putZone}
 use Rattle.model.specs.Valid.{ValidZone, Valid}
 use Rattle.model.proofs.Arena.{total-append, Split, split}
 use Rattle.header.specs.Encoding as header
-use Rattle.header.specs.Encoding.{headerEncoding, pagesIn, spareIn, listsIn, Header, Fits}
+use Rattle.header.specs.Encoding.{headerEncoding, pagesIn, Header}
 use Rattle.header.proofs.Encoded.{length-header}
 use Rattle.header.proofs.Exact.{encodes-header, pages-read, spare-read, lists-read}
 use Rattle.zone.specs.Encoding.{zoneWords, zoneEncoding}
@@ -29,7 +29,7 @@ use Rattle.pages.specs.Decoding.{segmentsOf, Holds}
 use Rattle.pages.proofs.Laws.{length-segments, encoding-append, each-left, each-right}
 use Rattle.pages.proofs.Decoded.{segments-decoded}
 use Rattle.metadata.specs.Encoding.{encode}
-use Rattle.metadata.specs.Decoding.{headerPart, pagesPart, decode}
+use Rattle.metadata.specs.Decoding.{pagesPart, decode}
 use Rattle.metadata.proofs.States.{all-writable, valid-fits}
 use Rattle.steps.specs.Lent.{Encodes, Lent}
 

@@ -3,3 +3,5 @@ pub mod Body
 pub mod ZonePart
 pub mod Kept
 pub mod Segments
+pub mod Zones
+pub mod Outcomes

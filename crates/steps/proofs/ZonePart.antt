@@ -1,14 +1,14 @@
 -- One zone's words, as the code lends them on from word a. Assumes nothing.
-use Prim.Native.Nat.{ℕ, _+_, _-_, _*_, _≤_, _<_}
-use mathlib.Core.Path.{_≡_, refl, sym, ap, _∙_}
-use mathlib.Core.Bool.{Bool, true, false}
+use Prim.Native.Nat.{ℕ, _+_, _-_, _*_, _≤_}
+use mathlib.Core.Path.{_≡_, ap, _∙_}
+use mathlib.Core.Bool.{true}
 use mathlib.Core.List.{List}
 use native.Mathlib.Omega.{arith}
-use lib.ListN.{length, take, drop}
+use lib.ListN.{length}
 use Rattle.lemmas.specs.Parts.{mid, putMid}
 use Rattle.model.specs.Perform.{headerWords, pageWords}
 use Rattle.model.specs.Zone.{Zone}
-use Rattle.model.specs.State.{State, zoneAt}
+use Rattle.model.specs.State.{zoneAt}
 use Rattle.zone.specs.Encoding.{zoneWords, zoneEncoding}
 use Rattle.zone.specs.Decoding.{isZone, zoneOf}
 use Rattle.metadata.specs.Encoding.{encode}

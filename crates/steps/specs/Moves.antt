@@ -1,7 +1,7 @@
 -- What each step makes of a state. The rules of the model are made of these. Assumes nothing.
 use Prim.Native.Nat.{ℕ, _*_}
-use mathlib.Core.List.{List, [], _∷_}
-use lib.ListN.{set, drop}
+use mathlib.Core.List.{List, _∷_}
+use lib.ListN.{set}
 use Rattle.lemmas.specs.Times.{remove}
 use Rattle.model.specs.Sizes.{pageBytes}
 use Rattle.model.specs.Arena.{Segment}

@@ -1,13 +1,10 @@
 -- What lent words say of a segment, and the words once a zone has been given back. Assumes nothing.
-use Prim.Native.Nat.{ℕ, zero, suc, _+_, _-_, _*_, _≤_, _<_}
+use Prim.Native.Nat.{ℕ, zero, suc, _+_, _-_, _*_, _<_}
 use mathlib.Core.Path.{_≡_, refl, sym, ap, _∙_, subst}
 use mathlib.Core.List.{List, _∷_, _++_}
 use mathlib.Core.Bool.{true, false}
 use native.Mathlib.Omega.{arith}
-use lib.ListN.{length, getD, drop}
-use lib.Seq.{getD-drop}
 use Rattle.lemmas.proofs.Cases.{true-false}
-use Rattle.model.specs.Perform.{headerWords, pageWords}
 use Rattle.model.specs.Arena.{Segment, run, direct, zone, pages, total, Each}
 use Rattle.model.specs.Zone.{Zone}
 use Rattle.model.specs.State.{State, ZoneAt, zoneIn, zoneAt}
@@ -20,12 +17,11 @@ use Rattle.header.proofs.Kept.{fits-remove}
 use Rattle.pages.specs.Encoding.{kindOf, Writable}
 use Rattle.pages.specs.Places.{Stands, runPages}
 use Rattle.pages.proofs.Laws.{each-left, each-right}
-use Rattle.pages.proofs.Walk.{Read, read-at}
 use Rattle.metadata.specs.Encoding.{encode}
 use Rattle.metadata.specs.Decoding.{decode}
 use Rattle.steps.specs.Lent.{Encodes, Lent, ZoneHere}
 use Rattle.steps.specs.Moves.{unlisted, released}
-use Rattle.steps.proofs.Lent.{lent, lent-long, lent-decoded, body-lent, segments-lent, zone-valid}
+use Rattle.steps.proofs.Lent.{lent, lent-decoded, zone-valid}
 use Rattle.steps.proofs.Body.{stands-begins, release-total}
 use Rattle.trim.specs.Between.{idleSegment, Between}
 use Rattle.trim.proofs.Places.{between-stands, between-released, between-run}

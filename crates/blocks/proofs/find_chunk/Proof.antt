@@ -3,7 +3,8 @@ use Rattle.metadata.specs.Decoding.{decode}
 use native.Mathlib.Omega.{arith}
 use mathlib.Core.Path.{ap}
 use Rattle.model.proofs.Sizes.{room-pos}
-use Rattle.blocks.proofs.Standing.{zone-stands, zone-is, zone-valid, found-off, found-dead, found-live}
+use Rattle.steps.proofs.Zones.{zone-stands, zone-is, zone-valid}
+use Rattle.blocks.proofs.Standing.{found-off, found-dead, found-live}
 use Rattle.blocks.proofs.find_chunk.Statement.{statement}
 use Rattle.blocks.proofs.find_chunk.Tie as tie
 

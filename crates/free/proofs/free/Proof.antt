@@ -4,7 +4,8 @@ use Rattle.metadata.specs.Encoding.{encode}
 use Rattle.metadata.specs.Decoding.{decode}
 use Rattle.blocks.specs.Places.{Tells}
 use Rattle.model.proofs.Groups.{group-none, group-high, group-good}
-use Rattle.free.proofs.Answers.{by-rule, free-bad, free-none, free-other, free-done, whole-freed, whole-stands, chunk-freed, chunk-lives, some-group}
+use Rattle.steps.proofs.Outcomes.{by-rule}
+use Rattle.free.proofs.Answers.{free-bad, free-none, free-other, free-done, whole-freed, whole-stands, chunk-freed, chunk-lives, some-group}
 use borrow.Author.Needs.{needs}
 use Rattle.free.proofs.free.Statement.{statement}
 use Rattle.free.proofs.free.Tie as tie

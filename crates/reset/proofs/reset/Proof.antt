@@ -3,7 +3,7 @@ use mathlib.Core.Path.{sym, _∙_, ap}
 use Rattle.metadata.specs.Decoding.{decode}
 use Rattle.model.specs.declared.Answer.the-variants.{Counted}
 use Rattle.model.proofs.Groups.{group-none, group-high, group-good}
-use Rattle.free.proofs.Answers.{by-rule}
+use Rattle.steps.proofs.Outcomes.{by-rule}
 use Rattle.reset.proofs.Answers.{reset-bad, reset-done}
 use borrow.Author.Needs.{needs}
 use Rattle.reset.proofs.reset.Statement.{statement}
