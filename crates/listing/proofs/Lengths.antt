@@ -80,7 +80,7 @@ short-rows k p (x ∷ r) w h =
       ),
     )
 
-section-length : (name : List ℕ) (k : ℕ) (m : List (Segment Zone)) → Each Writable m → total m ≤ 256 → length (sectionText name (rowsOf k 0 m)) ≤ length name + 22 + 64 * 256
+section-length : (name : List ℕ) (k : ℕ) (m : List (Segment Zone)) → Each Writable m → total m ≤ 256 → length (sectionText name (rowsOf k 0 m)) ≤ length name + 22 + 64 * total m
 section-length name k m w h =
     let s = short-rows k 0 m w (omega arith) in
     omega (
@@ -90,13 +90,14 @@ section-length name k m w h =
       length-named name (length (rowsOf k 0 m)) (omega (arith, s .0)),
     )
 
--- The listing's length is a number of 32 bits.
-pub listing-length : {w : List ℕ} {m : List (Segment Zone)} {n : ℕ} → Encodes w m n → length (listingText (shown m)) < 2 ^ 32
+-- For an arena of n pages: three names with their counts, and the rows of three sections.
+pub listing-most : {w : List ℕ} {m : List (Segment Zone)} {n : ℕ} → Encodes w m n → length (listingText (shown m)) ≤ 81 + 192 * n
 unfolding ascii
-listing-length {w} {m} {n} e =
+listing-most {w} {m} {n} e =
     let few : total m ≤ 256 = omega (arith, e .covers, e .most) in
     omega (
       arith,
+      e .covers,
       ap length (listing-sections m (e .sound)),
       length-append (sectionText (ascii "runs") (rowsOf 1 0 m)) (joined (sectionText (ascii "direct") (rowsOf 2 0 m) ∷ sectionText (ascii "zones") (rowsOf 3 0 m) ∷ [])),
       length-append (sectionText (ascii "direct") (rowsOf 2 0 m)) (joined (sectionText (ascii "zones") (rowsOf 3 0 m) ∷ [])),
@@ -105,6 +106,14 @@ listing-length {w} {m} {n} e =
       section-length (ascii "direct") 2 m (e .sound) few,
       section-length (ascii "zones") 3 m (e .sound) few,
     )
+
+-- So its length is a number of 32 bits, ..
+pub listing-length : {w : List ℕ} {m : List (Segment Zone)} {n : ℕ} → Encodes w m n → length (listingText (shown m)) < 2 ^ 32
+listing-length e = omega (arith, listing-most e, e .most)
+
+-- .. and for 24 pages it has room in 8,192 bytes.
+pub listing-short : {w : List ℕ} {m : List (Segment Zone)} {n : ℕ} → Encodes w m n → n ≤ 24 → length (listingText (shown m)) ≤ 8192
+listing-short e h = omega (arith, listing-most e)
 
 pub listing-bounded : {w : List ℕ} {m : List (Segment Zone)} {n : ℕ} → Encodes w m n → Bounded 0 (listingText (shown m))
 listing-bounded e = omega (arith, listing-length e)

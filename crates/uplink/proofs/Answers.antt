@@ -1,5 +1,5 @@
 -- The texts of the answers: they are short, as their writers require, and each kind has its own. Assumes nothing.
-use Prim.Native.Nat.{ℕ, _^_, _≤_, _<_}
+use Prim.Native.Nat.{ℕ, _+_, _^_, _≤_, _<_}
 use mathlib.Core.Path.{_≡_, refl, sym, ap, _∙_}
 use mathlib.Core.Bool.{true}
 use mathlib.Core.List.{List, [], _∷_}
@@ -14,21 +14,29 @@ use Rattle.model.specs.declared.Answer.the-variants.{Granted, Refused, Done, Co
 use Rattle.model.specs.Ascii.{ascii}
 use Rattle.model.specs.Text.{line}
 use Rattle.model.specs.Calls.{number}
-use Rattle.text.specs.Writing.{Bounded, named}
+use Rattle.text.specs.Writing.{Bounded, Wrote, named}
 use Rattle.text.proofs.Lines.{isLong, length-line, length-named}
 use Rattle.uplink.specs.Answers.{answerText}
 
 pub named-bounded : (at : ℕ) (name : List ℕ) (n : ℕ) → at < 2 ^ 32 → length name ≤ 2 → n < 2 ^ 64 → Bounded at (named name n)
 named-bounded at name n h k f = omega (arith, length-named name n f)
 
-pub pair-bounded : (at a b : ℕ) → at < 2 ^ 32 → a < 2 ^ 64 → b < 2 ^ 64 → Bounded at (line (a ∷ b ∷ []))
+pair-length : (a b : ℕ) → a < 2 ^ 64 → b < 2 ^ 64 → length (line (a ∷ b ∷ [])) ≤ 43
 unfolding every
-pair-bounded at a b h f g =
-    omega (
-      arith,
-      length-line (a ∷ b ∷ [])
-          (and-both (isLong a) (every isLong (b ∷ [])) (lt-ltb a (2 ^ 64) f) (and-both (isLong b) true (lt-ltb b (2 ^ 64) g) refl)),
-    )
+pair-length a b f g =
+    length-line (a ∷ b ∷ [])
+    (and-both (isLong a) (every isLong (b ∷ [])) (lt-ltb a (2 ^ 64) f) (and-both (isLong b) true (lt-ltb b (2 ^ 64) g) refl))
+
+pub pair-bounded : (at a b : ℕ) → at < 2 ^ 32 → a < 2 ^ 64 → b < 2 ^ 64 → Bounded at (line (a ∷ b ∷ []))
+pair-bounded at a b h f g = omega (arith, pair-length a b f g)
+
+-- Where they end.
+module _ {l m : List ℕ} {at r : ℕ} where
+  pub named-short : (name : List ℕ) (n : ℕ) → Wrote l at (named name n) r m → length name ≤ 2 → n < 2 ^ 64 → r ≤ at + 64
+  named-short name n w k f = omega (arith, w .next, length-named name n f)
+
+  pub pair-short : (a b : ℕ) → Wrote l at (line (a ∷ b ∷ [])) r m → a < 2 ^ 64 → b < 2 ^ 64 → r ≤ at + 64
+  pair-short a b w f g = omega (arith, w .next, pair-length a b f g)
 
 -- ---- the text of each kind of answer
 

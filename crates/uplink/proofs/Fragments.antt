@@ -169,9 +169,9 @@ module _ {k : Held} {s : List ℕ} {from : ℕ} {f : Fed} (h : FedBy k s from f)
       subst (Takes from k (drop from s) (stepOf f)) e
       (subst (λ (x : Step). Takes from k (drop from s) x (x .got)) (sym (h .step)) (step-takes (drop from s) from k))
 
-  pub fed-more : f .got ≡ More → (linesBy k (drop from s) ≡ []) × (heldAfter k (drop from s) ≡ held (f .reader))
+  pub fed-more : f .got ≡ More → (linesBy k (drop from s) ≡ []) × (heldAfter k (drop from s) ≡ held (f .reader)) × (f .next ≡ from + length (drop from s))
   unfolding Takes stepOf
-  fed-more e = let t = fed-takes More e in (t .0, t .1)
+  fed-more e = let t = fed-takes More e in (t .0, t .1, t .2)
 
   pub fed-whole : {l : Line} → f .got ≡ Whole l → (held (f .reader) ≡ fresh) × (linesBy k (drop from s) ≡ l ∷ linesBy fresh (drop (f .next) s)) × (heldAfter k (drop from s) ≡ heldAfter fresh (drop (f .next) s))
   unfolding Takes stepOf

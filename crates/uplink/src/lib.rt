@@ -1,7 +1,7 @@
 // Lines of input to calls, answers to lines, and a reader that takes the input in fragments. Nothing here reads or writes a file:
 // bytes come in lent slices, and texts go into lent buffers.
 ghost use mathlib.Core.Path.{_≡_};
-ghost use Prim.Native.Nat.{_^_, _<_};
+ghost use Prim.Native.Nat.{_+_, _^_, _≤_, _<_};
 ghost use Rattle.model.specs.Calls.{number as numberOf};
 ghost use mathlib.Core.List.{[], _∷_};
 ghost use Rattle.model.specs.Text.{line};
@@ -165,10 +165,11 @@ pub fn number(refusal: Refusal) -> u32
     }
 }
 
-// The line that says an answer.
+// The line that says an answer: it has at most 64 bytes.
 pub fn put_answer(out: &mut [u8], at: usize, answer: Answer) -> usize
     requires { ⌜ at < 2 ^ 32 ⌝ }
     ensures { λ r. ⌜ Wrote (now (out .entry)) at (answerText answer) r (now (out .exit)) ⌝ }
+    ensures { λ r. ⌜ r ≤ at + 64 ⌝ }
 {
     match answer {
         Answer::Granted(offset) => text::put_named(out, at, b"at", wide(offset)),
@@ -182,6 +183,7 @@ pub fn put_answer(out: &mut [u8], at: usize, answer: Answer) -> usize
 fn put_block(out: &mut [u8], at: usize, group: u32, room: u32) -> usize
     requires { ⌜ at < 2 ^ 32 ⌝ }
     ensures { λ r. ⌜ Wrote (now (out .entry)) at (line (group ∷ room ∷ [])) r (now (out .exit)) ⌝ }
+    ensures { λ r. ⌜ r ≤ at + 64 ⌝ }
 {
     let numbers = [wide(group), wide(room)];
     text::put_line(out, at, &numbers)

@@ -1,5 +1,4 @@
--- `uplink::feed` meets its contract. The loop's invariant is `Feeding`: from i on, with what the locals hold, the step goes on as it
--- was to go from `from` on. Assumes nothing.
+-- `feed` meets its contract. Assumes nothing.
 use Prim.Native.Nat.{_-_}
 use mathlib.Core.Path.{_≡_, sym}
 use native.Mathlib.Omega.{arith}

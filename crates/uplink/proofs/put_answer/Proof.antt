@@ -1,10 +1,10 @@
--- `uplink::put_answer` meets its contract: each kind of answer has its text. Assumes nothing.
+-- `put_answer` meets its contract. Assumes nothing.
 use mathlib.Core.Path.{_∙_}
 use native.Mathlib.Omega.{arith}
 use borrow.Author.Needs.{needs}
 use Rattle.model.specs.Ascii.{ascii}
 use Rattle.text.proofs.Left.{wrote-as}
-use Rattle.uplink.proofs.Answers.{named-bounded, says-granted, says-refused, says-done, says-counted, says-block}
+use Rattle.uplink.proofs.Answers.{named-bounded, named-short, says-granted, says-refused, says-done, says-counted, says-block}
 use Rattle.uplink.proofs.put_answer.Statement.{statement}
 use Rattle.uplink.proofs.put_answer.Tie as tie
 
@@ -67,34 +67,34 @@ same-length c = search needs
 
 returns : tie.Need-returns
 unfolding ascii
-returns c = wrote-as (says-granted (c .before .before .before .before .before .before .before .answer .given .1) (c .before .before .before .wide .ensures)) (c .before .before .put-named .ensures)
+returns c = (wrote-as (says-granted (c .before .before .before .before .before .before .before .answer .given .1) (c .before .before .before .wide .ensures)) (c .before .before .put-named .ensures), named-short _ _ (c .before .before .put-named .ensures) (omega arith) (omega arith))
 
 same-length-2 : tie.Need-same-length-2
 same-length-2 c = search needs
 
 returns-2 : tie.Need-returns-2
 unfolding ascii
-returns-2 c = wrote-as (says-refused (c .before .before .before .before .before .before .before .before .answer2 .given .1) (c .before .before .before .wide2 .ensures ∙ c .before .before .before .before .number .ensures)) (c .before .before .put-named2 .ensures)
+returns-2 c = (wrote-as (says-refused (c .before .before .before .before .before .before .before .before .answer2 .given .1) (c .before .before .before .wide2 .ensures ∙ c .before .before .before .before .number .ensures)) (c .before .before .put-named2 .ensures), named-short _ _ (c .before .before .put-named2 .ensures) (omega arith) (omega arith))
 
 same-length-3 : tie.Need-same-length-3
 same-length-3 c = search needs
 
 returns-3 : tie.Need-returns-3
 unfolding ascii
-returns-3 c = wrote-as (says-done (c .before .before .before .before .before .enum-told .given .1)) (c .before .before .put-bytes .ensures)
+returns-3 c = (wrote-as (says-done (c .before .before .before .before .before .enum-told .given .1)) (c .before .before .put-bytes .ensures), omega (arith, c .before .before .put-bytes .ensures .next))
 
 same-length-4 : tie.Need-same-length-4
 same-length-4 c = search needs
 
 returns-4 : tie.Need-returns-4
 unfolding ascii
-returns-4 c = wrote-as (says-counted (c .before .before .before .before .before .before .before .answer3 .given .1) (c .before .before .before .wide3 .ensures)) (c .before .before .put-named3 .ensures)
+returns-4 c = (wrote-as (says-counted (c .before .before .before .before .before .before .before .answer3 .given .1) (c .before .before .before .wide3 .ensures)) (c .before .before .put-named3 .ensures), named-short _ _ (c .before .before .put-named3 .ensures) (omega arith) (omega arith))
 
 same-length-5 : tie.Need-same-length-5
 same-length-5 c = search needs
 
 returns-5 : tie.Need-returns-5
-returns-5 c = wrote-as (says-block (c .before .before .before .before .before .answer4 .given .1)) (c .before .before .put-block .ensures)
+returns-5 c = (wrote-as (says-block (c .before .before .before .before .before .answer4 .given .1)) (c .before .before .put-block .ensures .0), c .before .before .put-block .ensures .1)
 
 pub put-answer-spec : {M : Type 1} → statement M
 put-answer-spec =

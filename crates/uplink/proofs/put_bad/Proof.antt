@@ -1,4 +1,4 @@
--- `uplink::put_bad` meets its contract. Assumes nothing.
+-- `put_bad` meets its contract. Assumes nothing.
 use borrow.Author.Needs.{needs}
 use Rattle.model.specs.Ascii.{ascii}
 use Rattle.uplink.specs.Answers.{badText}

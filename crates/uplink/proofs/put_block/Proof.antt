@@ -1,4 +1,4 @@
--- `uplink::put_block` meets its contract. Assumes nothing.
+-- `put_block` meets its contract. Assumes nothing.
 use Prim.Native.Nat.{ℕ}
 use mathlib.Core.List.{[], _∷_}
 use mathlib.Core.Path.{ap, _∙_}
@@ -6,7 +6,7 @@ use native.Mathlib.Omega.{arith}
 use borrow.Author.Needs.{needs}
 use Rattle.model.specs.Text.{line}
 use Rattle.text.proofs.Left.{wrote-as}
-use Rattle.uplink.proofs.Answers.{pair-bounded}
+use Rattle.uplink.proofs.Answers.{pair-bounded, pair-short}
 use Rattle.uplink.proofs.put_block.Statement.{statement}
 use Rattle.uplink.proofs.put_block.Tie as tie
 
@@ -26,7 +26,7 @@ same-length : tie.Need-same-length
 same-length c = search needs
 
 returns : tie.Need-returns
-returns c = wrote-as (ap (λ (n : ℕ). line (n ∷ c .before .before .before .before .before .wide2 .result ∷ [])) (c .before .before .before .before .before .before .wide .ensures) ∙ ap (λ (n : ℕ). line (c .before .before .before .before .before .before .before .before .args .group ∷ n ∷ [])) (c .before .before .before .before .before .wide2 .ensures)) (c .before .before .put-line .ensures)
+returns c = (wrote-as (ap (λ (n : ℕ). line (n ∷ c .before .before .before .before .before .wide2 .result ∷ [])) (c .before .before .before .before .before .before .wide .ensures) ∙ ap (λ (n : ℕ). line (c .before .before .before .before .before .before .before .before .args .group ∷ n ∷ [])) (c .before .before .before .before .before .wide2 .ensures)) (c .before .before .put-line .ensures), pair-short _ _ (c .before .before .put-line .ensures) (omega arith) (omega arith))
 
 pub put-block-spec : {M : Type 1} → statement M
 put-block-spec =

@@ -1,0 +1,49 @@
+-- `serve_end` meets its contract. Assumes nothing.
+use Rattle.bench.proofs.Gathering.{front-holds}
+use lib.Seq.{length-take-le}
+use native.Mathlib.Omega.{arith}
+use mathlib.Core.Path.{sym}
+use borrow.Author.Needs.{needs}
+use Rattle.bench.proofs.serve_end.Statement.{statement}
+use Rattle.bench.proofs.serve_end.Tie as tie
+
+slice-relend-prefix-serve-last : tie.Need-slice-relend-prefix-serve-last
+slice-relend-prefix-serve-last c = search needs
+
+slice-aggregate-serve-last : tie.Need-slice-aggregate-serve-last
+slice-aggregate-serve-last c = sym (length-take-le 8192 (c .before .before .before .before .args .out .now) (c .before .before .before .before .pre .1))
+
+serve-last-requires : tie.Need-serve-last-requires
+serve-last-requires c κs = search needs
+
+slice-reshare-prefix-write-all : tie.Need-slice-reshare-prefix-write-all
+slice-reshare-prefix-write-all c = front-holds (c .before .before .before .before .before .before .before .before .before .args .out .now) 8192 (c .before .before .before .before .before .before .before .before .before .pre .1) (omega arith) (c .before .before .before .before .serve-last .ensures .1)
+
+slice-aggregate-write-all : tie.Need-slice-aggregate-write-all
+slice-aggregate-write-all c = sym (length-take-le _ _ (front-holds (c .before .before .before .before .before .before .before .before .before .before .args .out .now) 8192 (c .before .before .before .before .before .before .before .before .before .before .pre .1) (omega arith) (c .before .before .before .before .before .serve-last .ensures .1)))
+
+write-all-requires : tie.Need-write-all-requires
+write-all-requires c κs = search needs
+
+same-length : tie.Need-same-length
+same-length c = search needs
+
+same-length-2 : tie.Need-same-length-2
+same-length-2 c = search needs
+
+returns : tie.Need-returns
+returns c = search needs
+
+pub serve-end-spec : {M : Type 1} → statement M
+serve-end-spec =
+    tie.close
+    (tie.spec
+    slice-relend-prefix-serve-last
+    slice-aggregate-serve-last
+    serve-last-requires
+    slice-reshare-prefix-write-all
+    slice-aggregate-write-all
+    write-all-requires
+    same-length
+    same-length-2
+    returns)

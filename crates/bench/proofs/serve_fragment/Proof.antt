@@ -1,0 +1,119 @@
+-- `serve_fragment` meets its contract. Assumes nothing.
+use lib.Seq.{length-take-le}
+use mathlib.Core.Path.{refl, sym}
+use Rattle.bench.proofs.Gathering.{part-keeps, part-holds, Serving, serving-turn, serving-done, serving-failed}
+use native.Mathlib.Omega.{arith}
+use lib.ListN.{length}
+use Prim.Native.Nat.{_+_, _-_, _≤_}
+use borrow.Author.Needs.{needs}
+use Rattle.bench.proofs.serve_fragment.Statement.{statement}
+use Rattle.bench.proofs.serve_fragment.Tie as tie
+
+abbrev Inv-loop : tie.InvT-loop
+Inv-loop meta₀ fragment out₀ reader₀ at₀ used₀ meta out reader at used = Serving meta₀ fragment out₀ reader₀ meta out reader at × (used + 8192 ≤ length out)
+
+abbrev μ-loop : tie.MeasureT-loop
+μ-loop meta₀ fragment out₀ reader₀ at₀ used₀ meta out reader at used = length fragment - at
+
+loop-holds : tie.Need-loop-holds Inv-loop μ-loop
+loop-holds c = search needs
+
+add-end : tie.Need-add-end Inv-loop μ-loop
+add-end c = search needs
+
+sub-serve-next : tie.Need-sub-serve-next Inv-loop μ-loop
+sub-serve-next c = search needs
+
+part-serve-next-start : tie.Need-part-serve-next-start Inv-loop μ-loop
+part-serve-next-start c = search needs
+
+part-serve-next-end : tie.Need-part-serve-next-end Inv-loop μ-loop
+part-serve-next-end c = search needs
+
+serve-next-requires : tie.Need-serve-next-requires Inv-loop μ-loop
+serve-next-requires c κs = search needs
+
+add-used : tie.Need-add-used Inv-loop μ-loop
+add-used c = omega (arith, part-holds (c .before .before .before .before .before .before .before .before .before .before .loop .out) (c .before .before .before .before .before .before .before .before .before .before .loop .used) _ 8192 (c .before .before .before .before .before .before .before .before .before .before .loop .inv .1) refl (omega arith) (c .before .before .before .before .before .before .serve-next .ensures .reply), part-keeps (c .before .before .before .before .before .before .before .before .before .before .loop .out) (c .before .before .before .before .before .before .before .before .before .before .loop .used) _ 8192 (c .before .before .before .before .before .before .before .before .before .before .loop .inv .1) refl (omega arith) (c .before .before .before .before .before .before .serve-next .ensures .reply))
+
+sub-if1 : tie.Need-sub-if1 Inv-loop μ-loop
+sub-if1 c = part-holds (c .before .before .before .before .before .before .before .before .before .before .loop .out) (c .before .before .before .before .before .before .before .before .before .before .loop .used) _ 8192 (c .before .before .before .before .before .before .before .before .before .before .loop .inv .1) refl (omega arith) (c .before .before .before .before .before .before .serve-next .ensures .reply)
+
+loop-less : tie.Need-loop-less Inv-loop μ-loop
+loop-less c = omega (arith, c .before .before .before .before .before .before .before .serve-next .ensures .onward (c .before .before .before .before .before .before .before .before .before .before .loop-test .taken))
+
+loop-again : tie.Need-loop-again Inv-loop μ-loop
+loop-again c = (serving-turn (c .before .before .before .before .before .before .before .before .before .before .before .loop .inv .0) (c .before .before .before .before .before .before .before .serve-next .ensures) (search needs) (part-keeps (c .before .before .before .before .before .before .before .before .before .before .before .loop .out) (c .before .before .before .before .before .before .before .before .before .before .before .loop .used) _ 8192 (c .before .before .before .before .before .before .before .before .before .before .before .loop .inv .1) refl (omega arith) (c .before .before .before .before .before .before .before .serve-next .ensures .reply)), omega (arith, part-holds (c .before .before .before .before .before .before .before .before .before .before .before .loop .out) (c .before .before .before .before .before .before .before .before .before .before .before .loop .used) _ 8192 (c .before .before .before .before .before .before .before .before .before .before .before .loop .inv .1) refl (omega arith) (c .before .before .before .before .before .before .before .serve-next .ensures .reply)))
+
+slice-reshare-prefix-write-all : tie.Need-slice-reshare-prefix-write-all Inv-loop μ-loop
+slice-reshare-prefix-write-all c = part-holds (c .before .before .before .before .before .before .before .before .before .before .before .loop .out) (c .before .before .before .before .before .before .before .before .before .before .before .loop .used) _ 8192 (c .before .before .before .before .before .before .before .before .before .before .before .loop .inv .1) refl (omega arith) (c .before .before .before .before .before .before .before .serve-next .ensures .reply)
+
+slice-aggregate-write-all : tie.Need-slice-aggregate-write-all Inv-loop μ-loop
+slice-aggregate-write-all c = sym (length-take-le _ _ (part-holds (c .before .before .before .before .before .before .before .before .before .before .before .before .loop .out) (c .before .before .before .before .before .before .before .before .before .before .before .before .loop .used) _ 8192 (c .before .before .before .before .before .before .before .before .before .before .before .before .loop .inv .1) refl (omega arith) (c .before .before .before .before .before .before .before .before .serve-next .ensures .reply)))
+
+write-all-requires : tie.Need-write-all-requires Inv-loop μ-loop
+write-all-requires c κs = search needs
+
+same-length : tie.Need-same-length Inv-loop μ-loop
+same-length c = search needs
+
+same-length-2 : tie.Need-same-length-2 Inv-loop μ-loop
+same-length-2 c = search needs
+
+returns : tie.Need-returns Inv-loop μ-loop
+returns c = serving-failed (c .before .before .before .before .before .before .before .before .before .before .serve-next .ensures .sound)
+
+loop-less-2 : tie.Need-loop-less-2 Inv-loop μ-loop
+loop-less-2 c = omega (arith, c .before .before .before .before .before .before .before .before .before .before .serve-next .ensures .onward (c .before .before .before .before .before .before .before .before .before .before .before .before .before .loop-test .taken))
+
+loop-again-2 : tie.Need-loop-again-2 Inv-loop μ-loop
+loop-again-2 c = (serving-turn (c .before .before .before .before .before .before .before .before .before .before .before .before .before .before .loop .inv .0) (c .before .before .before .before .before .before .before .before .before .before .serve-next .ensures) (search needs) (part-keeps (c .before .before .before .before .before .before .before .before .before .before .before .before .before .before .loop .out) (c .before .before .before .before .before .before .before .before .before .before .before .before .before .before .loop .used) _ 8192 (c .before .before .before .before .before .before .before .before .before .before .before .before .before .before .loop .inv .1) refl (omega arith) (c .before .before .before .before .before .before .before .before .before .before .serve-next .ensures .reply)), omega (arith, part-keeps (c .before .before .before .before .before .before .before .before .before .before .before .before .before .before .loop .out) (c .before .before .before .before .before .before .before .before .before .before .before .before .before .before .loop .used) _ 8192 (c .before .before .before .before .before .before .before .before .before .before .before .before .before .before .loop .inv .1) refl (omega arith) (c .before .before .before .before .before .before .before .before .before .before .serve-next .ensures .reply), c .before .before .before .before .before .before .before .before .before .before .before .before .before .before .loop .inv .1))
+
+slice-reshare-prefix-write-all-2 : tie.Need-slice-reshare-prefix-write-all-2 Inv-loop μ-loop
+slice-reshare-prefix-write-all-2 c = search needs
+
+slice-aggregate-write-all-2 : tie.Need-slice-aggregate-write-all-2 Inv-loop μ-loop
+slice-aggregate-write-all-2 c = sym (length-take-le _ _ (omega (arith, c .before .before .loop .inv .1)))
+
+write-all-requires-2 : tie.Need-write-all-requires-2 Inv-loop μ-loop
+write-all-requires-2 c κs = search needs
+
+same-length-3 : tie.Need-same-length-3 Inv-loop μ-loop
+same-length-3 c = search needs
+
+same-length-4 : tie.Need-same-length-4 Inv-loop μ-loop
+same-length-4 c = search needs
+
+returns-2 : tie.Need-returns-2 Inv-loop μ-loop
+returns-2 c = serving-done (c .before .before .before .loop .inv .0) (c .before .before .loop-test .left) _
+
+pub serve-fragment-spec : {M : Type 1} → statement M
+serve-fragment-spec =
+    tie.close
+    (tie.spec
+    Inv-loop
+    μ-loop
+    loop-holds
+    add-end
+    sub-serve-next
+    part-serve-next-start
+    part-serve-next-end
+    serve-next-requires
+    add-used
+    sub-if1
+    loop-less
+    loop-again
+    slice-reshare-prefix-write-all
+    slice-aggregate-write-all
+    write-all-requires
+    same-length
+    same-length-2
+    returns
+    loop-less-2
+    loop-again-2
+    slice-reshare-prefix-write-all-2
+    slice-aggregate-write-all-2
+    write-all-requires-2
+    same-length-3
+    same-length-4
+    returns-2)

@@ -1,0 +1,101 @@
+// The bench program (document 01): calls from standard input, a line each, and their replies to standard output. The words of its
+// arena are enough for 24 pages, and all zero when it begins. Every line is desk's to serve; here are the reads and the writes.
+ghost use mathlib.Core.Path.{_≡_};
+ghost use mathlib.Core.Bool.{false};
+ghost use Prim.Native.Nat.{_≤_};
+ghost use lib.ListN.{length};
+ghost use Rattle.metadata.specs.Decoding.{isState};
+ghost use Rattle.uplink.specs.Fragments.{Sound, held};
+ghost use Rattle.bench.specs.Fragments.{ServedAll};
+use libc::STDIN_FILENO;
+use libc::STDOUT_FILENO;
+use uplink::Reader;
+
+// The room for one reply. No listing of 24 pages is longer.
+const REPLY: usize = 8192;
+
+// What a fragment leaves: the reader, and whether all replies could be written.
+struct Served {
+    reader: Reader,
+    written: bool,
+}
+
+// 1,024 + 520 × 24 words.
+fn fresh_words() -> [u32; 13504]
+    ensures { λ r. ⌜ 13504 ≡ length r ⌝ }
+    ensures { λ r. ⌜ isState r ≡ false ⌝ }
+{
+    [0; 13504]
+}
+
+// Serves a fragment's lines. Replies are gathered, and written when there is no room for another and at the fragment's end.
+fn serve_fragment(reader: Reader, meta: &mut [u32], fragment: &[u8], out: &mut [u8]) -> Served
+    requires { ⌜ Sound reader ⌝ }
+    requires { ⌜ 8192 ≤ length (now out) ⌝ }
+    ensures { λ r. ⌜ ServedAll (held reader) (now (meta .entry)) (now (fragment .entry)) r (now (meta .exit)) ⌝ }
+{
+    let mut reader = reader;
+    let mut at: usize = 0;
+    let mut used: usize = 0;
+    while at < fragment.len() {
+        let end = used + REPLY;
+        let turn = desk::serve_next(reader, meta, fragment, at, &mut out[used..end]);
+        reader = turn.reader;
+        at = turn.next;
+        used += turn.len;
+        if REPLY <= out.len() - used {
+            continue;
+        }
+        if !io::write_all(STDOUT_FILENO, &out[..used]) {
+            return Served {
+                reader,
+                written: false,
+            };
+        }
+        used = 0;
+    }
+    let written = io::write_all(STDOUT_FILENO, &out[..used]);
+    Served { reader, written }
+}
+
+// The end of the input.
+fn serve_end(reader: Reader, meta: &mut [u32], out: &mut [u8])
+    requires { ⌜ Sound reader ⌝ }
+    requires { ⌜ 8192 ≤ length (now out) ⌝ }
+{
+    let len = desk::serve_last(reader, meta, &mut out[..REPLY]);
+    io::write_all(STDOUT_FILENO, &out[..len]);
+}
+
+// Reads what is there, serves it, and reads on. A loop has to end, and nothing says that an input does: so this one counts its reads
+// down, from a number that no run uses up.
+fn run(meta: &mut [u32], input: &mut [u8], out: &mut [u8])
+    requires { ⌜ 8192 ≤ length (now out) ⌝ }
+{
+    let mut reader = uplink::new_reader();
+    let mut reads = u64::MAX;
+    while reads > 0 {
+        let got = libc::read(STDIN_FILENO, input);
+        if got < 0 {
+            return;
+        }
+        let n = io::count(got, input);
+        if n == 0 {
+            serve_end(reader, meta, out);
+            return;
+        }
+        let served = serve_fragment(reader, meta, &input[..n], out);
+        if !served.written {
+            return;
+        }
+        reader = served.reader;
+        reads -= 1;
+    }
+}
+
+fn main() {
+    let mut meta = fresh_words();
+    let mut input = io::large_buffer();
+    let mut out = io::large_buffer();
+    run(&mut meta, &mut input, &mut out);
+}

@@ -1,0 +1,43 @@
+-- `desk::serve_last` meets its contract. Assumes nothing.
+use mathlib.Core.Path.{sym, _∙_}
+use Rattle.desk.proofs.Turns.{followed-line, followed-none}
+use borrow.Author.Needs.{needs}
+use Rattle.desk.proofs.serve_last.Statement.{statement}
+use Rattle.desk.proofs.serve_last.Tie as tie
+
+finish-requires : tie.Need-finish-requires
+finish-requires c κs = search needs
+
+enum-known-got : tie.Need-enum-known-got
+enum-known-got c = search needs
+
+serve-requires : tie.Need-serve-requires
+serve-requires c κs = search needs
+
+enum-told : tie.Need-enum-told
+enum-told c = search needs
+
+same-length : tie.Need-same-length
+same-length c = search needs
+
+same-length-2 : tie.Need-same-length-2
+same-length-2 c = search needs
+
+returns : tie.Need-returns
+returns c = followed-line (c .before .before .before .before .before .before .before .before .before .before .before .before .before .args .meta .now) (c .before .before .before .before .before .before .before .before .before .before .before .before .before .args .out .now) (sym (c .before .before .before .before .before .before .before .before .before .before .finish .ensures .2) ∙ c .before .before .before .before .before .before .before .before .got .given .1) (c .before .before .before .before .serve .ensures)
+
+returns-2 : tie.Need-returns-2
+returns-2 c = followed-none (c .before .before .before .before .before .args .meta .now) (c .before .before .before .before .before .args .out .now) (sym (c .before .before .finish .ensures .2) ∙ c .enum-told .given .1)
+
+pub serve-last-spec : {M : Type 1} → statement M
+serve-last-spec =
+    tie.close
+    (tie.spec
+    finish-requires
+    enum-known-got
+    serve-requires
+    enum-told
+    same-length
+    same-length-2
+    returns
+    returns-2)
