@@ -11,7 +11,7 @@ use libc::STDIN_FILENO;
 use libc::STDOUT_FILENO;
 use uplink::Reader;
 
-// The room for one reply. No listing of 24 pages is longer.
+// The room for one reply. Every listing of 24 pages has room there (proofs/Room.antt).
 const REPLY: usize = 8192;
 
 // What a fragment leaves: the reader, and whether all replies could be written.
@@ -58,7 +58,7 @@ fn serve_fragment(reader: Reader, meta: &mut [u32], fragment: &[u8], out: &mut [
     Served { reader, written }
 }
 
-// The end of the input.
+// The end of the input: a last line without LF.
 fn serve_end(reader: Reader, meta: &mut [u32], out: &mut [u8])
     requires { ⌜ Sound reader ⌝ }
     requires { ⌜ 8192 ≤ length (now out) ⌝ }

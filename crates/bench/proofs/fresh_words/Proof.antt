@@ -1,4 +1,4 @@
--- `fresh_words` meets its contract. Assumes nothing.
+-- `bench::fresh_words` meets its contract. Assumes nothing.
 use Rattle.metadata.proofs.States.{zeros-none}
 use Rattle.lemmas.specs.Zeros.{zeros}
 use mathlib.Core.Path.{refl}

@@ -1,4 +1,4 @@
--- `run` meets its contract. Assumes nothing.
+-- `bench::run` meets its contract. The loop's invariant keeps the reader sound and the lengths of what is lent. Assumes nothing.
 use Rattle.uplink.specs.Fragments.{Sound}
 use lib.ListN.{length}
 use mathlib.Core.Path.{_≡_}

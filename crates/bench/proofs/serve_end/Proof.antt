@@ -1,4 +1,4 @@
--- `serve_end` meets its contract. Assumes nothing.
+-- `bench::serve_end` meets its contract. Assumes nothing.
 use Rattle.bench.proofs.Gathering.{front-holds}
 use lib.Seq.{length-take-le}
 use native.Mathlib.Omega.{arith}

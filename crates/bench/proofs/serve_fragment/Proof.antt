@@ -1,4 +1,5 @@
--- `serve_fragment` meets its contract. Assumes nothing.
+-- `bench::serve_fragment` meets its contract. The loop's invariant is `Serving`, and that there is room for one more reply.
+-- Assumes nothing.
 use lib.Seq.{length-take-le}
 use mathlib.Core.Path.{refl, sym}
 use Rattle.bench.proofs.Gathering.{part-keeps, part-holds, Serving, serving-turn, serving-done, serving-failed}

@@ -1,4 +1,4 @@
--- `bare_line` meets its contract. Assumes nothing.
+-- `uplink::bare_line` meets its contract. Assumes nothing.
 use borrow.Author.Tests.{eq-eqb, ne-eqb}
 use Rattle.uplink.specs.Grammar.{bareLine}
 use Rattle.uplink.proofs.bare_line.Statement.{statement}

@@ -1,4 +1,5 @@
--- `feed` meets its contract. Assumes nothing.
+-- `uplink::feed` meets its contract. The loop's invariant is `Feeding`: from i on, with what the locals hold, the step goes on as it
+-- was to go from `from` on. Assumes nothing.
 use Prim.Native.Nat.{_-_}
 use mathlib.Core.Path.{_≡_, sym}
 use native.Mathlib.Omega.{arith}

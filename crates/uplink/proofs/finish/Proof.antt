@@ -1,4 +1,4 @@
--- `finish` meets its contract. Assumes nothing.
+-- `uplink::finish` meets its contract. Assumes nothing.
 use mathlib.Core.Path.{_≡_, sym, ap, _∙_}
 use lib.ListN.{length}
 use borrow.Author.Needs.{needs}

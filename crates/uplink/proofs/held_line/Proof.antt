@@ -1,4 +1,4 @@
--- `held_line` meets its contract. Assumes nothing.
+-- `uplink::held_line` meets its contract. Assumes nothing.
 use mathlib.Core.Path.{_≡_, sym, _∙_}
 use native.Mathlib.Omega.{arith}
 use lib.Seq.{length-take-le}

@@ -1,4 +1,4 @@
--- `line_of_one` meets its contract. Assumes nothing.
+-- `uplink::line_of_one` meets its contract. Assumes nothing.
 use borrow.Author.Tests.{eq-eqb, ne-eqb}
 use Rattle.uplink.specs.Grammar.{lineOfOne}
 use Rattle.uplink.proofs.line_of_one.Statement.{statement}

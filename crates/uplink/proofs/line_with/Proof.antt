@@ -1,4 +1,4 @@
--- `line_with` meets its contract. Assumes nothing.
+-- `uplink::line_with` meets its contract. Assumes nothing.
 use borrow.Author.Needs.{needs}
 use Rattle.uplink.specs.Grammar.{lineWith}
 use Rattle.uplink.proofs.line_with.Statement.{statement}

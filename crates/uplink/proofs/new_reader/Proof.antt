@@ -1,4 +1,4 @@
--- `new_reader` meets its contract. Assumes nothing.
+-- `uplink::new_reader` meets its contract. Assumes nothing.
 use mathlib.Core.Path.{refl}
 use native.Mathlib.Omega.{arith}
 use Rattle.uplink.specs.Fragments.{held}

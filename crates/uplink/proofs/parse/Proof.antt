@@ -1,4 +1,4 @@
--- `parse` meets its contract. Assumes nothing.
+-- `uplink::parse` meets its contract. Assumes nothing.
 use borrow.Author.Needs.{needs}
 use Rattle.uplink.proofs.Parsing.{line-empty, line-letter}
 use Rattle.uplink.proofs.parse.Statement.{statement}

@@ -1,4 +1,4 @@
--- `put_answer` meets its contract. Assumes nothing.
+-- `uplink::put_answer` meets its contract: each kind of answer has its text. Assumes nothing.
 use mathlib.Core.Path.{_∙_}
 use native.Mathlib.Omega.{arith}
 use borrow.Author.Needs.{needs}

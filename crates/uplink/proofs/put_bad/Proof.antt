@@ -1,4 +1,4 @@
--- `put_bad` meets its contract. Assumes nothing.
+-- `uplink::put_bad` meets its contract. Assumes nothing.
 use borrow.Author.Needs.{needs}
 use Rattle.model.specs.Ascii.{ascii}
 use Rattle.uplink.specs.Answers.{badText}

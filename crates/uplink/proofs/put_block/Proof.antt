@@ -1,4 +1,4 @@
--- `put_block` meets its contract. Assumes nothing.
+-- `uplink::put_block` meets its contract. Assumes nothing.
 use Prim.Native.Nat.{ℕ}
 use mathlib.Core.List.{[], _∷_}
 use mathlib.Core.Path.{ap, _∙_}

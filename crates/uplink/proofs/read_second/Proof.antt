@@ -1,4 +1,4 @@
--- `read_second` meets its contract. Assumes nothing.
+-- `uplink::read_second` meets its contract: each test is one of the definition's. Assumes nothing.
 use mathlib.Core.Path.{sym, _∙_}
 use borrow.Author.Needs.{needs}
 use Rattle.uplink.proofs.Parsing.{second-none, second-other, second-missing, second-last, second-more}
