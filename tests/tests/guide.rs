@@ -1,0 +1,205 @@
+//! docs/GUIDE.md: its calls are made in the order in which they stand there, on the second program and
+//! on the bench program, and its answers, its drawings and its table of sizes are the ones that come.
+
+use reference::bench::{Bench, WORDS};
+use reference::sizes::{chunk_count, chunk_size, need, Need, PAGE_BYTES, ZONE_PAGES};
+use reference::state::{Page, State};
+use std::collections::VecDeque;
+use tests::program::answers;
+
+const GUIDE: &str = include_str!("../../docs/GUIDE.md");
+
+/// What stands before a line that is typed.
+const TYPED: &str = "> ";
+
+/// A fenced block: what is said behind its fence, and its lines.
+struct Block {
+    kind: &'static str,
+    lines: Vec<&'static str>,
+}
+
+fn blocks() -> Vec<Block> {
+    let mut blocks = Vec::new();
+    let mut lines = GUIDE.lines();
+    while let Some(line) = lines.next() {
+        if let Some(kind) = line.strip_prefix("```") {
+            let lines = lines.by_ref().take_while(|line| *line != "```").collect();
+            blocks.push(Block { kind, lines });
+        }
+    }
+    blocks
+}
+
+#[test]
+fn every_answer_and_every_drawing() {
+    let mut bench = Bench::new(WORDS);
+    let (mut sessions, mut drawings) = (0, 0);
+    for block in blocks() {
+        let told = block.lines.join("\n");
+        let stands = match block.kind.split_once(' ').unwrap_or((block.kind, "")) {
+            ("session", "") => {
+                sessions += 1;
+                talk(&mut bench, &block.lines)
+            }
+            (kind, of) => {
+                drawings += 1;
+                let state = bench.allocator().state().expect("a start was made");
+                match kind {
+                    "arena" => arena(state),
+                    "zone" => zone(state, of.parse().expect("a page")),
+                    "lists" => lists(state),
+                    _ => panic!("a block of no kind: {kind:?}"),
+                }
+            }
+        };
+        assert_eq!(
+            told, stands,
+            "\nThe guide has:\n{told}\n\nIt should have:\n{stands}\n"
+        );
+    }
+    assert!(sessions >= 20 && drawings >= 18, "{sessions}, {drawings}");
+}
+
+/// The typed lines of a block, each with what the second program answers behind it.
+fn talk(bench: &mut Bench, lines: &[&str]) -> String {
+    let mut text = String::new();
+    for typed in lines.iter().filter_map(|line| line.strip_prefix(TYPED)) {
+        let mut answer = Vec::new();
+        let fed = bench.feed(format!("{typed}\n").as_bytes(), &mut answer);
+        fed.expect("memory takes every byte");
+        text.push_str(&format!("{TYPED}{typed}\n"));
+        text.push_str(&String::from_utf8(answer).expect("answers are ASCII"));
+    }
+    text.trim_end().to_string()
+}
+
+#[test]
+fn the_bench_program_answers_the_same() {
+    let lines = || {
+        let sessions = blocks().into_iter().filter(|block| block.kind == "session");
+        sessions.flat_map(|block| block.lines)
+    };
+    let typed: String = lines()
+        .filter_map(|line| line.strip_prefix(TYPED))
+        .map(|line| format!("{line}\n"))
+        .collect();
+    let told: String = lines()
+        .filter(|line| !line.starts_with(TYPED))
+        .map(|line| format!("{line}\n"))
+        .collect();
+    let came = String::from_utf8(answers(typed.as_bytes())).expect("answers are ASCII");
+    assert_eq!(came, told);
+}
+
+#[test]
+fn the_table_of_sizes() {
+    let rows: Vec<Vec<u32>> = GUIDE
+        .lines()
+        .skip_while(|line| !line.starts_with("| bytes asked for |"))
+        .skip(2)
+        .take_while(|line| line.starts_with('|'))
+        .map(|line| {
+            let fields = line.trim_matches('|').split('|');
+            let numbers = fields.map(|field| field.trim().replace(',', ""));
+            numbers
+                .map(|number| number.parse().expect("a number"))
+                .collect()
+        })
+        .collect();
+    assert!(rows.len() >= 5);
+    for row in rows {
+        let class = match need(row[0]) {
+            Need::Chunk { class } => class,
+            Need::Pages { .. } => panic!("{} bytes take no chunk", row[0]),
+        };
+        let (chunk, chunks) = (chunk_size(class), chunk_count(class));
+        let left = ZONE_PAGES * PAGE_BYTES - chunk * chunks;
+        assert_eq!(row, [row[0], chunk, class, chunks, left]);
+    }
+}
+
+/// Three columns for each page. What is longer than a page stands in brackets.
+fn arena(state: &State) -> String {
+    let numbers: String = (0..state.pages).map(|page| format!("{page:>3}")).collect();
+    let mut cells = String::new();
+    let mut page = 0;
+    while page < state.pages {
+        let (pages, text) = segment(state, page);
+        match text {
+            None => cells.push_str(&"  .".repeat(pages as usize)),
+            Some(text) => {
+                let width = 3 * pages as usize - 2;
+                let text = match text.len() > width {
+                    true => text.replace("group ", "g"),
+                    false => text,
+                };
+                cells.push_str(&format!("[{text:<width$}]"));
+            }
+        }
+        page += pages;
+    }
+    format!("page {numbers}\n     {cells}")
+}
+
+/// The pages of what begins at a page, and its name if they are not free.
+fn segment(state: &State, page: Page) -> (u32, Option<String>) {
+    if let Some(block) = state.direct.get(&page) {
+        return (block.pages, Some(format!("group {}", block.group)));
+    }
+    if let Some(zone) = state.zones.get(&page) {
+        let name = format!("zone: chunks of {}", zone.chunk_size());
+        return (ZONE_PAGES, Some(name));
+    }
+    let run = state.runs.iter().find(|run| run.start == page);
+    (run.expect("every page is covered").pages, None)
+}
+
+/// The chunks of a zone that were ever handed out, each with its group.
+fn zone(state: &State, start: Page) -> String {
+    let zone = &state.zones[&start];
+    let (chunks, room, k) = (zone.chunk_count(), zone.chunk_size(), zone.handed_out);
+    let class = zone.class;
+    let numbers: String = (0..k).map(|chunk| format!("{chunk:>6}")).collect();
+    let owners: String = (0..k as usize)
+        .map(|chunk| match zone.owners[chunk] {
+            Some(group) => format!("{group:>6}"),
+            None => format!("{:>6}", "back"),
+        })
+        .collect();
+    let (rest, untouched) = match k < chunks {
+        true => (format!("  {k} to {}", chunks - 1), "  untouched"),
+        false => (String::new(), ""),
+    };
+    let chain = match zone.chain.is_empty() {
+        true => "empty".to_string(),
+        false => joined(&zone.chain),
+    };
+    format!(
+        "zone at page {start}: class {class}, {chunks} chunks of {room} bytes, k = {k}\n\
+         chunk{numbers}{rest}\n     {owners}{untouched}\nchain: {chain}"
+    )
+}
+
+/// The lists that have a zone, and the empty list.
+fn lists(state: &State) -> String {
+    let mut text = String::new();
+    for (class, list) in state.lists.iter().enumerate() {
+        if !list.is_empty() {
+            text.push_str(&format!("class {class}: {}\n", named(list)));
+        }
+    }
+    text + &format!("empty list: {}", named(&state.empty))
+}
+
+fn named(pages: &VecDeque<Page>) -> String {
+    match pages.len() {
+        0 => "none".to_string(),
+        1 => format!("page {}", joined(pages)),
+        _ => format!("pages {}", joined(pages)),
+    }
+}
+
+fn joined(numbers: &VecDeque<u32>) -> String {
+    let numbers: Vec<String> = numbers.iter().map(u32::to_string).collect();
+    numbers.join(", ")
+}
