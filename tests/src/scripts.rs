@@ -118,7 +118,7 @@ pub fn script(profile: Profile, seed: u64, lines: u32) -> Vec<u8> {
 }
 
 /// The line with something about it changed, mostly so that it is no call.
-pub fn damaged(mut line: Vec<u8>, random: &mut Xorshift) -> Vec<u8> {
+fn damaged(mut line: Vec<u8>, random: &mut Xorshift) -> Vec<u8> {
     let space = line.iter().position(|byte| *byte == b' ');
     // Where its first number begins, or where it ends.
     let number = space.map_or(line.len(), |at| at + 1);
