@@ -3,31 +3,13 @@
 ghost use mathlib.Core.Path.{_≡_};
 ghost use lib.ListN.{length};
 ghost use Rattle.model.specs.Calls as rules;
-ghost use Rattle.model.specs.Calls.{number, reading};
+ghost use Rattle.model.specs.Calls.{reading};
 ghost use Rattle.model.specs.declared.Operation.the-variants as operation;
 ghost use Rattle.slab.specs.Calls.{answerOf, metaAfter, textAfter};
 ghost use Rattle.capi.specs.Values.{firstOr, secondOr};
 use model::Answer;
 use model::Call;
 use model::Operation;
-use model::Refusal;
-
-// Document 01's number of a refusal.
-fn number_of(refusal: Refusal) -> u32
-    ensures { λ r. ⌜ r ≡ number refusal ⌝ }
-{
-    match refusal {
-        Refusal::BadPages => 1,
-        Refusal::FewWords => 2,
-        Refusal::NoState => 3,
-        Refusal::BadGroup => 4,
-        Refusal::BadSize => 5,
-        Refusal::NoRoom => 6,
-        Refusal::NoBlock => 7,
-        Refusal::OtherGroup => 8,
-        Refusal::ShortBuffer => 12,
-    }
-}
 
 // The refusal's number, 0 where the answer is none.
 fn refusal_of(answer: Answer) -> u32
@@ -35,7 +17,7 @@ fn refusal_of(answer: Answer) -> u32
 {
     match answer {
         Answer::Granted(offset) => 0,
-        Answer::Refused(refusal) => number_of(refusal),
+        Answer::Refused(refusal) => uplink::number(refusal),
         Answer::Done => 0,
         Answer::Counted(count) => 0,
         Answer::Block(group, room) => 0,
@@ -52,7 +34,7 @@ fn tell_first(answer: Answer, value: &mut u32) -> u32
             *value = offset;
             0
         }
-        Answer::Refused(refusal) => number_of(refusal),
+        Answer::Refused(refusal) => uplink::number(refusal),
         Answer::Done => 0,
         Answer::Counted(count) => {
             *value = count;
@@ -76,7 +58,7 @@ fn tell_both(answer: Answer, first: &mut u32, second: &mut u32) -> u32
             *first = offset;
             0
         }
-        Answer::Refused(refusal) => number_of(refusal),
+        Answer::Refused(refusal) => uplink::number(refusal),
         Answer::Done => 0,
         Answer::Counted(count) => {
             *first = count;
@@ -100,7 +82,7 @@ fn tell_length(answer: Answer, value: &mut usize) -> u32
             *value = offset as usize;
             0
         }
-        Answer::Refused(refusal) => number_of(refusal),
+        Answer::Refused(refusal) => uplink::number(refusal),
         Answer::Done => 0,
         Answer::Counted(count) => {
             *value = count as usize;

@@ -12,8 +12,8 @@ enum-known-answer c = search needs
 enum-known-answer-2 : tie.Need-enum-known-answer-2
 enum-known-answer-2 c = search needs
 
-number-of-requires : tie.Need-number-of-requires
-number-of-requires c κs = search needs
+number-requires : tie.Need-number-requires
+number-requires c κs = search needs
 
 enum-told : tie.Need-enum-told
 enum-told c = search needs
@@ -28,7 +28,7 @@ returns : tie.Need-returns
 returns c = let e = c .before .answer .given .1 in (sym (ap (λ x. reading x .refusal) e), (sym (ap (λ x. firstOr (c .before .before .before .args .first .now) (reading x .values)) e), sym (ap (λ x. secondOr (c .before .before .before .args .second .now) (reading x .values)) e)))
 
 returns-2 : tie.Need-returns-2
-returns-2 c = let e = c .before .before .answer2 .given .1 in (c .number-of .ensures ∙ sym (ap (λ x. reading x .refusal) e), (sym (ap (λ x. firstOr (c .before .before .before .before .args .first .now) (reading x .values)) e), sym (ap (λ x. secondOr (c .before .before .before .before .args .second .now) (reading x .values)) e)))
+returns-2 c = let e = c .before .before .answer2 .given .1 in (c .number .ensures ∙ sym (ap (λ x. reading x .refusal) e), (sym (ap (λ x. firstOr (c .before .before .before .before .args .first .now) (reading x .values)) e), sym (ap (λ x. secondOr (c .before .before .before .before .args .second .now) (reading x .values)) e)))
 
 returns-3 : tie.Need-returns-3
 returns-3 c = let e = c .enum-told .given .1 in (sym (ap (λ x. reading x .refusal) e), (sym (ap (λ x. firstOr (c .before .before .args .first .now) (reading x .values)) e), sym (ap (λ x. secondOr (c .before .before .args .second .now) (reading x .values)) e)))
@@ -45,7 +45,7 @@ tell-both-spec =
     (tie.spec
     enum-known-answer
     enum-known-answer-2
-    number-of-requires
+    number-requires
     enum-told
     enum-known-answer-3
     enum-known-answer-4
