@@ -82,3 +82,18 @@ count-keep p q (x ∷ l) = go (p x) (count-keep p q l)
     go : (b : Bool) → count q (keep p l) ≡ count (λ x. p x && q x) l → count q (cond b (x ∷ []) [] ++ keep p l) ≡ cond (b && q x) 1 0 + count (λ x. p x && q x) l
     go true e = omega arith
     go false e = omega arith
+
+pub keep-keep {ℓ} : {A : Type ℓ} (f g : A → Bool) (l : List A) → keep g (keep f l) ≡ keep (λ x. f x && g x) l
+unfolding keep
+keep-keep f g [] = refl
+keep-keep {A = A} f g (x ∷ l) = go (f x) (keep-keep f g l)
+  where
+    go : (b : Bool) → keep g (keep f l) ≡ keep (λ x. f x && g x) l → keep g (cond b (x ∷ []) [] ++ keep f l) ≡ cond (b && g x) (x ∷ []) [] ++ keep (λ x. f x && g x) l
+    go true e = ap (λ (r : List A). cond (g x) (x ∷ []) [] ++ r) e
+    go false e = e
+
+-- Two tests that agree on the list.
+pub keep-same {ℓ} : {A : Type ℓ} (f g : A → Bool) (l : List A) → ((x : A) → List·Memᴰ x l → f x ≡ g x) → keep f l ≡ keep g l
+unfolding keep
+keep-same f g [] h = refl
+keep-same f g (x ∷ l) h = λ i. cond (h x (List·Memᴰ·head refl) i) (x ∷ []) [] ++ keep-same f g l (λ y m. h y (List·Memᴰ·tail m)) i

@@ -3,7 +3,7 @@
 use Prim.Native.Nat.{ℕ, _+_, _-_, _*_, _≤_, _<_}
 use mathlib.Core.Path.{_≡_, refl, sym, ap, _∙_, subst}
 use mathlib.Core.Bool.{Bool, true, false, cond, not, _&&_}
-use mathlib.Core.List.{List, [], _∷_, _++_, map, List·Memᴰ, List·Memᴰ·head, List·Memᴰ·tail}
+use mathlib.Core.List.{List, [], _∷_, map, List·Memᴰ}
 use mathlib.Core.Option.{Option·none-ne-some}
 use native.Mathlib.Omega.{arith}
 use lib.Dec.{ltb, eqb}
@@ -14,7 +14,7 @@ use Rattle.lemmas.specs.Keep.{keep}
 use Rattle.lemmas.specs.Times.{remove}
 use Rattle.lemmas.proofs.Cases.{bool, and-both, cond-same, some-inj}
 use Rattle.lemmas.proofs.Every.{every-of-members}
-use Rattle.lemmas.proofs.Keep.{keep-all}
+use Rattle.lemmas.proofs.Keep.{keep-all, keep-keep, keep-same}
 use Rattle.model.specs.Arena.{Segment, run, direct, zone, pages, bytes, locate}
 use Rattle.model.specs.Zone.{Zone}
 use Rattle.model.specs.State.{State, listOf, ZoneAt, zoneIn, zoneAt}
@@ -32,25 +32,9 @@ abbrev pub sweptLists : ℕ → List (Segment Zone) → List (List ℕ) → List
 sweptLists p [] ls = ls
 sweptLists p (x ∷ r) ls = sweptLists (p + pages x) r (sweptBy p x ls)
 
--- ---- lists that pass two tests, or one of two tests that agree
-
-module _ {A : Type 0} where
-  keep-keep : (f g : A → Bool) (l : List A) → keep g (keep f l) ≡ keep (λ x. f x && g x) l
-  unfolding keep
-  keep-keep f g [] = refl
-  keep-keep f g (x ∷ l) = go (f x) (keep-keep f g l)
-    where
-      go : (b : Bool) → keep g (keep f l) ≡ keep (λ x. f x && g x) l → keep g (cond b (x ∷ []) [] ++ keep f l) ≡ cond (b && g x) (x ∷ []) [] ++ keep (λ x. f x && g x) l
-      go true e = ap (λ (r : List A). cond (g x) (x ∷ []) [] ++ r) e
-      go false e = e
-
-  keep-same : (f g : A → Bool) (l : List A) → ((x : A) → List·Memᴰ x l → f x ≡ g x) → keep f l ≡ keep g l
-  unfolding keep
-  keep-same f g [] h = refl
-  keep-same f g (x ∷ l) h = λ i. cond (h x (List·Memᴰ·head refl) i) (x ∷ []) [] ++ keep-same f g l (λ y m. h y (List·Memᴰ·tail m)) i
-
-  keep-any : (f : A → Bool) (l : List A) → ((x : A) → f x ≡ true) → l ≡ keep f l
-  keep-any f l h = sym (keep-all f l (every-of-members f l (λ x _. h x)))
+-- A test that all pass.
+keep-any : (f : ℕ → Bool) (l : List ℕ) → ((x : ℕ) → f x ≡ true) → l ≡ keep f l
+keep-any f l h = sym (keep-all f l (every-of-members f l (λ x _. h x)))
 
 -- ---- what stays on a class's list
 

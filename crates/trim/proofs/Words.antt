@@ -7,7 +7,7 @@ use native.Mathlib.Omega.{arith}
 use Rattle.lemmas.proofs.Cases.{true-false}
 use Rattle.model.specs.Arena.{Segment, run, direct, zone, pages, total, Each}
 use Rattle.model.specs.Zone.{Zone}
-use Rattle.model.specs.State.{State, ZoneAt, zoneIn, zoneAt}
+use Rattle.model.specs.State.{State, ZoneAt, zoneAt}
 use Rattle.model.specs.PageMap.{idleZone}
 use Rattle.model.specs.Pages.{withRun, release}
 use Rattle.model.specs.Valid.{Apart}
@@ -23,6 +23,7 @@ use Rattle.steps.specs.Lent.{Encodes, Lent, ZoneHere}
 use Rattle.steps.specs.Moves.{unlisted, released}
 use Rattle.steps.proofs.Lent.{lent, lent-decoded, zone-valid}
 use Rattle.steps.proofs.Body.{stands-begins, release-total}
+use Rattle.steps.proofs.Zones.{zone-at, zone-there as zone-begun}
 use Rattle.trim.specs.Between.{idleSegment, Between}
 use Rattle.trim.proofs.Places.{between-stands, between-released, between-run}
 
@@ -50,10 +51,10 @@ idle-zone (zone z) e = (z, refl, e)
 -- The zone that begins there.
 module _ {m : List (Segment Zone)} {p b : ℕ} {z : Zone} (s : Stands m p b (zone z)) where
   pub zone-there : zoneAt p m ≡ z
-  zone-there = ap zoneIn (stands-begins s (omega arith))
+  zone-there = zone-at m p z (stands-begins s (omega arith))
 
   pub zone-here : ZoneAt m p (zoneAt p m)
-  zone-here = subst (ZoneAt m p) (sym zone-there) (stands-begins s (omega arith))
+  zone-here = zone-begun m p z (stands-begins s (omega arith))
 
 module _ {m : List (Segment Zone)} {p b : ℕ} {x : Segment Zone} (s : Stands m p b x) (k : kindOf x ≡ 3) where
   pub kind-here : ZoneAt m p (zoneAt p m)
