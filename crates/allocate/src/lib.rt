@@ -135,7 +135,7 @@ fn supply_chunk(words: &mut [u32], n: usize, class: u32, group: u32) -> Answer
 
 // A request of `size` bytes by the group: a chunk below 8,192 bytes, whole pages from there. (The group and the size have been
 // tested.)
-pub fn supply(words: &mut [u32], n: usize, group: u32, size: u32) -> Answer
+fn supply(words: &mut [u32], n: usize, group: u32, size: u32) -> Answer
     requires { ⌜ Good (now words) n ⌝ }
     requires { ⌜ (0 < group) × (group ≤ 12) × (0 < size) × (size ≤ 1048576) ⌝ }
     ensures { λ r. ⌜ Makes (supplied group size (decode (now (words .entry)))) r (now (words .exit)) ⌝ }
