@@ -17,15 +17,16 @@ mod resets;
 mod single;
 
 use arenas::{arenas, Arena};
+use reference::listing::LONGEST;
 use reference::state::State;
 use resets::{reset_of, returns_of};
 use single::{clock, time_of};
 use std::process::ExitCode;
-use tests::calls::{allocate, free, query, trim};
+use tests::calls::{allocate, free, init, listing, query, reset, trim};
 use tests::check::check;
 use tests::layout::encode;
 
-/// The greatest ratio of a call to the check.
+/// The greatest ratio of a call to the check, for the calls that have a bar.
 const CALL_BAR: f64 = 1.5;
 /// The greatest ratio of a reset to single returns.
 const RESET_BAR: f64 = 1.0 / 50.0;
@@ -53,6 +54,8 @@ struct Measured {
     before: Step,
     step: Step,
     behind: Step,
+    /// Whether the bar is for this call.
+    barred: bool,
     /// The fastest check and the fastest call.
     nanoseconds: [f64; 2],
 }
@@ -69,6 +72,7 @@ fn measured(arena: Arena) -> Vec<Measured> {
     let Arena { name, state, chunk } = arena;
     let mut words = encode(&state);
     assert_eq!(check(&mut words), 1, "the check refuses: {name}");
+    let nothing = || step(|_| true);
     let one = |call, before, step, behind| Measured {
         pages: state.pages,
         arena: name,
@@ -77,9 +81,13 @@ fn measured(arena: Arena) -> Vec<Measured> {
         before,
         step,
         behind,
+        barred: true,
         nanoseconds: [f64::INFINITY; 2],
     };
-    let nothing = || step(|_| true);
+    let unbarred = |call, step, behind| Measured {
+        barred: false,
+        ..one(call, nothing(), step, behind)
+    };
     // Where a block of this size will be each time.
     let place = |size| allocate(&mut words.clone(), GROUP, size).expect("room");
     let (small, large) = (place(chunk), place(LARGE));
@@ -90,6 +98,7 @@ fn measured(arena: Arena) -> Vec<Measured> {
         |offset| step(move |words| free(words, GROUP, offset) == Ok(()) && trim(words).is_ok());
     let tidy = || step(|words| trim(words).is_ok());
     let asked = last_block(&state);
+    let (pages, held) = (state.pages, words.clone());
     vec![
         one(
             "allocate, chunk",
@@ -116,6 +125,24 @@ fn measured(arena: Arena) -> Vec<Measured> {
             nothing(),
             step(|words| trim(words) == Ok(0)),
             nothing(),
+        ),
+        unbarred(
+            "reset of none",
+            step(|words| reset(words, GROUP) == Ok(0)),
+            nothing(),
+        ),
+        unbarred(
+            "listing",
+            step(|words| listing(words, &mut [0; LONGEST]).is_ok()),
+            nothing(),
+        ),
+        unbarred(
+            "init",
+            step(move |words| init(words, pages) == Ok(())),
+            step(move |words| {
+                words.copy_from_slice(&held);
+                true
+            }),
         ),
     ]
 }
@@ -156,11 +183,14 @@ impl Measured {
             pages, arena, call, ..
         } = self;
         let met = ratio <= CALL_BAR;
+        let said = match self.barred {
+            true => remark(met, "1.5"),
+            false => String::new(),
+        };
         println!(
-            "{pages:>5}  {arena:<12}{call:<16}{call_ns:>12.0}{check_ns:>12.0}{ratio:>8.2}  {}",
-            remark(met, "1.5")
+            "{pages:>5}  {arena:<12}{call:<16}{call_ns:>12.0}{check_ns:>12.0}{ratio:>8.2}  {said}"
         );
-        met
+        met || !self.barred
     }
 }
 
