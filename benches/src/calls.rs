@@ -96,7 +96,7 @@ fn measured(arena: Arena) -> Vec<Measured> {
     // Without the trim a fresh arena would keep the chunk's zone; in the others it finds nothing.
     let give_and_trim =
         |offset| step(move |words| free(words, GROUP, offset) == Ok(()) && trim(words).is_ok());
-    let tidy = || step(|words| trim(words).is_ok());
+    let trimmed = || step(|words| trim(words).is_ok());
     let asked = last_block(&state);
     let (pages, held) = (state.pages, words.clone());
     vec![
@@ -112,7 +112,7 @@ fn measured(arena: Arena) -> Vec<Measured> {
             grant(LARGE, large),
             give(large),
         ),
-        one("free, chunk", grant(chunk, small), give(small), tidy()),
+        one("free, chunk", grant(chunk, small), give(small), trimmed()),
         one("free, pages", grant(LARGE, large), give(large), nothing()),
         one(
             "query",

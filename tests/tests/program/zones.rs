@@ -188,7 +188,7 @@ fn the_empty_list_gives_the_zone_put_there_last() {
              runs 0, direct 0, zones 3, 0 20 1, 8 12 1, 16 63 1"
         ),
     );
-    // Tidied, whichever list they are on.
+    // Trimmed, whichever list they are on.
     check(
         &format!("s 24, {nine}, x 1, q 3 32768, t, p"),
         &format!("ok, {granted}, ok 9, no 6, ok 3, runs 1, 0 24, direct 0, zones 0"),
