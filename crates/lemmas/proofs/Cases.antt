@@ -25,6 +25,11 @@ pub cond-same {ℓ} : {A : Type ℓ} (b : Bool) (a : A) → cond b a a ≡ a
 cond-same true a = refl
 cond-same false a = refl
 
+-- What a test adds to a count is at most one.
+pub one-most : (b : Bool) → cond b 1 0 ≤ 1
+one-most true = omega arith
+one-most false = omega arith
+
 -- A claim about the result of a test, by the fact that the test stands for.
 pub by-eqb {ℓ} : (P : Bool → Type ℓ) (a b : ℕ) → (a ≡ b → P true) → ((a ≡ b → ⊥) → P false) → P (eqb a b)
 by-eqb P a b f g = go (eqb a b) (eqb-true a b) (eqb-false a b)

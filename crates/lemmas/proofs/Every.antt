@@ -11,7 +11,7 @@ use lib.ListN.{length, take, drop, getD, set, replicate, take-append-drop}
 use lib.Seq.{take-suc, take-add, take-all}
 use borrow.Author.Tests.{eq-eqb, eqb-true}
 use Rattle.lemmas.specs.Every.{every, count}
-use Rattle.lemmas.proofs.Cases.{true-false, and-left, and-right, and-both, refuted}
+use Rattle.lemmas.proofs.Cases.{true-false, and-left, and-right, and-both, refuted, one-most}
 use Rattle.lemmas.proofs.Tests.{and-true, and-assoc, false-left, false-right}
 
 module _ {ℓ} {A : Type ℓ} (p : A → Bool) where
@@ -136,14 +136,10 @@ module _ {ℓ} {A : Type ℓ} (p : A → Bool) where
   pub count-done : (s : List A) (i : ℕ) {n : ℕ} → length s ≤ i → n ≡ count p (take i s) → n ≡ count p s
   count-done s i h e = e ∙ ap (count p) (take-all i s h)
 
-  one-le : (b : Bool) → cond b 1 0 ≤ 1
-  one-le true = omega arith
-  one-le false = omega arith
-
   pub count-le-length : (s : List A) → count p s ≤ length s
   unfolding count
   count-le-length [] = omega arith
-  count-le-length (x ∷ s) = let a = one-le (p x) in let ih = count-le-length s in omega arith
+  count-le-length (x ∷ s) = let a = one-most (p x) in let ih = count-le-length s in omega arith
 
   -- The list of which all elements pass, and the list that no element of passes.
   pub count-all : (s : List A) → every p s ≡ true → count p s ≡ length s

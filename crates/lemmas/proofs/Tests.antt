@@ -20,6 +20,10 @@ pub and-assoc : (a b c : Bool) → (a && (b && c)) ≡ (a && b && c)
 and-assoc true b c = refl
 and-assoc false b c = refl
 
+pub and-comm : (a b : Bool) → (a && b) ≡ (b && a)
+and-comm true b = sym (and-true b)
+and-comm false b = sym (and-false b)
+
 -- One part that fails.
 pub false-left : {a : Bool} (b : Bool) → a ≡ false → (a && b) ≡ false
 false-left b e = ap (λ (a : Bool). a && b) e
