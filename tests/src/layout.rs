@@ -9,10 +9,11 @@
 //! | 1,024 + 520 × p | what starts at page p |
 //!
 //! A free run is 1 and its pages; a direct block 2, its pages and its group. A zone has 64 words
-//! and then 4,096 slots. The words are 3, the class, k, the chain's length and the first link. A
-//! slot is 0 for an untouched chunk, the group of a live one, and 13 + a link for a returned one. A
-//! link is 0 where the chain ends, otherwise 1 + the next chunk. Lists are filled up with zeros,
-//! and every word that is not named is zero.
+//! and then 4,096 slots. The words are 3, the class, k and the chain's length. The lower half of a
+//! slot is its chunk's state: 0 if it is untouched, the group if it is live, and 13 + its position
+//! on the chain if it was returned; positions count from the chunk returned first. The upper half
+//! of a slot is the chunk at that position of the chain, 0 from the chain's length on. Lists are
+//! filled up with zeros, and every word that is not named is zero.
 //!
 //! [`decode`] and [`encode`] share these numbers and nothing else: neither is written by means of
 //! the other.
@@ -48,8 +49,12 @@ pub const ZONE: u32 = 3;
 pub const ZONE_HEAD: usize = 64;
 /// Slots of a zone, whatever its class.
 pub const ZONE_SLOTS: usize = 4_096;
-/// The slot of a returned chunk is its link and this.
+/// The state of a returned chunk is its position and this.
 pub const RETURNED: u32 = 13;
+/// What a slot has under this is its lower half, a chunk's state.
+pub const STATE: u32 = 0xffff;
+/// From this bit on a slot has its upper half, a chunk of the chain.
+pub const ENTRY_SHIFT: u32 = 16;
 
 /// How many words the encoding of an arena has.
 pub fn used_words(pages: u32) -> usize {

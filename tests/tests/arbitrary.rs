@@ -120,7 +120,7 @@ fn random_words_behind_a_right_beginning() {
 }
 
 /// Small numbers, which are likely to mean something where they stand: 3 starts a zone, 1 to 12 are
-/// groups and links.
+/// groups, 13 to 15 returned chunks.
 #[test]
 fn random_small_words_behind_a_right_beginning() {
     let mut random = Xorshift::new(5);

@@ -169,8 +169,9 @@ fn encodings_written_by_hand() {
         .zone(zone_with(63, &[true; 4]))
         .assemble();
     let header = [(2, 9), (4, 1 + 256 * 63)];
-    let first = [(1_024, 3), (1_025, 63), (1_026, 3), (1_027, 2), (1_028, 3)];
-    let slots = [(1_088, 13), (1_089, 1), (1_090, 13 + 1)];
+    // Chunk 0 is at position 0 of the chain and chunk 2 at position 1.
+    let first = [(1_024, 3), (1_025, 63), (1_026, 3), (1_027, 2)];
+    let slots = [(1_088, 13), (1_089, 1 + 65_536 * 2), (1_090, 13 + 1)];
     let second = [(5_184, 3)];
     let third = [(9_344, 3), (9_345, 63), (9_346, 4)];
     let live = [(9_408, 1), (9_409, 1), (9_410, 1), (9_411, 1)];

@@ -129,7 +129,7 @@ pub fn zone_full(words: &[u32], page: usize) -> bool
 
 // It grants a chunk to the group.
 pub fn zone_grant(words: &mut [u32], page: usize, group: u32) -> u32
-    requires { ⌜ Lent (now words) × ZoneHere (decode (now words)) page × (full (zoneAt page (decode (now words) .segments)) ≡ false) × (0 < group) ⌝ }
+    requires { ⌜ Lent (now words) × ZoneHere (decode (now words)) page × (full (zoneAt page (decode (now words) .segments)) ≡ false) × (0 < group) × (group ≤ 12) ⌝ }
     ensures { λ r. ⌜ (r ≡ nextChunk (zoneAt page (decode (now (words .entry)) .segments))) × (now (words .exit) ≡ encode (rezoned page (granted group (zoneAt page (decode (now (words .entry)) .segments))) (decode (now (words .entry))))) ⌝ }
 {
     let a = zone_start(page);

@@ -4,152 +4,195 @@ use mathlib.Core.Path.{_≡_, refl, sym, ap, _∙_}
 use mathlib.Core.Bool.{cond}
 use mathlib.Core.List.{List}
 use native.Mathlib.Omega.{arith}
-use lib.Dec.{ltb, leb, eqb}
-use lib.ListN.{length, getD, drop, length-drop, length-map, List·getD-map}
-use lib.Seq.{getD-drop}
-use borrow.Author.Tests.{ne-eqb, eqb-true, ltb-true, le-leb, lt-leb}
+use lib.Dec.{eqb}
+use lib.ListN.{length, getD, take, drop, length-drop, length-map, List·getD-map, List·getD-eq-default}
+use lib.Seq.{getD-drop, getD-take, length-take-le}
+use borrow.Author.Tests.{ne-eqb, eqb-true, ltb-true, lt-ltb, le-ltb}
+use Rattle.lemmas.specs.Every.{count}
 use Rattle.lemmas.specs.Times.{times}
 use Rattle.lemmas.specs.Zeros.{zeros, isZero}
 use Rattle.lemmas.specs.Parts.{mid}
-use Rattle.lemmas.proofs.Cases.{by-ltb, and-left}
+use Rattle.lemmas.proofs.Cases.{by-ltb}
 use Rattle.lemmas.proofs.Every.{every-at}
 use Rattle.lemmas.proofs.Parts.{length-mid, getD-mid}
 use Rattle.lemmas.proofs.Zeros.{mid-zero, zeros-every}
 use Rattle.model.specs.Zone.{Zone, touched}
 use Rattle.model.specs.Valid.{returnedAt, ValidZone}
-use Rattle.zone.specs.Encoding.{linkTo, linkBehind, slotFor, slotOf}
-use Rattle.zone.specs.Decoding.{touchedSlots, legalSlot, isReturned, ownerIn, chainFrom, zoneOf}
+use Rattle.zone.specs.Encoding.{positionOn, chunkAt, stateFor, stateOf, slotOf, headWords, headNumbers, headZeros, slotCount, zoneWords, positionBase, half}
+use Rattle.zone.specs.Decoding.{slotsIn, stateIn, entryIn, isLive, isBare, ownerIn, chainFrom, zoneOf, classIn, touchedIn, chainedIn}
 use Rattle.zone.proofs.Chains.{returned-in, returned-past}
 use Rattle.zone.proofs.Facts.{Facts, head-most}
-use Rattle.zone.proofs.Links.{length-chain, link-chain, behind-chain, chain-has, chain-past}
+use Rattle.zone.proofs.Places.{Placed, chunk-past, length-chain, chunk-chain, chain-past, by-chunk}
 use Rattle.zone.proofs.Words.{Words}
 
--- ---- the part of touched slots
+-- ---- the slots as a part
 
-module _ (w : List ℕ) (size : length w ≡ 4160) (most : getD w 2 0 ≤ 4096) where
-  pub length-slots : length (touchedSlots w) ≡ getD w 2 0
-  length-slots = length-mid 64 (getD w 2 0) w (omega arith)
+module _ (w : List ℕ) (size : length w ≡ zoneWords) where
+  pub length-slots : length (slotsIn w) ≡ slotCount
+  length-slots = length-mid headWords slotCount w (omega arith)
 
-  pub slot-at : (i : ℕ) → i < getD w 2 0 → getD (touchedSlots w) i 0 ≡ getD w (64 + i) 0
-  slot-at i l = getD-mid 64 (getD w 2 0) w i 0 l
+  pub slot-at : (i : ℕ) → i < slotCount → getD (slotsIn w) i 0 ≡ getD w (headWords + i) 0
+  slot-at i l = getD-mid headWords slotCount w i 0 l
 
 -- ---- one slot
 
 owner-most : (x : ℕ) → ownerIn x ≤ 12
-owner-most x = by-ltb (λ t. cond t x 0 ≤ 12) x 13 (λ l. omega arith) (λ l. omega arith)
+owner-most x = by-ltb (λ t. cond t (stateIn x) 0 ≤ 12) (stateIn x) positionBase (λ l. omega arith) (λ l. omega arith)
 
--- A chunk whose slot has no owner was returned.
-owner-returned : (x : ℕ) → 0 < x → _≡_ {A = ℕ} (cond (isReturned x) 1 0) (cond (eqb (ownerIn x) 0) 1 0)
-owner-returned x p =
-    by-ltb (λ t. _≡_ {A = ℕ} (cond (isReturned x) 1 0) (cond (eqb (cond t x 0) 0) 1 0)) x 13
-    (λ l. rw (lt-leb 13 x l, ne-eqb x 0 (λ e. omega arith))) (λ l. rw (le-leb 13 x l))
+-- A state below 13 is the owner; a chunk with another has none.
+pub owner-live : (x : ℕ) → stateIn x < positionBase → ownerIn x ≡ stateIn x
+owner-live x l = rw (lt-ltb (stateIn x) positionBase l)
 
--- The slot of what it says.
-slot-again : (x l : ℕ) → 0 < x → (13 ≤ x → l ≡ x - 13) → x ≡ slotFor (ownerIn x) l
-slot-again x l p h =
-    by-ltb (λ t. x ≡ cond (eqb (cond t x 0) 0) (13 + l) (cond t x 0)) x 13
-    (λ k. rw (ne-eqb x 0 (λ e. omega arith))) (λ k. let a = h k in omega arith)
+pub owner-none : (x : ℕ) → positionBase ≤ stateIn x → ownerIn x ≡ 0
+owner-none x l = rw (le-ltb (stateIn x) positionBase l)
 
 -- ---- the zone
 
 module _ (w : List ℕ) (h : Facts w) where
   s : List ℕ
-  s = touchedSlots w
+  s = slotsIn w
 
-  size : length w ≡ 4160
+  abbrev k : ℕ
+  k = touchedIn w
+
+  abbrev m : ℕ
+  m = chainedIn w
+
+  chain : List ℕ
+  chain = chainFrom s m
+
+  size : length w ≡ zoneWords
   size = h .head .size
 
-  most : getD w 2 0 ≤ 4096
+  most : k ≤ slotCount
   most = head-most w (h .head)
 
-  long : length s ≡ getD w 2 0
+  long : length s ≡ slotCount
   unfolding s
-  long = length-slots w size most
+  long = length-slots w size
+
+  few : m ≤ k
+  few = h .head .few
+
+  untouched-zero : (i : ℕ) → k ≤ i → i < slotCount → getD w (headWords + i) 0 ≡ 0
+  untouched-zero i l b =
+      let a = every-at isZero (drop (headWords + touchedIn w) w) (i - touchedIn w) 0 (h .untouched) (simp length-drop (let n = size in omega arith)) in
+      let e : headWords + i ≡ headWords + touchedIn w + (i - touchedIn w) = omega arith in
+      ap (λ (n : ℕ). getD w n 0) e ∙ sym (getD-drop (headWords + touchedIn w) w (i - touchedIn w) 0) ∙ eqb-true (getD (drop (headWords + touchedIn w) w) (i - touchedIn w) 0) 0 a
+
+  slot-is : (i : ℕ) → i < slotCount → getD s i 0 ≡ getD w (headWords + i) 0
+  unfolding s
+  slot-is i l = slot-at w size i l
+
+  past : (i : ℕ) → k ≤ i → getD s i 0 ≡ 0
+  past i l =
+      by-ltb (λ t. getD s i 0 ≡ 0) i slotCount (λ b. slot-is i b ∙ untouched-zero i l b)
+      (λ b. List·getD-eq-default s 0 {n = i} (let a = long in omega arith))
+
+  placed : Placed s m
+  unfolding s
+  placed = h .slots .placed
+
+  live : count isLive (take k s) ≡ k - m
+  unfolding s
+  live = h .slots .live
+
+  within : k ≤ length s
+  within = let a = long in let b = most in omega arith
+
+  -- A chunk that was handed out: live, or once on the chain.
+  chunk {ℓ} : {P : Type ℓ} (c : ℕ) → c < k → (0 < stateIn (getD s c 0) → stateIn (getD s c 0) < positionBase → times c chain ≡ 0 → P) → (stateIn (getD s c 0) ≡ positionBase + positionOn c chain → times c chain ≡ 1 → P) → P
+  unfolding chain
+  chunk = by-chunk s k m placed few within past live
+
+  chain-out : (c : ℕ) → k ≤ c → times c chain ≡ 0
+  unfolding chain
+  chain-out = chain-past s k m placed few within past live
 
   z : Zone
   z = zoneOf w
 
-  length-owners : touched z ≡ getD w 2 0
+  parts : (z .class ≡ classIn w) × (z .chain ≡ chain)
+  unfolding z zoneOf s chain
+  parts = (refl, refl)
+
+  length-owners : touched z ≡ k
   unfolding z zoneOf s
-  length-owners = length-map s ownerIn ∙ long
+  length-owners = length-map (take k s) ownerIn ∙ length-take-le k s within
 
-  class-is : z .class ≡ getD w 1 0
-  unfolding z zoneOf
-  class-is = refl
-
-  chain-is : (length (z .chain) ≡ getD w 3 0) × (linkTo (z .chain) ≡ getD w 4 0)
+  owner-get : (i : ℕ) → i < k → getD (z .owners) i 0 ≡ ownerIn (getD s i 0)
   unfolding z zoneOf s
-  chain-is = (length-chain s (getD w 3 0) (getD w 4 0), link-chain s (getD w 3 0) (getD w 4 0) (h .slots .ends))
+  owner-get i l = List·getD-map ownerIn (take k s) i 0 ∙ ap ownerIn (getD-take k s i 0 l)
 
-  owner-get : (i : ℕ) → getD (z .owners) i 0 ≡ ownerIn (getD s i 0)
-  unfolding z zoneOf s
-  owner-get i = List·getD-map ownerIn s i 0
+  owner-low : (i : ℕ) → getD (z .owners) i 0 ≤ 12
+  owner-low i =
+      by-ltb (λ t. getD (z .owners) i 0 ≤ 12) i k (λ l. rw (owner-get i l) (owner-most (getD s i 0)))
+      (λ l. omega (arith, List·getD-eq-default (z .owners) 0 {n = i} (omega (arith, length-owners))))
 
-  slot-pos : (i : ℕ) → i < getD w 2 0 → 0 < getD s i 0
-  unfolding s
-  slot-pos i l =
-      let e = every-at (legalSlot (length s)) s i 0 (h .slots .legal) (let a = long in omega arith) in
-      ltb-true 0 (getD s i 0) (and-left (ltb 0 (getD s i 0)) (leb (getD s i 0) (13 + length s)) e)
-
-  times-in : (i : ℕ) → i < getD w 2 0 → times i (z .chain) ≡ cond (isReturned (getD s i 0)) 1 0
-  unfolding z zoneOf s
-  times-in i l = chain-has s (getD w 3 0) (getD w 4 0) (h .slots .ends) (h .slots .counted) i (let a = long in omega arith)
-
-  times-past : (i : ℕ) → getD w 2 0 ≤ i → times i (z .chain) ≡ 0
-  unfolding z zoneOf s
-  times-past i l = chain-past s (getD w 3 0) (getD w 4 0) (h .slots .ends) (h .slots .counted) i (let a = long in omega arith)
+  returned : (i : ℕ) → i < k → times i chain ≡ cond (eqb (ownerIn (getD s i 0)) 0) 1 0
+  returned i l =
+      chunk i l (λ a b e. e ∙ rw (owner-live (getD s i 0) b, ne-eqb (stateIn (getD s i 0)) 0 (λ q. omega arith)))
+      (λ a e. e ∙ rw (owner-none (getD s i 0) (omega arith)))
 
   pub decoded-valid : ValidZone (zoneOf w)
   unfolding z
   decoded-valid =
-      let k = length-owners in
-      let c : z .class ≡ getD w 1 0 = class-is in
+      let n : touched z ≡ touchedIn w = length-owners in
+      let c : z .class ≡ classIn w = parts .0 in
       record {
         class = rw c (h .head .class);
-        fits = rw (k, c) (h .head .fits);
-        groups = λ i. rw (owner-get i) (owner-most (getD s i 0));
-        chained = λ i. by-ltb (λ t. times i (z .chain) ≡ returnedAt (z .owners) i) i (getD w 2 0)
-            (λ l. times-in i l ∙ owner-returned (getD s i 0) (slot-pos i l) ∙ sym (returned-in (z .owners) i (omega arith) ∙ ap (λ (o : ℕ). cond (eqb o 0) 1 0) (owner-get i)))
-            (λ l. times-past i l ∙ sym (returned-past (z .owners) i (omega arith)));
+        fits = rw (n, c) (h .head .fits);
+        groups = owner-low;
+        chained = λ i. ap (times i) (parts .1) ∙ by-ltb (λ t. times i chain ≡ returnedAt (z .owners) i) i k
+            (λ l. returned i l ∙ sym (returned-in (z .owners) i (omega (arith, length-owners)) ∙ ap (λ (o : ℕ). cond (eqb o 0) 1 0) (owner-get i l)))
+            (λ l. chain-out i l ∙ sym (returned-past (z .owners) i (omega (arith, length-owners))));
       }
 
-  behind : (i : ℕ) → i < getD w 2 0 → 13 ≤ getD s i 0 → linkBehind i (z .chain) ≡ getD s i 0 - 13
-  unfolding z zoneOf s
-  behind i l k =
-      behind-chain s (getD w 3 0) (getD w 4 0) i (h .slots .ends)
-      (let a : times i (chainFrom s (getD w 3 0) (getD w 4 0)) ≡ 1 = times-in i l ∙ rw (le-leb 13 (getD s i 0) k) in omega arith)
+  -- ---- and its words
 
-  untouched-zero : (i : ℕ) → getD w 2 0 ≤ i → i < 4096 → getD w (64 + i) 0 ≡ 0
-  untouched-zero i l k =
-      let a = every-at isZero (drop (64 + getD w 2 0) w) (i - getD w 2 0) 0 (h .untouched) (simp length-drop (let b = size in omega arith)) in
-      let e : 64 + i ≡ 64 + getD w 2 0 + (i - getD w 2 0) = omega arith in
-      ap (λ (n : ℕ). getD w n 0) e ∙ sym (getD-drop (64 + getD w 2 0) w (i - getD w 2 0) 0) ∙ eqb-true (getD (drop (64 + getD w 2 0) w) (i - getD w 2 0) 0) 0 a
+  state-same : (i : ℕ) → stateIn (getD s i 0) ≡ stateOf z i
+  unfolding stateOf
+  state-same i =
+      rw (length-owners, parts .1)
+      (by-ltb (λ t. stateIn (getD s i 0) ≡ cond t (stateFor (getD (z .owners) i 0) (positionOn i chain)) 0) i k
+      (λ l. rw (owner-get i l)
+      (chunk i l (λ a b e. rw (owner-live (getD s i 0) b, ne-eqb (stateIn (getD s i 0)) 0 (λ q. omega arith)))
+      (λ a e. rw (owner-none (getD s i 0) (omega arith)) a)))
+      (λ l. let a = past i l in omega arith))
 
-  slot-is : (i : ℕ) → i < getD w 2 0 → getD s i 0 ≡ getD w (64 + i) 0
+  bare : (i : ℕ) → m ≤ i → getD s i 0 < half
   unfolding s
-  slot-is i l = slot-at w size most i l
+  bare i l =
+      by-ltb (λ t. getD s i 0 < half) i k
+      (λ b.
+      let j : i - m < k - m = omega arith in
+      let n : length (mid m (k - m) s) ≡ k - m = length-mid m (k - m) s (let f = few in let g = within in omega arith) in
+      let a = every-at isBare (mid m (k - m) s) (i - m) 0 (h .slots .bare) (omega arith) in
+      let e : m + (i - m) ≡ i = omega arith in
+      let q : getD (mid m (k - m) s) (i - m) 0 ≡ getD s i 0 = getD-mid m (k - m) s (i - m) 0 j ∙ ap (λ (n : ℕ). getD s n 0) e in
+      let r = ltb-true (getD (mid m (k - m) s) (i - m) 0) half a in omega arith)
+      (λ b. let a = past i b in omega arith)
 
-  slot-same : (i : ℕ) → i < 4096 → getD w (64 + i) 0 ≡ slotOf z i
+  entry-same : (i : ℕ) → entryIn (getD s i 0) ≡ chunkAt i (z .chain)
+  unfolding chain
+  entry-same i =
+      rw (parts .1)
+      (by-ltb (λ t. entryIn (getD s i 0) ≡ chunkAt i chain) i m (λ l. sym (chunk-chain s m i l))
+      (λ l. let b = bare i l in omega (arith, chunk-past i chain (omega (arith, length-chain s m)))))
+
+  slot-same : (i : ℕ) → i < slotCount → getD w (headWords + i) 0 ≡ slotOf z i
   unfolding slotOf
-  slot-same i b =
-      rw length-owners
-      (by-ltb (λ t. getD w (64 + i) 0 ≡ cond t (slotFor (getD (z .owners) i 0) (linkBehind i (z .chain))) 0) i (getD w 2 0)
-      (λ l.
-      sym (slot-is i l)
-      ∙ slot-again (getD s i 0) (linkBehind i (z .chain)) (slot-pos i l) (behind i l)
-      ∙ ap (λ (o : ℕ). slotFor o (linkBehind i (z .chain))) (sym (owner-get i)))
-      (λ l. untouched-zero i l b))
+  slot-same i b = sym (slot-is i b) ∙ omega (arith, state-same i, entry-same i)
 
   pub decoded-words : Words w (zoneOf w)
-  unfolding z
+  unfolding z chain
   decoded-words =
       record {
         size = size;
         kind = h .head .kind;
-        class = sym class-is;
+        class = sym (parts .0);
         handed = sym length-owners;
-        chained = sym (chain-is .0);
-        first = sym (chain-is .1);
-        rest = mid-zero 5 64 (zeros-every (mid 5 59 w) (h .rest) ∙ ap zeros (length-mid 5 59 w (let b = size in omega arith)));
+        chained = sym (ap length (parts .1) ∙ length-chain s m);
+        rest = mid-zero headNumbers headWords (zeros-every (mid headNumbers headZeros w) (h .rest) ∙ ap zeros (length-mid headNumbers headZeros w (let b = size in omega arith)));
         slots = slot-same;
       }

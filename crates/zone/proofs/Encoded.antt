@@ -3,116 +3,179 @@
 use Prim.Native.Nat.{ℕ, _+_, _-_, _≤_, _<_}
 use mathlib.Core.Path.{_≡_, sym, ap, _∙_}
 use mathlib.Core.Logic.{_↔_}
-use mathlib.Core.Bool.{true, cond}
+use mathlib.Core.Bool.{Bool, true, cond}
 use mathlib.Core.List.{List, map}
 use native.Mathlib.Omega.{arith}
-use lib.Dec.{ltb, leb, eqb}
-use lib.ListN.{length, getD, drop, length-drop, length-map, List·getD-map}
-use lib.Seq.{ext-getD, getD-drop}
-use borrow.Author.Tests.{eq-eqb, ne-eqb, lt-ltb, le-ltb, le-leb, lt-leb}
+use lib.Dec.{ltb}
+use lib.ListN.{length, getD, take, drop, length-drop, length-map, List·getD-map, List·getD-eq-default}
+use lib.Seq.{ext-getD, getD-drop, getD-take, length-take-le}
+use borrow.Author.Tests.{eq-eqb, ne-eqb, lt-ltb, le-ltb}
+use Rattle.lemmas.specs.Below.{sumBelow}
 use Rattle.lemmas.specs.Every.{every, count}
+use Rattle.lemmas.specs.Parts.{mid}
 use Rattle.lemmas.specs.Times.{times}
 use Rattle.lemmas.specs.Zeros.{isZero}
-use Rattle.lemmas.proofs.Cases.{by-eqb, and-both}
+use Rattle.lemmas.proofs.Cases.{by-eqb, by-ltb}
 use Rattle.lemmas.proofs.Every.{every-of}
 use Rattle.lemmas.proofs.Below.{sum-eq, count-below}
-use Rattle.lemmas.proofs.Times.{sum-times}
+use Rattle.lemmas.proofs.Parts.{length-mid, getD-mid}
 use Rattle.lemmas.proofs.Zeros.{zero-mid, every-zeros}
 use Rattle.model.specs.Zone.{Zone, touched}
 use Rattle.model.specs.Valid.{ValidZone}
-use Rattle.zone.specs.Encoding.{linkBehind, slotOf, zoneEncoding}
-use Rattle.zone.specs.Decoding.{touchedSlots, legalSlot, isReturned, ownerIn, chainFrom, isZone, zoneOf}
-use Rattle.zone.proofs.Chains.{returned-in, returned-past, touched-most, on-chain, chain-once}
+use Rattle.zone.specs.Encoding.{positionOn, chunkAt, stateOf, slotOf, zoneEncoding, headWords, headZeros, slotCount, zoneWords, positionBase, half, headNumbers}
+use Rattle.zone.specs.Decoding.{slotsIn, stateIn, entryIn, isLive, isBare, ownerIn, chainFrom, isZone, zoneOf, touchedIn, chainedIn}
+use Rattle.zone.specs.Live.{isGroup, liveChunks}
+use Rattle.zone.proofs.Chains.{returned-in, touched-most, on-chain, chain-once, chain-live}
 use Rattle.zone.proofs.Facts.{Facts, facts-of, of-facts}
-use Rattle.zone.proofs.Links.{Stored, ends-stored, chain-stored, link-most, behind-most}
+use Rattle.zone.proofs.Places.{Placed, live-is, live-not, position-less, chunk-past, chunk-on, position-chunk, chain-again}
 use Rattle.zone.proofs.Words.{Words, encoding-words, words-encoding}
 use Rattle.zone.proofs.Decoded.{length-slots, slot-at, decoded-valid, decoded-words}
 
--- ---- the slot of a chunk: live, returned, untouched
+-- ---- the state of a chunk: live, returned, untouched
 
 module _ (z : Zone) (i : ℕ) where
-  pub slot-live : i < touched z → 0 < getD (z .owners) i 0 → slotOf z i ≡ getD (z .owners) i 0
-  unfolding slotOf
-  slot-live l p = rw (lt-ltb i (touched z) l, ne-eqb (getD (z .owners) i 0) 0 (λ e. omega arith))
+  pub state-live : i < touched z → 0 < getD (z .owners) i 0 → stateOf z i ≡ getD (z .owners) i 0
+  unfolding stateOf
+  state-live l p = rw (lt-ltb i (touched z) l, ne-eqb (getD (z .owners) i 0) 0 (λ e. omega arith))
 
-  pub slot-returned : i < touched z → getD (z .owners) i 0 ≡ 0 → slotOf z i ≡ 13 + linkBehind i (z .chain)
-  unfolding slotOf
-  slot-returned l e = rw (lt-ltb i (touched z) l, eq-eqb (getD (z .owners) i 0) 0 e)
+  pub state-returned : i < touched z → getD (z .owners) i 0 ≡ 0 → stateOf z i ≡ positionBase + positionOn i (z .chain)
+  unfolding stateOf
+  state-returned l e = rw (lt-ltb i (touched z) l, eq-eqb (getD (z .owners) i 0) 0 e)
 
-  pub slot-untouched : touched z ≤ i → slotOf z i ≡ 0
-  unfolding slotOf
-  slot-untouched l = rw (le-ltb i (touched z) l)
+  pub state-untouched : touched z ≤ i → stateOf z i ≡ 0
+  unfolding stateOf
+  state-untouched l = rw (le-ltb i (touched z) l)
 
-  -- A claim about the slot of a chunk that was handed out.
-  pub by-slot : (P : ℕ → Type 0) → i < touched z → (0 < getD (z .owners) i 0 → P (getD (z .owners) i 0)) → (getD (z .owners) i 0 ≡ 0 → P (13 + linkBehind i (z .chain))) → P (slotOf z i)
-  by-slot P l f g =
-      by-eqb (λ t. P (slotOf z i)) (getD (z .owners) i 0) 0 (λ e. rw (slot-returned l e) (g e))
-      (λ n. let p : 0 < getD (z .owners) i 0 = omega arith in rw (slot-live l p) (f p))
+  -- A claim about the state of a chunk that was handed out.
+  pub by-state : (P : ℕ → Type 0) → i < touched z → (0 < getD (z .owners) i 0 → P (getD (z .owners) i 0)) → (getD (z .owners) i 0 ≡ 0 → P (positionBase + positionOn i (z .chain))) → P (stateOf z i)
+  by-state P l f g =
+      by-eqb (λ t. P (stateOf z i)) (getD (z .owners) i 0) 0 (λ e. rw (state-returned l e) (g e))
+      (λ n. let p : 0 < getD (z .owners) i 0 = omega arith in rw (state-live l p) (f p))
+
+-- ---- the halves of a slot of a valid zone
+
+module _ (z : Zone) (v : ValidZone z) where
+  pub chain-few : length (z .chain) ≤ touched z
+  chain-few = omega (arith, chain-live z v)
+
+  -- A returned chunk stands on the chain.
+  pub returned-on : (i : ℕ) → i < touched z → getD (z .owners) i 0 ≡ 0 → 0 < times i (z .chain)
+  returned-on i l e = rw (v .chained i, returned-in (z .owners) i l, eq-eqb (getD (z .owners) i 0) 0 e) (omega arith)
+
+  pub state-most : (i : ℕ) → stateOf z i < positionBase + slotCount
+  state-most i =
+      by-ltb (λ t. stateOf z i < positionBase + slotCount) i (touched z)
+      (λ l. by-state z i (λ x. x < positionBase + slotCount) l (λ p. let g = v .groups i in omega arith)
+      (λ e. let a = position-less i (z .chain) (returned-on i l e) in let b = chain-few in let d = touched-most z v in omega arith))
+      (λ l. omega (arith, state-untouched z i l))
+
+  pub state-half : (i : ℕ) → stateIn (slotOf z i) ≡ stateOf z i
+  unfolding slotOf
+  state-half i = let a = state-most i in omega arith
+
+  pub entry-half : (i : ℕ) → entryIn (slotOf z i) ≡ chunkAt i (z .chain)
+  unfolding slotOf
+  entry-half i = let a = state-most i in omega arith
+
+  pub owner-half : (i : ℕ) → ownerIn (slotOf z i) ≡ getD (z .owners) i 0
+  owner-half i =
+      rw (state-half i)
+      (by-ltb (λ t. cond (ltb (stateOf z i) positionBase) (stateOf z i) 0 ≡ getD (z .owners) i 0) i (touched z)
+      (λ l. by-state z i (λ x. cond (ltb x positionBase) x 0 ≡ getD (z .owners) i 0) l (λ p. let g = v .groups i in rw (lt-ltb (getD (z .owners) i 0) positionBase (omega arith)))
+      (λ e. rw (le-ltb (positionBase + positionOn i (z .chain)) positionBase (omega arith)) (sym e)))
+      (λ l. rw (state-untouched z i l) (sym (List·getD-eq-default (z .owners) 0 {n = i} l))))
+
+  pub slot-past : (i : ℕ) → touched z ≤ i → slotOf z i ≡ 0
+  unfolding slotOf
+  slot-past i l = let b = chain-few in omega (arith, state-untouched z i l, chunk-past i (z .chain) (omega arith))
+
+  pub slot-bare : (i : ℕ) → length (z .chain) ≤ i → slotOf z i ≡ stateOf z i
+  unfolding slotOf
+  slot-bare i l = omega (arith, chunk-past i (z .chain) l)
 
 -- ---- the words of a valid zone
 
 module _ (w : List ℕ) (z : Zone) (h : Words w z) (v : ValidZone z) where
   s : List ℕ
-  s = touchedSlots w
+  s = slotsIn w
 
-  most : getD w 2 0 ≤ 4096
-  most = let a = touched-most z v in let b = h .handed in omega arith
+  abbrev k : ℕ
+  k = touchedIn w
 
-  long : length s ≡ touched z
+  abbrev m : ℕ
+  m = chainedIn w
+
+  most : touched z ≤ slotCount
+  most = touched-most z v
+
+  few : m ≤ k
+  few = omega (arith, chain-few z v, h .handed, h .chained)
+
+  long : length s ≡ slotCount
   unfolding s
-  long = length-slots w (h .size) most ∙ h .handed
+  long = length-slots w (h .size)
 
-  slot-get : (i : ℕ) → i < touched z → getD s i 0 ≡ slotOf z i
+  slot-get : (i : ℕ) → i < slotCount → getD s i 0 ≡ slotOf z i
   unfolding s
-  slot-get i l = let a = touched-most z v in let b = h .handed in slot-at w (h .size) most i (omega arith) ∙ h .slots i (omega arith)
+  slot-get i l = slot-at w (h .size) i l ∙ h .slots i l
 
-  below : (c : ℕ) → 0 < times c (z .chain) → c < touched z
-  below c p = on-chain z v c p .0
+  state-get : (i : ℕ) → i < slotCount → stateIn (getD s i 0) ≡ stateOf z i
+  state-get i l = rw (slot-get i l) (state-half z v i)
 
-  legal : every (legalSlot (length s)) s ≡ true
-  legal =
-      every-of (legalSlot (length s)) s 0
+  entry-get : (i : ℕ) → i < slotCount → entryIn (getD s i 0) ≡ chunkAt i (z .chain)
+  entry-get i l = rw (slot-get i l) (entry-half z v i)
+
+  owner-get : (i : ℕ) → i < slotCount → ownerIn (getD s i 0) ≡ getD (z .owners) i 0
+  owner-get i l = rw (slot-get i l) (owner-half z v i)
+
+  bare : every isBare (mid m (k - m) s) ≡ true
+  bare =
+      every-of isBare (mid m (k - m) s) 0
       (λ i l.
-      let k : i < touched z = let a = long in omega arith in
-      rw (long, slot-get i k)
-      (by-slot z i (λ x. legalSlot (touched z) x ≡ true) k
-      (λ p. let g = v .groups i in in-range (getD (z .owners) i 0) (touched z) p (omega arith))
-      (λ e. let b = behind-most (touched z) i (z .chain) below in in-range (13 + linkBehind i (z .chain)) (touched z) (omega arith) (omega arith))))
-    where
-      in-range : (x k : ℕ) → 0 < x → x ≤ 13 + k → legalSlot k x ≡ true
-      in-range x k p q = and-both (ltb 0 x) (leb x (13 + k)) (lt-ltb 0 x p) (le-leb x (13 + k) q)
+      let f = few in let a = most in let q = h .handed in let r = h .chained in
+      let j : i < k - m = let n = length-mid m (k - m) s (let b = long in omega arith) in omega arith in
+      let e : getD (mid m (k - m) s) i 0 ≡ stateOf z (m + i) = getD-mid m (k - m) s i 0 j ∙ slot-get (m + i) (omega arith) ∙ slot-bare z v (m + i) (omega arith) in
+      lt-ltb (getD (mid m (k - m) s) i 0) half (omega (arith, state-most z v (m + i))))
 
-  -- Which slots are those of returned chunks.
-  returned-get : (i : ℕ) → i < touched z → _≡_ {A = ℕ} (cond (isReturned (getD s i 0)) 1 0) (times i (z .chain))
-  returned-get i l =
-      rw (slot-get i l, v .chained i, returned-in (z .owners) i l)
-      (by-slot z i (λ x. _≡_ {A = ℕ} (cond (isReturned x) 1 0) (cond (eqb (getD (z .owners) i 0) 0) 1 0)) l
-      (λ p. let g = v .groups i in rw (lt-leb 13 (getD (z .owners) i 0) (omega arith), ne-eqb (getD (z .owners) i 0) 0 (λ e. omega arith)))
-      (λ e. rw (le-leb 13 (13 + linkBehind i (z .chain)) (omega arith), eq-eqb (getD (z .owners) i 0) 0 e)))
+  live-get : (i : ℕ) → i < touched z → isLive (getD s i 0) ≡ isGroup (getD (z .owners) i 0)
+  live-get i l =
+      let a = state-get i (let b = most in omega arith) in
+      by-eqb (λ t. isLive (getD s i 0) ≡ isGroup (getD (z .owners) i 0)) (getD (z .owners) i 0) 0
+      (λ e. live-not (getD s i 0) (omega (arith, state-returned z i l e)) ∙ sym (le-ltb 0 (getD (z .owners) i 0) (omega arith)))
+      (λ n. let g = v .groups i in let q = state-live z i l (omega arith) in live-is (getD s i 0) (omega arith) (omega arith) ∙ sym (lt-ltb 0 (getD (z .owners) i 0) (omega arith)))
 
-  counted : count isReturned s ≡ length (z .chain)
-  counted =
-      count-below isReturned s 0
-      ∙ sum-eq (λ i. cond (isReturned (getD s i 0)) 1 0) (λ i. times i (z .chain)) (length s) (λ i l. returned-get i (let a = long in omega arith))
-      ∙ sum-times (z .chain) (length s) (λ c l. v .chained c ∙ returned-past (z .owners) c (let a = long in omega arith))
+  live : count isLive (take k s) ≡ k - m
+  unfolding liveChunks
+  live =
+      let n : length (take k s) ≡ touched z = length-take-le k s (let a = long in let b = most in let q = h .handed in omega arith) ∙ h .handed in
+      let a : count isLive (take k s) ≡ count isGroup (z .owners) =
+      count-below isLive (take k s) 0
+      ∙ ap (sumBelow (λ i. cond (isLive (getD (take k s) i 0)) 1 0)) n
+      ∙ sum-eq (λ i. cond (isLive (getD (take k s) i 0)) 1 0) (λ i. cond (isGroup (getD (z .owners) i 0)) 1 0) (touched z)
+      (λ i l. ap (λ (x : ℕ). cond (isLive x) 1 0) (getD-take k s i 0 (let q = h .handed in omega arith)) ∙ ap (λ (b : Bool). cond b 1 0) (live-get i l))
+      ∙ sym (count-below isGroup (z .owners) 0) in
+      omega (arith, chain-live z v, h .handed, h .chained)
 
-  stored : Stored s (z .chain)
-  stored =
-      record {
-        once = chain-once z v;
-        link = λ c p. let f = on-chain z v c p in slot-get c (f .0) ∙ slot-returned z c (f .0) (f .1);
-      }
+  placed : Placed s m
+  placed i l =
+      let j : i < length (z .chain) = let r = h .chained in omega arith in
+      let f = few in let b = most in let q = h .handed in
+      let c = chunkAt i (z .chain) in
+      let on = on-chain z v c (chunk-on i (z .chain) j) in
+      let d = on .0 in
+      rw (entry-get i (omega arith))
+      (state-get c (omega arith) ∙ state-returned z c d (on .1) ∙ ap (λ (n : ℕ). positionBase + n) (position-chunk i (z .chain) j (chain-once z v)))
 
-  untouched : every isZero (drop (64 + getD w 2 0) w) ≡ true
+  untouched : every isZero (drop (headWords + touchedIn w) w) ≡ true
   untouched =
-      every-of isZero (drop (64 + getD w 2 0) w) 0
+      every-of isZero (drop (headWords + touchedIn w) w) 0
       (λ i l.
-      let n : length w ≡ 4160 = h .size in
-      let k : getD w 2 0 ≡ touched z = h .handed in
-      let b : i < length w - (64 + getD w 2 0) = rw length-drop at l in
-      let q : 64 + getD w 2 0 + i ≡ 64 + (touched z + i) = omega arith in
-      eq-eqb (getD (drop (64 + getD w 2 0) w) i 0) 0
-      (getD-drop (64 + getD w 2 0) w i 0 ∙ ap (λ (j : ℕ). getD w j 0) q ∙ h .slots (touched z + i) (omega arith) ∙ slot-untouched z (touched z + i) (omega arith)))
+      let n : length w ≡ zoneWords = h .size in
+      let k : touchedIn w ≡ touched z = h .handed in
+      let b : i < length w - (headWords + touchedIn w) = rw length-drop at l in
+      let q : headWords + touchedIn w + i ≡ headWords + (touched z + i) = omega arith in
+      eq-eqb (getD (drop (headWords + touchedIn w) w) i 0) 0
+      (getD-drop (headWords + touchedIn w) w i 0 ∙ ap (λ (j : ℕ). getD w j 0) q ∙ h .slots (touched z + i) (omega arith) ∙ slot-past z v (touched z + i) (omega arith)))
 
   pub words-facts : Facts w
   unfolding s
@@ -123,30 +186,25 @@ module _ (w : List ℕ) (z : Zone) (h : Words w z) (v : ValidZone z) where
           kind = h .kind;
           class = rw (h .class) (v .class);
           fits = rw (h .handed, h .class) (v .fits);
-          near = rw (h .first, h .handed) (link-most (touched z) (z .chain) below);
+          few = few;
         };
-        rest = rw (zero-mid {w = w} {a = 5} {b = 64} (let b = h .size in omega arith) (h .rest)) (every-zeros 59);
+        rest = rw (zero-mid {w = w} {a = headNumbers} {b = headWords} (let b = h .size in omega arith) (h .rest)) (every-zeros headZeros);
         untouched = untouched;
-        slots = record { legal = legal; counted = counted ∙ sym (h .chained); ends = rw (h .chained, h .first) (ends-stored s (z .chain) stored) };
+        slots = record { bare = bare; live = live; placed = placed };
       }
 
   pub words-zone : isZone w ≡ true
   words-zone = of-facts w words-facts
 
-  owner-back : (i : ℕ) → i < touched z → ownerIn (getD s i 0) ≡ getD (z .owners) i 0
-  owner-back i l =
-      rw (slot-get i l)
-      (by-slot z i (λ x. ownerIn x ≡ getD (z .owners) i 0) l
-      (λ p. let g = v .groups i in rw (lt-ltb (getD (z .owners) i 0) 13 (omega arith)))
-      (λ e. rw (le-ltb (13 + linkBehind i (z .chain)) 13 (omega arith)) (sym e)))
-
   pub words-decoded : zoneOf w ≡ z
   unfolding zoneOf s
   words-decoded =
-      let c : chainFrom s (getD w 3 0) (getD w 4 0) ≡ z .chain = rw (h .chained, h .first) (chain-stored s (z .chain) stored) in
-      let o : map ownerIn s ≡ z .owners =
-      ext-getD 0 (map ownerIn s) (z .owners) (length-map s ownerIn ∙ long)
-      (λ i l. List·getD-map ownerIn s i 0 ∙ owner-back i (let a = long in let b = length-map s ownerIn in omega arith)) in
+      let few = chain-few z v in
+      let c : chainFrom s m ≡ z .chain = rw (h .chained) (chain-again s (z .chain) (λ i l. entry-get i (let b = most in omega arith))) in
+      let n : length (map ownerIn (take k s)) ≡ touched z = length-map (take k s) ownerIn ∙ length-take-le k s (let a = long in let b = most in let q = h .handed in omega arith) ∙ h .handed in
+      let o : map ownerIn (take k s) ≡ z .owners =
+      ext-getD 0 (map ownerIn (take k s)) (z .owners) n
+      (λ i l. List·getD-map ownerIn (take k s) i 0 ∙ ap ownerIn (getD-take k s i 0 (let q = h .handed in omega arith)) ∙ owner-get i (let b = most in omega arith)) in
       λ i. record { class = h .class i; owners = o i; chain = c i }
 
 -- ---- the encoding

@@ -5,34 +5,38 @@ use mathlib.Core.Bool.{Bool, true, _&&_}
 use mathlib.Core.List.{List}
 use native.Mathlib.Omega.{arith}
 use lib.Dec.{ltb, leb, eqb}
-use lib.ListN.{length, getD, drop}
+use lib.ListN.{length, getD, take, drop}
 use borrow.Author.Tests.{eq-eqb, eqb-true, lt-ltb, ltb-true, le-leb, leb-true}
+use Rattle.lemmas.specs.Below.{allBelow}
 use Rattle.lemmas.specs.Every.{every, count}
 use Rattle.lemmas.specs.Parts.{mid}
 use Rattle.lemmas.specs.Zeros.{isZero}
+use Rattle.lemmas.proofs.Below.{all-at, all-of}
 use Rattle.lemmas.proofs.Cases.{and-left, and-right}
 use Rattle.model.specs.Sizes.{chunks}
-use Rattle.zone.specs.Decoding.{touchedSlots, legalSlot, isReturned, chainEnds, slotsLegal, headLegal, bodyLegal, isZone}
-use Rattle.zone.proofs.Links.{Ends, ends-of, of-ends}
+use Rattle.zone.specs.Decoding.{slotsIn, stateIn, entryIn, isLive, isBare, inPlace, slotsLegal, headLegal, bodyLegal, isZone, classIn, touchedIn, chainedIn}
+use Rattle.zone.proofs.Places.{Placed}
 use Rattle.zone.proofs.Rooms.{chunks-most}
+use Rattle.zone.specs.Encoding.{headWords, headNumbers, headZeros, slotCount, zoneWords, kindZone, positionBase}
 
 pub record Head (w : List ℕ) : Type 0 where
-  pub size : length w ≡ 4160
-  pub kind : getD w 0 0 ≡ 3
-  pub class : getD w 1 0 < 64
-  pub fits : getD w 2 0 ≤ chunks (getD w 1 0)
-  pub near : getD w 4 0 ≤ getD w 2 0
+  pub size : length w ≡ zoneWords
+  pub kind : getD w 0 0 ≡ kindZone
+  pub class : classIn w < 64
+  pub fits : touchedIn w ≤ chunks (classIn w)
+  pub few : chainedIn w ≤ touchedIn w
 
-pub record Slots (s : List ℕ) (m l : ℕ) : Type 0 where
-  pub legal : every (legalSlot (length s)) s ≡ true
-  pub counted : count isReturned s ≡ m
-  pub ends : Ends s m l
+-- The first k slots and a chain of m.
+pub record Slots (s : List ℕ) (k m : ℕ) : Type 0 where
+  pub bare : every isBare (mid m (k - m) s) ≡ true
+  pub live : count isLive (take k s) ≡ k - m
+  pub placed : Placed s m
 
 pub record Facts (w : List ℕ) : Type 0 where
   pub head : Head w
-  pub rest : every isZero (mid 5 59 w) ≡ true
-  pub untouched : every isZero (drop (64 + getD w 2 0) w) ≡ true
-  pub slots : Slots (touchedSlots w) (getD w 3 0) (getD w 4 0)
+  pub rest : every isZero (mid headNumbers headZeros w) ≡ true
+  pub untouched : every isZero (drop (headWords + touchedIn w) w) ≡ true
+  pub slots : Slots (slotsIn w) (touchedIn w) (chainedIn w)
 
 both : (a b : Bool) → (a && b) ≡ true → (a ≡ true) × (b ≡ true)
 both a b e = (and-left a b e, and-right a b e)
@@ -42,50 +46,57 @@ both a b e = (and-left a b e, and-right a b e)
 pub head-of : (w : List ℕ) → headLegal w ≡ true → Head w
 unfolding headLegal
 head-of w e =
-    let a = both (eqb (length w) 4160 && eqb (getD w 0 0) 3 && ltb (getD w 1 0) 64 && leb (getD w 2 0) (chunks (getD w 1 0))) (leb (getD w 4 0) (getD w 2 0)) e in
-    let b = both (eqb (length w) 4160 && eqb (getD w 0 0) 3 && ltb (getD w 1 0) 64) (leb (getD w 2 0) (chunks (getD w 1 0))) (a .0) in
-    let c = both (eqb (length w) 4160 && eqb (getD w 0 0) 3) (ltb (getD w 1 0) 64) (b .0) in
-    let d = both (eqb (length w) 4160) (eqb (getD w 0 0) 3) (c .0) in
+    let a = both (eqb (length w) zoneWords && eqb (getD w 0 0) 3 && ltb (classIn w) 64 && leb (touchedIn w) (chunks (classIn w))) (leb (chainedIn w) (touchedIn w)) e in
+    let b = both (eqb (length w) zoneWords && eqb (getD w 0 0) 3 && ltb (classIn w) 64) (leb (touchedIn w) (chunks (classIn w))) (a .0) in
+    let c = both (eqb (length w) zoneWords && eqb (getD w 0 0) 3) (ltb (classIn w) 64) (b .0) in
+    let d = both (eqb (length w) zoneWords) (eqb (getD w 0 0) 3) (c .0) in
     record {
-      size = eqb-true (length w) 4160 (d .0);
+      size = eqb-true (length w) zoneWords (d .0);
       kind = eqb-true (getD w 0 0) 3 (d .1);
-      class = ltb-true (getD w 1 0) 64 (c .1);
-      fits = leb-true (getD w 2 0) (chunks (getD w 1 0)) (b .1);
-      near = leb-true (getD w 4 0) (getD w 2 0) (a .1);
+      class = ltb-true (classIn w) 64 (c .1);
+      fits = leb-true (touchedIn w) (chunks (classIn w)) (b .1);
+      few = leb-true (chainedIn w) (touchedIn w) (a .1);
     }
 
 pub of-head : (w : List ℕ) → Head w → headLegal w ≡ true
 unfolding headLegal
 of-head w h =
-    simp (eq-eqb (length w) 4160 (h .size), eq-eqb (getD w 0 0) 3 (h .kind), lt-ltb (getD w 1 0) 64 (h .class), le-leb (getD w 2 0) (chunks (getD w 1 0)) (h .fits), le-leb (getD w 4 0) (getD w 2 0) (h .near))
+    simp (eq-eqb (length w) zoneWords (h .size), eq-eqb (getD w 0 0) 3 (h .kind), lt-ltb (classIn w) 64 (h .class), le-leb (touchedIn w) (chunks (classIn w)) (h .fits), le-leb (chainedIn w) (touchedIn w) (h .few))
 
-pub head-most : (w : List ℕ) → Head w → getD w 2 0 ≤ 4096
-head-most w h = let a = chunks-most (getD w 1 0) in let b = h .fits in omega arith
+pub head-most : (w : List ℕ) → Head w → touchedIn w ≤ slotCount
+head-most w h = let a = chunks-most (classIn w) in let b = h .fits in omega arith
 
 -- ---- the slots
 
-pub slots-of : (s : List ℕ) (m l : ℕ) → slotsLegal s m l ≡ true → Slots s m l
+pub slots-of : (s : List ℕ) (k m : ℕ) → slotsLegal s k m ≡ true → Slots s k m
 unfolding slotsLegal
-slots-of s m l e =
-    let a = both (every (legalSlot (length s)) s && eqb (count isReturned s) m) (chainEnds s m l) e in
-    let b = both (every (legalSlot (length s)) s) (eqb (count isReturned s) m) (a .0) in
-    record { legal = b .0; counted = eqb-true (count isReturned s) m (b .1); ends = ends-of s m l (a .1) }
+slots-of s k m e =
+    let a = both (every isBare (mid m (k - m) s) && eqb (count isLive (take k s)) (k - m)) (allBelow (inPlace s) m) e in
+    let b = both (every isBare (mid m (k - m) s)) (eqb (count isLive (take k s)) (k - m)) (a .0) in
+    record {
+      bare = b .0;
+      live = eqb-true (count isLive (take k s)) (k - m) (b .1);
+      placed = λ i l. eqb-true (stateIn (getD s (entryIn (getD s i 0)) 0)) (positionBase + i) (all-at (inPlace s) m (a .1) i l);
+    }
 
-pub of-slots : (s : List ℕ) (m l : ℕ) → Slots s m l → slotsLegal s m l ≡ true
+pub of-slots : (s : List ℕ) (k m : ℕ) → Slots s k m → slotsLegal s k m ≡ true
 unfolding slotsLegal
-of-slots s m l h = rw (h .legal, eq-eqb (count isReturned s) m (h .counted)) (of-ends s m l (h .ends))
+of-slots s k m h =
+    rw (h .bare, eq-eqb (count isLive (take k s)) (k - m) (h .live))
+    (all-of (inPlace s) m (λ i l. eq-eqb (stateIn (getD s (entryIn (getD s i 0)) 0)) (positionBase + i) (h .placed i l)))
 
 -- ---- the whole
 
 pub facts-of : (w : List ℕ) → isZone w ≡ true → Facts w
 unfolding isZone bodyLegal
 facts-of w e =
-    let k = getD w 2 0 in
+    let rest = every isZero (mid headNumbers headZeros w) in
+    let slots = slotsLegal (slotsIn w) (touchedIn w) (chainedIn w) in
     let a = both (headLegal w) (bodyLegal w) e in
-    let b = both (every isZero (mid 5 59 w) && every isZero (drop (64 + k) w)) (slotsLegal (touchedSlots w) (getD w 3 0) (getD w 4 0)) (a .1) in
-    let c = both (every isZero (mid 5 59 w)) (every isZero (drop (64 + k) w)) (b .0) in
-    record { head = head-of w (a .0); rest = c .0; untouched = c .1; slots = slots-of (touchedSlots w) (getD w 3 0) (getD w 4 0) (b .1) }
+    let b = both (rest && slots) (every isZero (drop (headWords + touchedIn w) w)) (a .1) in
+    let c = both rest slots (b .0) in
+    record { head = head-of w (a .0); rest = c .0; untouched = b .1; slots = slots-of (slotsIn w) (touchedIn w) (chainedIn w) (c .1) }
 
 pub of-facts : (w : List ℕ) → Facts w → isZone w ≡ true
 unfolding isZone bodyLegal
-of-facts w h = rw (of-head w (h .head), h .rest, h .untouched) (of-slots (touchedSlots w) (getD w 3 0) (getD w 4 0) (h .slots))
+of-facts w h = rw (of-head w (h .head), h .rest, of-slots (slotsIn w) (touchedIn w) (chainedIn w) (h .slots)) (h .untouched)

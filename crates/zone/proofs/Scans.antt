@@ -1,121 +1,125 @@
--- What each turn and each end of the code's scans says: the slots' interval, the walk along the chain, the
--- check part by part. Assumes nothing.
-use Prim.Native.Nat.{ℕ, zero, suc, _+_, _-_, _≤_, _<_}
-use mathlib.Core.Path.{_≡_, refl, sym, ap, _∙_}
+-- What each turn and each end of the check's scans says: one slot, the chunk at one position of the chain, the slots and the whole part
+-- by part. Assumes nothing.
+use Prim.Native.Nat.{ℕ, _+_, _-_, _*_, _≤_, _<_}
+use mathlib.Core.Path.{_≡_, sym, ap, _∙_}
 use mathlib.Core.Bool.{Bool, true, false, _&&_}
 use mathlib.Core.List.{List}
-use native.Mathlib.Nat.{not-suc-le-zero}
 use native.Mathlib.Omega.{arith}
+use lib.Bits.{bitOr, bitXor}
 use lib.Dec.{ltb, leb, eqb}
-use lib.ListN.{length, getD, drop, length-drop}
-use lib.Seq.{take-all}
-use borrow.Author.Tests.{eq-eqb, lt-ltb, le-leb, ltb-true, leb-true}
+use lib.ListN.{length, getD, take, drop, length-drop, List·getD-eq-default}
+use lib.Seq.{take-add, take-all, getD-take, length-take-le}
+use borrow.Author.Tests.{eq-eqb, lt-ltb, le-leb, ltb-true}
+use Rattle.lemmas.specs.Below.{allBelow}
 use Rattle.lemmas.specs.Every.{every, count}
 use Rattle.lemmas.specs.Parts.{mid}
 use Rattle.lemmas.specs.Zeros.{isZero}
-use Rattle.lemmas.proofs.Cases.{and-left, and-right, refuted}
-use Rattle.lemmas.proofs.Every.{every-at}
-use Rattle.lemmas.proofs.Tests.{false-left, false-right}
+use Rattle.lemmas.proofs.Below.{all-more}
+use Rattle.lemmas.proofs.Bits.{or-zero, xor-zero}
+use Rattle.lemmas.proofs.Cases.{by-ltb, refuted, true-false}
+use Rattle.lemmas.proofs.Every.{every-at, every-of, count-append}
+use Rattle.lemmas.proofs.Tests.{and-comm, false-left, false-right}
 use Rattle.model.specs.Sizes.{chunks}
-use Rattle.zone.specs.Decoding.{touchedSlots, legalSlot, isReturned, nextLink, chainEnds, slotsLegal, headLegal, bodyLegal, isZone}
-use Rattle.zone.proofs.Links.{ends-of}
+use Rattle.zone.specs.Decoding.{slotsIn, stateIn, entryIn, isLive, isBare, isNear, inPlace, slotsLegal, headLegal, bodyLegal, isZone, classIn, touchedIn, chainedIn}
 use Rattle.zone.proofs.Facts.{Head, head-of, head-most, slots-of}
-use Rattle.zone.proofs.Decoded.{length-slots}
+use Rattle.zone.specs.Encoding.{headWords, headNumbers, headZeros, slotCount, zoneWords, kindZone, positionBase, half}
 
--- ---- the interval of legal slots
+-- ---- one slot
 
-pub legal-zero : (k x : ℕ) → x ≡ 0 → false ≡ legalSlot k x
-legal-zero k x e = rw e
+pub live-zero : (x : ℕ) → stateIn x ≡ 0 → false ≡ isLive x
+live-zero x e = rw e
 
-pub legal-some : (k x : ℕ) → (x ≡ 0 → ⊥) → leb x (13 + k) ≡ legalSlot k x
-legal-some k x n = rw (lt-ltb 0 x (omega arith))
+pub live-some : (x : ℕ) → (stateIn x ≡ 0 → ⊥) → ltb (stateIn x) positionBase ≡ isLive x
+live-some x n = rw (lt-ltb 0 (stateIn x) (omega arith))
 
-pub legal-at : (s : List ℕ) (k i : ℕ) → every (legalSlot k) s ≡ true → i < length s → (0 < getD s i 0) × (getD s i 0 ≤ 13 + k)
-legal-at s k i e h =
-    let a = every-at (legalSlot k) s i 0 e h in (
-      ltb-true 0 (getD s i 0) (and-left (ltb 0 (getD s i 0)) (leb (getD s i 0) (13 + k)) a),
-      leb-true (getD s i 0) (13 + k) (and-right (ltb 0 (getD s i 0)) (leb (getD s i 0) (13 + k)) a),
-    )
-
--- ---- the walk
+-- ---- the slots, part by part
 
 module _ (s : List ℕ) where
-  -- It meets the chain's end too early, or a chunk that was not returned.
-  pub walk-early : (n l : ℕ) → 0 < n → l ≡ 0 → false ≡ chainEnds s n l
-  walk-early zero l p e = absurd (not-suc-le-zero p)
-  walk-early (suc n) l p e = sym (refuted (chainEnds s (suc n) l) (λ q. let a = ends-of s (suc n) l q .0 in omega arith))
+  pub near-at : (m i : ℕ) → every isNear (take m s) ≡ true → m ≤ length s → i < m → entryIn (getD s i 0) < slotCount
+  near-at m i e h l =
+      let a = every-at isNear (take m s) i 0 e (let n = length-take-le m s h in omega arith) in
+      let q = getD-take m s i 0 l in
+      let b = ltb-true (getD (take m s) i 0) (half * slotCount) a in omega arith
 
-  pub walk-live : (n l : ℕ) → 0 < n → getD s (l - 1) 0 < 13 → false ≡ chainEnds s n l
-  walk-live zero l p e = absurd (not-suc-le-zero p)
-  walk-live (suc n) l p e = sym (refuted (chainEnds s (suc n) l) (λ q. let a = ends-of s (suc n) l q .1 in omega arith))
+  -- A turn of the scan of positions, as the code has it: position i, read at j, and the chunk c there.
+  module _ {i j c : ℕ} (at : j ≡ i) (there : c ≡ entryIn (getD s j 0)) where
+    said : inPlace s i ≡ eqb (stateIn (getD s c 0)) (positionBase + i)
+    said = ap (λ (n : ℕ). eqb (stateIn (getD s n 0)) (positionBase + i)) (sym (there ∙ ap (λ (n : ℕ). entryIn (getD s n 0)) at))
 
-  pub walk-more : (n l : ℕ) → 0 < n → (l ≡ 0 → ⊥) → 13 ≤ getD s (l - 1) 0 → chainEnds s (n - 1) (nextLink s l) ≡ chainEnds s n l
-  unfolding chainEnds
-  walk-more zero l p a b = absurd (not-suc-le-zero p)
-  walk-more (suc n) l p a b =
-      simp (lt-ltb 0 l (omega arith), le-leb 13 (getD s (l - 1) 0) b) (ap (λ (m : ℕ). chainEnds s m (nextLink s l)) (let q : suc n - 1 ≡ n = omega arith in q))
+    pub chunk-near : (m : ℕ) → every isNear (take m s) ≡ true → m ≤ length s → i < m → c < slotCount
+    chunk-near m e h l = let a = near-at m i e h l in let b = there ∙ ap (λ (n : ℕ). entryIn (getD s n 0)) at in omega arith
 
-  pub walk-done : (n l : ℕ) → n ≤ 0 → eqb l 0 ≡ chainEnds s n l
-  unfolding chainEnds
-  walk-done zero l p = refl
-  walk-done (suc n) l p = absurd (not-suc-le-zero p)
+    -- What the code or-s together is zero where all are in place.
+    pub place-next : (wrong : ℕ) → eqb wrong 0 ≡ allBelow (inPlace s) i → eqb (bitOr wrong (bitXor (stateIn (getD s c 0)) (positionBase + i))) 0 ≡ allBelow (inPlace s) (i + 1)
+    place-next wrong e =
+        or-zero wrong (bitXor (stateIn (getD s c 0)) (positionBase + i))
+        ∙ ap (λ (b : Bool). b && eqb (bitXor (stateIn (getD s c 0)) (positionBase + i)) 0) e
+        ∙ ap (λ (b : Bool). allBelow (inPlace s) i && b) (xor-zero (stateIn (getD s c 0)) (positionBase + i) ∙ sym said)
+        ∙ and-comm (allBelow (inPlace s) i) (inPlace s i)
+        ∙ sym (all-more (inPlace s) i)
 
-  -- ---- the slots, part by part
+  -- The part that the code calls 0..m.
+  pub front : (m : ℕ) → mid 0 (m - 0) s ≡ take m s
+  front m = ap (λ (n : ℕ). take n s) (let e : m - 0 ≡ m = omega arith in e)
 
-  pub slots-illegal : (m l : ℕ) → every (legalSlot (length s)) s ≡ false → false ≡ slotsLegal s m l
-  unfolding slotsLegal
-  slots-illegal m l e = rw e
+  module _ (k m : ℕ) where
+    pub slots-full : every isBare (mid m (k - m) s) ≡ false → false ≡ slotsLegal s k m
+    unfolding slotsLegal
+    slots-full e = rw e
 
-  pub slots-uncounted : (m l : ℕ) → (count isReturned s ≡ m → ⊥) → false ≡ slotsLegal s m l
-  slots-uncounted m l n = sym (refuted (slotsLegal s m l) (λ e. n (slots-of s m l e .counted)))
+    pub count-parts : m ≤ k → count isLive (take k s) ≡ count isLive (mid 0 (m - 0) s) + count isLive (mid m (k - m) s)
+    count-parts l = ap (count isLive) (ap (λ (n : ℕ). take n s) (let e : k ≡ m + (k - m) = omega arith in e) ∙ take-add m (k - m) s) ∙ count-append isLive (take m s) (mid m (k - m) s) ∙ ap (λ (l : List ℕ). count isLive l + count isLive (mid m (k - m) s)) (sym (front m))
 
-  pub slots-walked : (m l : ℕ) → every (legalSlot (length s)) s ≡ true → count isReturned s ≡ m → chainEnds s m l ≡ slotsLegal s m l
-  unfolding slotsLegal
-  slots-walked m l a b = rw (a, eq-eqb (count isReturned s) m b)
+    pub slots-uncounted : m ≤ k → (count isLive (mid 0 (m - 0) s) + count isLive (mid m (k - m) s) ≡ k - m → ⊥) → false ≡ slotsLegal s k m
+    slots-uncounted l n = sym (refuted (slotsLegal s k m) (λ e. n (sym (count-parts l) ∙ slots-of s k m e .live)))
+
+    pub slots-far : length s ≡ slotCount → m ≤ slotCount → every isNear (mid 0 (m - 0) s) ≡ false → false ≡ slotsLegal s k m
+    slots-far size few e =
+        sym (refuted (slotsLegal s k m) (λ q. true-false (every-of isNear (take m s) 0 (λ i l. let n = length-take-le m s (omega arith) in near i (omega arith) (slots-of s k m q .placed i (omega arith)))) (ap (every isNear) (sym (front m)) ∙ e)))
+      where
+        near : (i : ℕ) → i < m → stateIn (getD s (entryIn (getD s i 0)) 0) ≡ positionBase + i → isNear (getD (take m s) i 0) ≡ true
+        near i l q =
+            let x = getD-take m s i 0 l in
+            by-ltb (λ t. isNear (getD (take m s) i 0) ≡ true) (entryIn (getD s i 0)) slotCount (λ b. lt-ltb (getD (take m s) i 0) (half * slotCount) (omega arith))
+            (λ b. absurd (omega (arith, List·getD-eq-default s 0 {n = entryIn (getD s i 0)} (omega arith))))
+
+    pub slots-placed : m ≤ k → every isBare (mid m (k - m) s) ≡ true → count isLive (mid 0 (m - 0) s) + count isLive (mid m (k - m) s) ≡ k - m → allBelow (inPlace s) m ≡ slotsLegal s k m
+    unfolding slotsLegal
+    slots-placed l a b = rw (a, eq-eqb (count isLive (take k s)) (k - m) (count-parts l ∙ b))
 
 -- ---- the head's numbers
 
 pub head-not : (w : List ℕ) → (Head w → ⊥) → false ≡ headLegal w
 head-not w n = sym (refuted (headLegal w) (λ e. n (head-of w e)))
 
-pub head-last : (w : List ℕ) → length w ≡ 4160 → getD w 0 0 ≡ 3 → getD w 1 0 < 64 → getD w 2 0 ≤ chunks (getD w 1 0) → leb (getD w 4 0) (getD w 2 0) ≡ headLegal w
+pub head-last : (w : List ℕ) → length w ≡ zoneWords → getD w 0 0 ≡ kindZone → classIn w < 64 → touchedIn w ≤ chunks (classIn w) → leb (chainedIn w) (touchedIn w) ≡ headLegal w
 unfolding headLegal
-head-last w a b c d = simp (eq-eqb (length w) 4160 a, eq-eqb (getD w 0 0) 3 b, lt-ltb (getD w 1 0) 64 c, le-leb (getD w 2 0) (chunks (getD w 1 0)) d)
+head-last w a b c d = simp (eq-eqb (length w) zoneWords a, eq-eqb (getD w 0 0) 3 b, lt-ltb (classIn w) 64 c, le-leb (touchedIn w) (chunks (classIn w)) d)
 
--- ---- the body, part by part; n is the count of chunks handed out, as the code has it
+-- ---- the body, part by part
 
-pub body-rest : (w : List ℕ) → every isZero (mid 5 59 w) ≡ false → false ≡ bodyLegal w
+pub body-rest : (w : List ℕ) → every isZero (mid headNumbers headZeros w) ≡ false → false ≡ bodyLegal w
 unfolding bodyLegal
 body-rest w e = rw e
 
-module _ (w : List ℕ) (n : ℕ) (size : length w ≡ 4160) (most : getD w 2 0 ≤ 4096) (same : n ≡ getD w 2 0) where
-  pub part-untouched : every isZero (mid (64 + n) (length w - (64 + n)) w) ≡ every isZero (drop (64 + getD w 2 0) w)
-  part-untouched =
-      ap (every isZero) (take-all (length w - (64 + n)) (drop (64 + n) w) (simp length-drop (omega arith)))
-      ∙ ap (λ (k : ℕ). every isZero (drop (64 + k) w)) same
+pub body-slots : (w : List ℕ) → slotsLegal (slotsIn w) (touchedIn w) (chainedIn w) ≡ false → false ≡ bodyLegal w
+unfolding bodyLegal
+body-slots w e = sym (false-left (every isZero (drop (headWords + touchedIn w) w)) (false-right (every isZero (mid headNumbers headZeros w)) e))
 
-  pub part-slots : mid 64 (64 + n - 64) w ≡ touchedSlots w
-  part-slots = ap (λ (k : ℕ). mid 64 k w) (let e : 64 + n - 64 ≡ getD w 2 0 = omega arith in e)
-
-  pub part-length : length (mid 64 (64 + n - 64) w) ≡ getD w 2 0
-  part-length = ap length part-slots ∙ length-slots w size most
-
-  pub body-untouched : every isZero (mid (64 + n) (length w - (64 + n)) w) ≡ false → false ≡ bodyLegal w
-  unfolding bodyLegal
-  body-untouched e =
-      sym (false-left (slotsLegal (touchedSlots w) (getD w 3 0) (getD w 4 0)) (false-right (every isZero (mid 5 59 w)) (sym part-untouched ∙ e)))
-
-  pub body-slots : every isZero (mid 5 59 w) ≡ true → every isZero (mid (64 + n) (length w - (64 + n)) w) ≡ true → slotsLegal (mid 64 (64 + n - 64) w) (getD w 3 0) (getD w 4 0) ≡ bodyLegal w
-  unfolding bodyLegal
-  body-slots a b =
-      ap (λ (s : List ℕ). slotsLegal s (getD w 3 0) (getD w 4 0)) part-slots
-      ∙ sym (ap (λ (t : Bool). t && every isZero (drop (64 + getD w 2 0) w) && slotsLegal (touchedSlots w) (getD w 3 0) (getD w 4 0)) a
-      ∙ ap (λ (t : Bool). t && slotsLegal (touchedSlots w) (getD w 3 0) (getD w 4 0)) (sym part-untouched ∙ b))
+-- The words behind the slots of the n chunks handed out, n as the code has it, decide the rest.
+pub body-untouched : (w : List ℕ) (n : ℕ) → length w ≡ zoneWords → touchedIn w ≤ slotCount → n ≡ touchedIn w → every isZero (mid headNumbers headZeros w) ≡ true
+    → slotsLegal (slotsIn w) (touchedIn w) (chainedIn w) ≡ true → every isZero (mid (headWords + n) (length w - (headWords + n)) w) ≡ bodyLegal w
+unfolding bodyLegal
+body-untouched w n size most same a b =
+    ap (every isZero) (take-all (length w - (headWords + n)) (drop (headWords + n) w) (simp length-drop (omega arith)))
+    ∙ ap (λ (k : ℕ). every isZero (drop (headWords + k) w)) same
+    ∙ sym (ap (λ (t : Bool). t && slotsLegal (slotsIn w) (touchedIn w) (chainedIn w) && every isZero (drop (headWords + touchedIn w) w)) a
+    ∙ ap (λ (t : Bool). t && every isZero (drop (headWords + touchedIn w) w)) b)
 
 -- ---- the whole
 
-pub check-asks : (w : List ℕ) → headLegal w ≡ true → (length w ≡ 4160) × (getD w 2 0 ≤ 4096) × (getD w 4 0 ≤ getD w 2 0)
-check-asks w e = let h = head-of w e in (h .size, head-most w h, h .near)
+pub check-asks : (w : List ℕ) → headLegal w ≡ true → (length w ≡ zoneWords) × (touchedIn w ≤ slotCount) × (chainedIn w ≤ touchedIn w)
+check-asks w e = let h = head-of w e in (h .size, head-most w h, h .few)
 
 pub check-head : (w : List ℕ) → headLegal w ≡ false → false ≡ isZone w
 unfolding isZone

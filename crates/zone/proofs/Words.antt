@@ -11,47 +11,47 @@ use Rattle.lemmas.proofs.Cases.{by-ltb}
 use Rattle.lemmas.proofs.Zeros.{length-zeros, getD-zeros}
 use Rattle.lemmas.proofs.ListFrom.{length-listFrom, getD-listFrom}
 use Rattle.model.specs.Zone.{Zone, touched}
-use Rattle.zone.specs.Encoding.{zoneWords, headWords, slotCount, kindZone, linkTo, slotOf, zoneEncoding}
+use Rattle.zone.specs.Encoding.{zoneWords, headWords, slotCount, kindZone, slotOf, zoneEncoding, headZeros, headNumbers}
+use Rattle.zone.specs.Decoding.{classIn, touchedIn, chainedIn}
 
 -- The words w are those of the zone z.
 pub record Words (w : List ℕ) (z : Zone) : Type 0 where
   pub size : length w ≡ zoneWords
   pub kind : getD w 0 0 ≡ kindZone
-  pub class : getD w 1 0 ≡ z .class
-  pub handed : getD w 2 0 ≡ touched z
-  pub chained : getD w 3 0 ≡ length (z .chain)
-  pub first : getD w 4 0 ≡ linkTo (z .chain)
-  pub rest : Zero w 5 64
+  pub class : classIn w ≡ z .class
+  pub handed : touchedIn w ≡ touched z
+  pub chained : chainedIn w ≡ length (z .chain)
+  pub rest : Zero w headNumbers headWords
   pub slots : (i : ℕ) → i < slotCount → getD w (headWords + i) 0 ≡ slotOf z i
 
 module _ (z : Zone) where
   numbers : List ℕ
-  numbers = kindZone ∷ z .class ∷ touched z ∷ length (z .chain) ∷ linkTo (z .chain) ∷ []
+  numbers = kindZone ∷ z .class ∷ touched z ∷ length (z .chain) ∷ []
 
   tail : List ℕ
-  tail = zeros 59 ++ listFrom (slotOf z) 0 slotCount
+  tail = zeros headZeros ++ listFrom (slotOf z) 0 slotCount
 
-  length-tail : length tail ≡ 4155
+  length-tail : length tail ≡ headZeros + slotCount
   unfolding tail
-  length-tail = omega (arith, length-append (zeros 59) (listFrom (slotOf z) 0 4096), length-zeros 59, length-listFrom (slotOf z) 0 4096)
+  length-tail = omega (arith, length-append (zeros headZeros) (listFrom (slotOf z) 0 slotCount), length-zeros headZeros, length-listFrom (slotOf z) 0 slotCount)
 
-  tail-rest : (i : ℕ) → i < 59 → getD tail i 0 ≡ 0
+  tail-rest : (i : ℕ) → i < headZeros → getD tail i 0 ≡ 0
   unfolding tail
-  tail-rest i l = List·getD-append (zeros 59) (listFrom (slotOf z) 0 4096) 0 i (omega (arith, length-zeros 59)) ∙ getD-zeros 59 i
+  tail-rest i l = List·getD-append (zeros headZeros) (listFrom (slotOf z) 0 slotCount) 0 i (omega (arith, length-zeros headZeros)) ∙ getD-zeros headZeros i
 
-  tail-slot : (i : ℕ) → i < 4096 → getD tail (59 + i) 0 ≡ slotOf z i
+  tail-slot : (i : ℕ) → i < slotCount → getD tail (headZeros + i) 0 ≡ slotOf z i
   unfolding tail
   tail-slot i l =
-      ap (λ (n : ℕ). getD tail (n + i) 0) (sym (length-zeros 59))
-      ∙ getD-append-add (zeros 59) (listFrom (slotOf z) 0 4096) i 0
-      ∙ getD-listFrom (slotOf z) 0 4096 i 0 l
+      ap (λ (n : ℕ). getD tail (n + i) 0) (sym (length-zeros headZeros))
+      ∙ getD-append-add (zeros headZeros) (listFrom (slotOf z) 0 slotCount) i 0
+      ∙ getD-listFrom (slotOf z) 0 slotCount i 0 l
       ∙ ap (slotOf z) (omega arith)
 
   encoded : zoneEncoding z ≡ numbers ++ tail
   unfolding zoneEncoding numbers tail
   encoded = refl
 
-  behind : (i : ℕ) → getD (numbers ++ tail) (5 + i) 0 ≡ getD tail i 0
+  behind : (i : ℕ) → getD (numbers ++ tail) (headNumbers + i) 0 ≡ getD tail i 0
   unfolding numbers
   behind i = getD-append-add numbers tail i 0
 
@@ -68,9 +68,8 @@ module _ (z : Zone) where
         class = refl;
         handed = refl;
         chained = refl;
-        first = refl;
-        rest = record { at = λ i l k. ap (λ (n : ℕ). getD (numbers ++ tail) n 0) (let e : i ≡ 5 + (i - 5) = omega arith in e) ∙ behind (i - 5) ∙ tail-rest (i - 5) (omega arith) };
-        slots = λ i l. ap (λ (n : ℕ). getD (numbers ++ tail) n 0) (let e : 64 + i ≡ 5 + (59 + i) = omega arith in e) ∙ behind (59 + i) ∙ tail-slot i l;
+        rest = record { at = λ i l k. ap (λ (n : ℕ). getD (numbers ++ tail) n 0) (let e : i ≡ headNumbers + (i - headNumbers) = omega arith in e) ∙ behind (i - headNumbers) ∙ tail-rest (i - headNumbers) (omega arith) };
+        slots = λ i l. ap (λ (n : ℕ). getD (numbers ++ tail) n 0) (let e : headWords + i ≡ headNumbers + (headZeros + i) = omega arith in e) ∙ behind (headZeros + i) ∙ tail-slot i l;
       }
 
   pub encoding-words : Words (zoneEncoding z) z
@@ -78,20 +77,19 @@ module _ (z : Zone) where
 
 -- Two lists with the words of one zone are the same.
 module _ {v w : List ℕ} {z : Zone} (a : Words v z) (b : Words w z) where
-  each : (i : ℕ) → i < 4160 → getD v i 0 ≡ getD w i 0
+  each : (i : ℕ) → i < zoneWords → getD v i 0 ≡ getD w i 0
   each zero l = a .kind ∙ sym (b .kind)
   each (suc zero) l = a .class ∙ sym (b .class)
   each (suc (suc zero)) l = a .handed ∙ sym (b .handed)
   each (suc (suc (suc zero))) l = a .chained ∙ sym (b .chained)
-  each (suc (suc (suc (suc zero)))) l = a .first ∙ sym (b .first)
-  each (suc (suc (suc (suc (suc n))))) l = far (suc (suc (suc (suc (suc n))))) (omega arith) l
+  each (suc (suc (suc (suc n)))) l = far (suc (suc (suc (suc n)))) (omega arith) l
     where
-      far : (i : ℕ) → 5 ≤ i → i < 4160 → getD v i 0 ≡ getD w i 0
+      far : (i : ℕ) → headNumbers ≤ i → i < zoneWords → getD v i 0 ≡ getD w i 0
       far i k l =
-          by-ltb (λ t. getD v i 0 ≡ getD w i 0) i 64 (λ h. a .rest .at i k h ∙ sym (b .rest .at i k h))
+          by-ltb (λ t. getD v i 0 ≡ getD w i 0) i headWords (λ h. a .rest .at i k h ∙ sym (b .rest .at i k h))
           (λ h.
-          let e : i ≡ 64 + (i - 64) = omega arith in
-          ap (λ (n : ℕ). getD v n 0) e ∙ a .slots (i - 64) (omega arith) ∙ sym (b .slots (i - 64) (omega arith)) ∙ ap (λ (n : ℕ). getD w n 0) (sym e))
+          let e : i ≡ headWords + (i - headWords) = omega arith in
+          ap (λ (n : ℕ). getD v n 0) e ∙ a .slots (i - headWords) (omega arith) ∙ sym (b .slots (i - headWords) (omega arith)) ∙ ap (λ (n : ℕ). getD w n 0) (sym e))
 
   pub words-same : v ≡ w
   words-same = ext-getD 0 v w (a .size ∙ sym (b .size)) (λ i l. each i (let s = a .size in omega arith))

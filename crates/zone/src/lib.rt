@@ -7,7 +7,7 @@ ghost use lib.ListN.{length, getD};
 ghost use Rattle.model.specs.Zone.{touched, full, newZone, nextChunk, granted, putBack};
 ghost use Rattle.model.specs.PageMap.{idleZone};
 ghost use Rattle.zone.specs.Encoding.{zoneWords, slotCount, zoneEncoding};
-ghost use Rattle.zone.specs.Decoding.{touchedIn, firstIn, headLegal, bodyLegal, isZone, zoneOf};
+ghost use Rattle.zone.specs.Decoding.{touchedIn, chainedIn, headLegal, bodyLegal, isZone, zoneOf};
 ghost use Rattle.zone.specs.Live.{liveChunks};
 
 pub mod layout;
@@ -35,24 +35,24 @@ fn head_is_legal(part: &[u32]) -> bool
     if sizes::chunk_count(class) < touched {
         return false;
     }
-    part[AT_FIRST] <= touched
+    part[AT_CHAINED] <= touched
 }
 
 // Whether the other words fit the head.
 fn body_is_legal(part: &[u32]) -> bool
-    requires { ⌜ (length (now part) ≡ zoneWords) × (touchedIn (now part) ≤ slotCount) × (firstIn (now part) ≤ touchedIn (now part)) ⌝ }
+    requires { ⌜ (length (now part) ≡ zoneWords) × (touchedIn (now part) ≤ slotCount) × (chainedIn (now part) ≤ touchedIn (now part)) ⌝ }
     ensures { λ r. ⌜ r ≡ bodyLegal (now (part .entry)) ⌝ }
 {
     if !scan::is_zero(&part[AT_REST..HEAD]) {
         return false;
     }
-    let end = HEAD + wide(part[AT_TOUCHED]);
-    if !scan::is_zero(&part[end..]) {
+    let touched = part[AT_TOUCHED];
+    let chained = part[AT_CHAINED];
+    if !slots::are_legal(&part[HEAD..WORDS], touched, chained) {
         return false;
     }
-    let chained = part[AT_CHAINED];
-    let first = part[AT_FIRST];
-    slots::are_legal(&part[HEAD..end], chained, first)
+    let end = HEAD + wide(touched);
+    scan::is_zero(&part[end..])
 }
 
 // Whether the words are the encoding of a valid zone. Each word is read once, and those of the chain once more.
@@ -75,13 +75,12 @@ pub fn set_up(part: &mut [u32], class: u32, group: u32)
     part[AT_CLASS] = class;
     part[AT_TOUCHED] = 1;
     part[AT_CHAINED] = 0;
-    part[AT_FIRST] = 0;
     part[HEAD] = group;
 }
 
 // Grants a chunk to the group: the first untouched one, or where there is none the last one returned.
 pub fn grant(part: &mut [u32], group: u32) -> u32
-    requires { ⌜ (isZone (now part) ≡ true) × (full (zoneOf (now part)) ≡ false) × (0 < group) ⌝ }
+    requires { ⌜ (isZone (now part) ≡ true) × (full (zoneOf (now part)) ≡ false) × (0 < group) × (group ≤ 12) ⌝ }
     ensures { λ r. ⌜ (r ≡ nextChunk (zoneOf (now (part .entry)))) × (now (part .exit) ≡ zoneEncoding (granted group (zoneOf (now (part .entry))))) ⌝ }
 {
     let class = part[AT_CLASS];
@@ -90,7 +89,7 @@ pub fn grant(part: &mut [u32], group: u32) -> u32
         stores::hand_out(part, touched, group);
         return touched;
     }
-    stores::take_first(part, group)
+    stores::take_last(part, group)
 }
 
 // Puts the chunk, which is live, at the front of the return chain.
@@ -98,7 +97,7 @@ pub fn put_back(part: &mut [u32], chunk: u32)
     requires { ⌜ (isZone (now part) ≡ true) × (0 < getD (zoneOf (now part) .owners) chunk 0) ⌝ }
     ensures { λ _. ⌜ now (part .exit) ≡ zoneEncoding (putBack chunk (zoneOf (now (part .entry)))) ⌝ }
 {
-    stores::put_first(part, chunk);
+    stores::put_last(part, chunk);
 }
 
 // The chunk's group, 0 where it is not live or there is none of that number.
@@ -110,9 +109,9 @@ pub fn owner(part: &[u32], chunk: u32) -> u32
     if SLOTS <= at {
         return 0;
     }
-    let slot = part[HEAD + at];
-    if slot < LINK_BASE {
-        return slot;
+    let state = part[HEAD + at] % HALF;
+    if state < POSITION_BASE {
+        return state;
     }
     0
 }

@@ -1,89 +1,88 @@
-// The check of the slots of the chunks that were handed out: what stands in them, and the chain that links the returned ones.
+// The check of the slots of the chunks that were handed out: their states, and the chain of the returned ones.
 ghost use mathlib.Core.Bool.{true};
 ghost use mathlib.Core.Path.{_≡_};
-ghost use Prim.Native.Nat.{_≤_};
-ghost use lib.ListN.{length};
+ghost use Prim.Native.Nat.{_≤_, _+_};
+ghost use lib.ListN.{length, drop, take};
+ghost use Rattle.lemmas.specs.Below.{allBelow};
 ghost use Rattle.lemmas.specs.Every.{every, count};
+ghost use Rattle.lemmas.specs.Zeros.{isZero};
 ghost use Rattle.zone.specs.Encoding.{slotCount};
-ghost use Rattle.zone.specs.Decoding.{legalSlot, isReturned, chainEnds, slotsLegal};
+ghost use Rattle.zone.specs.Decoding.{isLive, isBare, isNear, inPlace, slotsLegal};
 use crate::layout::*;
 
-// What a scan of the slots finds: whether each is legal, and how many are those of returned chunks.
+// A slot from here on names a chunk that no zone has.
+const FAR: u32 = HALF * SLOTS as u32;
+
+// What a scan of slots finds: how many are those of live chunks, and the or of all.
 struct Tally {
-    legal: bool,
-    returned: u32,
+    live: u32,
+    seen: u32,
 }
 
-// Whether a slot, one of k, holds a group or a link.
-fn is_legal(slot: u32, k: u32) -> bool
-    requires { ⌜ k ≤ slotCount ⌝ }
-    ensures { λ r. ⌜ r ≡ legalSlot k slot ⌝ }
+fn is_live(slot: u32) -> bool
+    ensures { λ r. ⌜ r ≡ isLive slot ⌝ }
 {
-    if slot == 0 {
+    let state = slot % HALF;
+    if state == 0 {
         return false;
     }
-    slot <= LINK_BASE + k
+    state < POSITION_BASE
 }
 
 // All slots are read, and nothing leaves the loop before its end: so it runs in vectors.
 fn survey(slots: &[u32]) -> Tally
     requires { ⌜ length (now slots) ≤ slotCount ⌝ }
-    ensures { λ r. ⌜ (r .legal ≡ every (legalSlot (length (now (slots .entry)))) (now (slots .entry))) × (r .returned ≡ count isReturned (now (slots .entry))) ⌝ }
+    ensures { λ r. ⌜ (r .live ≡ count isLive (now (slots .entry))) × (isBare (r .seen) ≡ every isBare (now (slots .entry))) × (isNear (r .seen) ≡ every isNear (now (slots .entry))) × (r .live ≤ slotCount) ⌝ }
 {
-    let k = slots.len() as u32;
-    let mut legal = true;
-    let mut returned: u32 = 0;
+    let mut live: u32 = 0;
+    let mut seen: u32 = 0;
     let mut i = 0;
     while i < slots.len() {
         let slot = slots[i];
-        if !is_legal(slot, k) {
-            legal = false;
-        }
-        if LINK_BASE <= slot {
-            returned += 1;
+        seen |= slot;
+        if is_live(slot) {
+            live += 1;
         }
         i += 1;
     }
     Tally {
-        legal: legal,
-        returned: returned,
+        live: live,
+        seen: seen,
     }
 }
 
-// Whether the chain from the link `first` on has `count` chunks, all returned, and then ends. The slots are legal, so that a link
-// read from one leads to one of them.
-fn follow(slots: &[u32], count: u32, first: u32) -> bool
-    requires { ⌜ (length (now slots) ≤ slotCount) × (every (legalSlot (length (now slots))) (now slots) ≡ true) × (first ≤ length (now slots)) ⌝ }
-    ensures { λ r. ⌜ r ≡ chainEnds (now (slots .entry)) count first ⌝ }
+// Whether the chunk at each position below `chained` has that position. No read waits for another one's.
+fn are_in_place(slots: &[u32], chained: u32) -> bool
+    requires { ⌜ (length (now slots) ≡ slotCount) × (chained ≤ slotCount) × (every isNear (take chained (now slots)) ≡ true) ⌝ }
+    ensures { λ r. ⌜ r ≡ allBelow (inPlace (now (slots .entry))) chained ⌝ }
 {
-    let mut left = count;
-    let mut link = first;
-    while 0 < left {
-        if link == 0 {
-            return false;
-        }
-        let at = (link - 1) as usize;
-        let slot = slots[at];
-        if slot < LINK_BASE {
-            return false;
-        }
-        link = slot - LINK_BASE;
-        left -= 1;
+    let mut wrong: u32 = 0;
+    let mut i: u32 = 0;
+    while i < chained {
+        let chunk = wide(slots[wide(i)] / HALF);
+        wrong |= slots[chunk] % HALF ^ POSITION_BASE + i;
+        i += 1;
     }
-    link == 0
+    wrong == 0
 }
 
-// Whether the slots hold groups and one chain with all returned chunks: `count` of them, from the link `first` on.
-pub fn are_legal(slots: &[u32], count: u32, first: u32) -> bool
-    requires { ⌜ (length (now slots) ≤ slotCount) × (first ≤ length (now slots)) ⌝ }
-    ensures { λ r. ⌜ r ≡ slotsLegal (now (slots .entry)) count first ⌝ }
+// Whether the slots hold groups and one chain of `chained` chunks with all returned ones, and nothing else.
+pub fn are_legal(slots: &[u32], touched: u32, chained: u32) -> bool
+    requires { ⌜ (length (now slots) ≡ slotCount) × (touched ≤ slotCount) × (chained ≤ touched) ⌝ }
+    ensures { λ r. ⌜ r ≡ slotsLegal (now (slots .entry)) touched chained ⌝ }
 {
-    let found = survey(slots);
-    if !found.legal {
+    let middle = chained as usize;
+    let end = touched as usize;
+    let upper = survey(&slots[middle..end]);
+    if HALF <= upper.seen {
         return false;
     }
-    if found.returned != count {
+    let lower = survey(&slots[0..middle]);
+    if FAR <= lower.seen {
         return false;
     }
-    follow(slots, count, first)
+    if lower.live + upper.live != touched - chained {
+        return false;
+    }
+    are_in_place(slots, chained)
 }

@@ -1,11 +1,11 @@
 //! From words to the state that they encode, if they do.
 //!
-//! The layout's own rules are seen to here: what stands where, which words are zero, that links and
-//! lengths agree. Whether what is read is a legal state is left to the second program's clauses.
+//! The layout's own rules are seen to here: what stands where, which words are zero, that chunks and
+//! positions name each other. Whether what is read is a legal state is left to the second program's clauses.
 
 use super::{
-    used_words, CLASS_LISTS, CLASS_STRIDE, DIRECT, EMPTY_LIST, HEADER_WORDS, MAGIC, PAGE_WORDS,
-    RETURNED, RUN, ZONE, ZONE_HEAD,
+    used_words, CLASS_LISTS, CLASS_STRIDE, DIRECT, EMPTY_LIST, ENTRY_SHIFT, HEADER_WORDS, MAGIC,
+    PAGE_WORDS, RETURNED, RUN, STATE, ZONE, ZONE_HEAD,
 };
 use reference::sizes::{chunk_count, CLASSES, MAX_PAGES, ZONE_PAGES};
 use reference::state::{no_lists, DirectBlock, Group, Page, Run, State, Zone};
@@ -116,8 +116,8 @@ impl Segments {
 /// A zone from its own words.
 fn zone(own: &[u32]) -> Option<Zone> {
     let (head, slots) = own.split_at(ZONE_HEAD);
-    let (class, handed_out, length, first) = (head[1], head[2], head[3], head[4]);
-    if class >= CLASSES || !are_zero(&head[5..]) {
+    let (class, handed_out, length) = (head[1], head[2], head[3]);
+    if class >= CLASSES || !are_zero(&head[4..]) {
         return None;
     }
     let (slots, behind) = slots.split_at(chunk_count(class) as usize);
@@ -128,37 +128,39 @@ fn zone(own: &[u32]) -> Option<Zone> {
         class,
         handed_out,
         owners: slots.iter().map(|slot| owner(*slot)).collect(),
-        chain: chain(slots, length, first)?,
+        chain: chain(slots, length)?,
     })
 }
 
 /// The group of a live chunk's slot.
 fn owner(slot: u32) -> Option<Group> {
-    match slot {
-        1..=12 => Some(slot as Group),
+    match slot & STATE {
+        group @ 1..=12 => Some(group as Group),
         _ => None,
     }
 }
 
-/// The chain that starts with a link. It goes through as many chunks as its length says, and no
-/// returned chunk is off it: a slot that nothing leads to would be lost in the state.
-fn chain(slots: &[u32], length: u32, first: u32) -> Option<VecDeque<u32>> {
-    let returned = slots.iter().filter(|slot| **slot >= RETURNED).count();
+/// The chain from the slots' upper halves, the chunk returned last first. Each chunk on it has its
+/// position in its own slot's lower half, and no returned chunk is off it.
+fn chain(slots: &[u32], length: u32) -> Option<VecDeque<u32>> {
+    let is_returned = |slot: &&u32| **slot & STATE >= RETURNED;
+    let returned = slots.iter().filter(is_returned).count();
     if returned != length as usize {
         return None;
     }
+    let (on, off) = slots.split_at(returned);
+    if off.iter().any(|slot| slot >> ENTRY_SHIFT != 0) {
+        return None;
+    }
     let mut chain = VecDeque::with_capacity(returned);
-    let mut link = first;
-    while link != 0 {
-        // A chain that leads back to itself has no end: one step too many shows it.
-        if chain.len() == returned {
+    for (position, slot) in (0..).zip(on) {
+        let chunk = slot >> ENTRY_SHIFT;
+        if slots.get(chunk as usize)? & STATE != RETURNED + position {
             return None;
         }
-        let chunk = link - 1;
-        chain.push_back(chunk);
-        link = slots.get(chunk as usize)?.checked_sub(RETURNED)?;
+        chain.push_front(chunk);
     }
-    (chain.len() == returned).then_some(chain)
+    Some(chain)
 }
 
 /// Whether every word is zero. In parts, so that the compiler can take several words at once.

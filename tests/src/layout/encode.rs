@@ -1,8 +1,8 @@
 //! From a state to its words.
 
 use super::{
-    page_at, slot_at, used_words, CLASS_LISTS, CLASS_STRIDE, DIRECT, EMPTY_LIST, MAGIC, RETURNED,
-    RUN, ZONE,
+    page_at, slot_at, used_words, CLASS_LISTS, CLASS_STRIDE, DIRECT, EMPTY_LIST, ENTRY_SHIFT,
+    MAGIC, RETURNED, RUN, ZONE,
 };
 use reference::state::{Page, State, Zone};
 
@@ -50,21 +50,16 @@ fn list_entry(class: u32, start: Page) -> u32 {
 
 fn write_zone(words: &mut [u32], start: Page, zone: &Zone) {
     let length = zone.chain.len() as u32;
-    let first = link(zone.chain.front());
-    let head = [ZONE, zone.class, zone.handed_out, length, first];
+    let head = [ZONE, zone.class, zone.handed_out, length];
     write(words, page_at(start), &head);
     for (chunk, owner) in (0..).zip(&zone.owners) {
         if let Some(group) = owner {
             words[slot_at(start, chunk)] = u32::from(*group);
         }
     }
-    let nexts = zone.chain.iter().skip(1).map(Some).chain([None]);
-    for (chunk, next) in zone.chain.iter().zip(nexts) {
-        words[slot_at(start, *chunk)] = RETURNED + link(next);
+    // Positions count from the chunk returned first, which is the chain's last.
+    for (position, chunk) in (0..).zip(zone.chain.iter().rev()) {
+        words[slot_at(start, *chunk)] |= RETURNED + position;
+        words[slot_at(start, position)] |= *chunk << ENTRY_SHIFT;
     }
-}
-
-/// The link to a chunk, or the link at the chain's end.
-fn link(chunk: Option<&u32>) -> u32 {
-    chunk.map_or(0, |chunk| chunk + 1)
 }

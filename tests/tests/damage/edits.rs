@@ -4,10 +4,14 @@ use crate::subject::Subject;
 use reference::histories::Xorshift;
 use reference::sizes::chunk_count;
 use reference::state::Page;
-use tests::layout::{page_at, slot_at, CLASS_LISTS, MAGIC, RETURNED, ZONE_HEAD, ZONE_SLOTS};
+use tests::layout::{
+    page_at, slot_at, CLASS_LISTS, ENTRY_SHIFT, MAGIC, RETURNED, STATE, ZONE_HEAD, ZONE_SLOTS,
+};
 
-/// Numbers that mean something in one place or another.
-const MEANINGFUL: [u32; 12] = [1, 2, 3, 4, 8, 12, 13, 14, 256, 257, 4_096, 4_109];
+/// Numbers that mean something in one place or another, the last three as both halves of a slot.
+const MEANINGFUL: [u32; 15] = [
+    1, 2, 3, 4, 8, 12, 13, 14, 256, 257, 4_096, 4_109, 65_536, 65_549, 131_086,
+];
 
 /// Values to try in one place after the other; some are what stands there already.
 pub fn values_in_turn(old: u32, random: &mut Xorshift) -> [u32; 6] {
@@ -61,7 +65,7 @@ pub fn zone_slots(subject: &mut Subject, random: &mut Xorshift) {
 pub fn zone_heads(subject: &mut Subject, random: &mut Xorshift) {
     if let Some(zone) = any_zone(subject, random) {
         for _ in 0..1 + random.below(2) {
-            let at = page_at(zone) + random.pick(&[0, 1, 2, 3, 4, 1, 2, 3, 4, 5, 6, 63]);
+            let at = page_at(zone) + random.pick(&[0, 1, 2, 3, 1, 2, 3, 4, 5, 6, 63]);
             let value = head_value(subject, zone, at, random);
             subject.set(at, value);
         }
@@ -173,14 +177,20 @@ fn slot_of(subject: &Subject, start: Page, random: &mut Xorshift) -> usize {
 fn slot_value(subject: &Subject, start: Page, at: usize, random: &mut Xorshift) -> u32 {
     let zone = &subject.state.zones[&start];
     let old = subject.get(at);
-    match random.below(9) {
+    // One half changed, the other kept.
+    let with_state = |state: u32| old & !STATE | state & STATE;
+    let with_entry = |chunk: u32| old & STATE | chunk << ENTRY_SHIFT;
+    match random.below(12) {
         0 => 0,
-        1 | 2 => 1 + random.below(13),
-        3 => RETURNED + random.below(chunk_count(zone.class) + 2),
-        4 => RETURNED + subject.get(page_at(start) + 4),
-        5 => RETURNED + 1 + (at - slot_at(start, 0)) as u32,
-        6 => old.wrapping_add(random.pick(&[1, u32::MAX])),
-        7 => subject.get(slot_of(subject, start, random)),
+        1 | 2 => with_state(1 + random.below(13)),
+        3 => with_state(RETURNED + random.below(chunk_count(zone.class) + 2)),
+        4 => with_state(RETURNED + subject.get(page_at(start) + 3)),
+        5 => with_entry(random.below(chunk_count(zone.class) + 2)),
+        6 => with_entry((at - slot_at(start, 0)) as u32),
+        7 => with_entry(subject.get(slot_of(subject, start, random)) >> ENTRY_SHIFT),
+        8 => old.wrapping_add(random.pick(&[1, u32::MAX, 1 << 16, u32::MAX << 16])),
+        9 => old.rotate_left(16),
+        10 => subject.get(slot_of(subject, start, random)),
         _ => any_value(subject, at, random),
     }
 }

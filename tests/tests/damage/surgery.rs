@@ -15,7 +15,7 @@ use reference::histories::Xorshift;
 /// An operation on a subject's words.
 type Operation = fn(&mut Subject, &mut Xorshift);
 
-const OPERATIONS: [Operation; 24] = [
+const OPERATIONS: [Operation; 27] = [
     pages::cut_run,
     pages::cut_block,
     pages::cut_run_for_block,
@@ -26,11 +26,14 @@ const OPERATIONS: [Operation; 24] = [
     pages::turn_pages_to_zone,
     zones::hand_out_next,
     zones::return_chunk,
-    zones::grant_first,
+    zones::grant_last,
     zones::grant_inside_chain,
-    zones::lose_link,
-    zones::close_chain,
-    zones::cross_links,
+    zones::lose_chunk,
+    zones::position_twice,
+    zones::same_position,
+    zones::entry_past_chain,
+    zones::entry_of_another,
+    zones::cross_positions,
     zones::chain_untouched,
     zones::forget_chain,
     zones::change_class,

@@ -8,7 +8,7 @@ use Rattle.allocate.proofs.serve.Statement.{statement}
 use Rattle.allocate.proofs.serve.Tie as tie
 
 zone-grant-requires : tie.Need-zone-grant-requires
-zone-grant-requires c κs = let h = c .before .before .pre in (h .0 .good .lent, serve-zone (h .0) (h .1), serve-open (h .0) (h .1), h .0 .least)
+zone-grant-requires c κs = let h = c .before .before .pre in (h .0 .good .lent, serve-zone (h .0) (h .1), serve-open (h .0) (h .1), h .0 .least, h .0 .most)
 
 mul-offset : tie.Need-mul-offset
 mul-offset c = let h = c .before .before .before .before .before .pre in let k = serve-page (h .0) (h .1) in omega arith

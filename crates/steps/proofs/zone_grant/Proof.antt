@@ -26,7 +26,7 @@ part-grant-end : tie.Need-part-grant-end
 part-grant-end c = let h = c .before .before .pre in let r = part-end (h .0) _ (h .1) _ (c .zone-start .ensures) in omega arith
 
 grant-requires : tie.Need-grant-requires
-grant-requires c κs = let h = c .before .before .before .pre in let a = c .before .zone-start .ensures in (part-zone (h .0) _ (h .1) _ a, ap (λ z. full z) (part-is (h .0) _ (h .1) _ a) ∙ h .2, h .3)
+grant-requires c κs = let h = c .before .before .before .pre in let a = c .before .zone-start .ensures in (part-zone (h .0) _ (h .1) _ a, ap (λ z. full z) (part-is (h .0) _ (h .1) _ a) ∙ h .2, h .3, h .4)
 
 same-length : tie.Need-same-length
 same-length c = search needs

@@ -2,9 +2,19 @@
 use mathlib.Core.Path.{sym, _∙_}
 use borrow.Author.Needs.{needs}
 use borrow.Author.Tests.{not-true, not-false}
-use Rattle.zone.proofs.Scans.{body-rest, body-untouched, body-slots}
+use Rattle.zone.proofs.Scans.{body-rest, body-slots, body-untouched}
 use Rattle.zone.proofs.body_is_legal.Statement.{statement}
 use Rattle.zone.proofs.body_is_legal.Tie as tie
+
+-- The places: the start, the head's zeros seen, and the slots seen.
+abbrev start : tie.Else1 → tie.Start
+start c = c .before .before .before .before
+
+abbrev rest : tie.Else2 → tie.Else1
+rest c = c .before .before .before .before .before
+
+abbrev slots : tie.After-is-zero2 → tie.Else2
+slots c = c .before .before .before
 
 sub-is-zero : tie.Need-sub-is-zero
 sub-is-zero c = search needs
@@ -21,8 +31,26 @@ is-zero-requires c κs = search needs
 returns : tie.Need-returns
 returns c = body-rest _ (sym (c .before .is-zero .ensures) ∙ not-true _ (c .if1 .taken))
 
-shared-slice-read-wide : tie.Need-shared-slice-read-wide
-shared-slice-read-wide c = search needs
+shared-slice-read-touched : tie.Need-shared-slice-read-touched
+shared-slice-read-touched c = search needs
+
+shared-slice-read-chained : tie.Need-shared-slice-read-chained
+shared-slice-read-chained c = search needs
+
+sub-are-legal : tie.Need-sub-are-legal
+sub-are-legal c = search needs
+
+part-are-legal-start : tie.Need-part-are-legal-start
+part-are-legal-start c = search needs
+
+part-are-legal-end : tie.Need-part-are-legal-end
+part-are-legal-end c = search needs
+
+are-legal-requires : tie.Need-are-legal-requires
+are-legal-requires c κs = search needs
+
+returns-2 : tie.Need-returns-2
+returns-2 c = body-slots _ (sym (c .before .are-legal .ensures) ∙ not-true _ (c .if2 .taken))
 
 wide-requires : tie.Need-wide-requires
 wide-requires c κs = search needs
@@ -45,29 +73,15 @@ part-is-zero-end-2 c = search needs
 is-zero-requires-2 : tie.Need-is-zero-requires-2
 is-zero-requires-2 c κs = search needs
 
-returns-2 : tie.Need-returns-2
-returns-2 c = body-untouched (c .before .before .before .before .before .before .before .before .before .args .part .now) (c .before .before .before .wide .result) (c .before .before .before .before .before .before .before .before .before .pre .0) (c .before .before .before .before .before .before .before .before .before .pre .1) (c .before .before .before .wide .ensures) (sym (c .before .is-zero2 .ensures) ∙ not-true _ (c .if2 .taken))
-
-shared-slice-read-chained : tie.Need-shared-slice-read-chained
-shared-slice-read-chained c = search needs
-
-shared-slice-read-first : tie.Need-shared-slice-read-first
-shared-slice-read-first c = search needs
-
-sub-are-legal : tie.Need-sub-are-legal
-sub-are-legal c = search needs
-
-part-are-legal-start : tie.Need-part-are-legal-start
-part-are-legal-start c = search needs
-
-part-are-legal-end : tie.Need-part-are-legal-end
-part-are-legal-end c = search needs
-
-are-legal-requires : tie.Need-are-legal-requires
-are-legal-requires c κs = search needs
-
 returns-3 : tie.Need-returns-3
-returns-3 c = c .are-legal .ensures ∙ body-slots (c .before .before .before .before .before .before .before .before .before .before .before .before .before .args .part .now) (c .before .before .before .before .before .before .before .wide .result) (c .before .before .before .before .before .before .before .before .before .before .before .before .before .pre .0) (c .before .before .before .before .before .before .before .before .before .before .before .before .before .pre .1) (c .before .before .before .before .before .before .before .wide .ensures) (sym (c .before .before .before .before .before .before .before .before .before .before .is-zero .ensures) ∙ not-false _ (c .before .before .before .before .before .before .before .before .before .if1 .left)) (sym (c .before .before .before .before .before .is-zero2 .ensures) ∙ not-false _ (c .before .before .before .before .if2 .left))
+returns-3 c =
+    let l = slots c in
+    let r = rest l in
+    let s = start r in
+    let end = c .before .before .wide in
+    c .is-zero2 .ensures
+    ∙ body-untouched (s .args .part .now) (end .result) (s .pre .0) (s .pre .1) (end .ensures) (sym (r .before .is-zero .ensures) ∙ not-false _ (r .if1 .left))
+    (sym (l .before .are-legal .ensures) ∙ not-false _ (l .if2 .left))
 
 pub body-is-legal-spec : {M : Type 1} → statement M
 body-is-legal-spec =
@@ -78,7 +92,13 @@ body-is-legal-spec =
     part-is-zero-end
     is-zero-requires
     returns
-    shared-slice-read-wide
+    shared-slice-read-touched
+    shared-slice-read-chained
+    sub-are-legal
+    part-are-legal-start
+    part-are-legal-end
+    are-legal-requires
+    returns-2
     wide-requires
     add-end
     mul-is-zero
@@ -86,11 +106,4 @@ body-is-legal-spec =
     part-is-zero-start-2
     part-is-zero-end-2
     is-zero-requires-2
-    returns-2
-    shared-slice-read-chained
-    shared-slice-read-first
-    sub-are-legal
-    part-are-legal-start
-    part-are-legal-end
-    are-legal-requires
     returns-3)

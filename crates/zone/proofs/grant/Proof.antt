@@ -1,4 +1,4 @@
--- `grant` meets its contract: an untouched chunk, else the chain's first. Assumes nothing.
+-- `grant` meets its contract: an untouched chunk, else the one returned last. Assumes nothing.
 use mathlib.Core.Path.{_∙_}
 use native.Mathlib.Omega.{arith}
 use borrow.Author.Needs.{needs}
@@ -6,6 +6,10 @@ use Rattle.zone.proofs.Figures.{zone-size, class-small, hand-out-words,
 use Rattle.zone.proofs.Words.{words-encoding}
 use Rattle.zone.proofs.grant.Statement.{statement}
 use Rattle.zone.proofs.grant.Tie as tie
+
+-- The start, as either kind of grant sees it.
+abbrev start : tie.After-chunk-count → tie.Start
+start c = c .before .before .before .before
 
 slice-read-class : tie.Need-slice-read-class
 slice-read-class c = omega (arith, zone-size _ (c .before .before .pre .0))
@@ -17,22 +21,28 @@ chunk-count-requires : tie.Need-chunk-count-requires
 chunk-count-requires c κs = class-small _ (c .before .before .before .pre .0)
 
 hand-out-requires : tie.Need-hand-out-requires
-hand-out-requires c κs = (zone-size _ (c .before .before .before .before .before .before .pre .0), hand-out-words _ (c .before .before .before .before .before .before .pre .0) _ (c .before .before .before .before .before .before .pre .2) (omega arith) .0)
+hand-out-requires c κs = let p = start (c .before .before) .pre in (zone-size _ (p .0), hand-out-words _ (p .0) _ (p .2) (p .3) (omega arith) .0)
 
 same-length : tie.Need-same-length
 same-length c = search needs
 
 returns : tie.Need-returns
-returns c = let r = hand-out-words _ (c .before .before .before .before .before .before .before .before .before .pre .0) _ (c .before .before .before .before .before .before .before .before .before .pre .2) (omega arith) in (r .1, c .before .before .hand-out .ensures ∙ r .2)
+returns c =
+    let done : tie.After-hand-out = c .before .before in
+    let p = start (done .before .before .before) .pre in
+    let r = hand-out-words _ (p .0) _ (p .2) (p .3) (omega arith) in (r .1, done .hand-out .ensures ∙ r .2)
 
-take-first-requires : tie.Need-take-first-requires
-take-first-requires c κs = let r = taken _ (c .before .before .before .before .before .before .pre .0) _ (c .before .before .before .before .before .before .pre .2) (c .before .before .before .before .before .before .pre .1) (omega arith) in r .asks
+take-last-requires : tie.Need-take-last-requires
+take-last-requires c κs = let p = start (c .before .before) .pre in (taken _ (p .0) _ (p .2) (p .3) (p .1) (omega arith) .asks, omega arith)
 
 same-length-2 : tie.Need-same-length-2
 same-length-2 c = search needs
 
 returns-2 : tie.Need-returns-2
-returns-2 c = let r = taken _ (c .before .before .before .before .before .before .before .before .before .pre .0) _ (c .before .before .before .before .before .before .before .before .before .pre .2) (c .before .before .before .before .before .before .before .before .before .pre .1) (omega arith) in (c .before .before .take-first .ensures .0 ∙ r .chunk-is, c .before .before .take-first .ensures .1 ∙ words-encoding (r .words-are))
+returns-2 c =
+    let done : tie.After-take-last = c .before .before in
+    let p = start (done .before .before .before) .pre in
+    let r = taken _ (p .0) _ (p .2) (p .3) (p .1) (omega arith) in (done .take-last .ensures .0 ∙ r .chunk-is, done .take-last .ensures .1 ∙ words-encoding (r .words-are))
 
 pub grant-spec : {M : Type 1} → statement M
 grant-spec =
@@ -44,6 +54,6 @@ grant-spec =
     hand-out-requires
     same-length
     returns
-    take-first-requires
+    take-last-requires
     same-length-2
     returns-2)

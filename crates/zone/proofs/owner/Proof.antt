@@ -2,21 +2,22 @@
 use mathlib.Core.Path.{sym, _∙_}
 use native.Mathlib.Omega.{arith}
 use borrow.Author.Needs.{needs}
-use Rattle.zone.proofs.Figures.{zone-size, owner-far, owner-read, owner-live, owner-none}
+use Rattle.zone.proofs.Decoded.{owner-live, owner-none}
+use Rattle.zone.proofs.Figures.{zone-size, owner-far, owner-read}
 use Rattle.zone.proofs.owner.Statement.{statement}
 use Rattle.zone.proofs.owner.Tie as tie
 
 returns : tie.Need-returns
 returns c = owner-far _ (c .before .pre) _ (c .if1 .taken)
 
-add-slot : tie.Need-add-slot
-add-slot c = search needs
+add-state : tie.Need-add-state
+add-state c = search needs
 
-mul-slot : tie.Need-mul-slot
-mul-slot c = search needs
+mul-state : tie.Need-mul-state
+mul-state c = search needs
 
-shared-slice-read-slot : tie.Need-shared-slice-read-slot
-shared-slice-read-slot c = omega (arith, zone-size _ (c .before .before .pre))
+shared-slice-read-state : tie.Need-shared-slice-read-state
+shared-slice-read-state c = omega (arith, zone-size _ (c .before .before .pre))
 
 returns-2 : tie.Need-returns-2
 returns-2 c = sym (owner-live _ (c .if2 .taken)) ∙ owner-read _ (c .before .before .before .pre) _ (c .before .before .if1 .left)
@@ -26,4 +27,4 @@ returns-3 c = sym (owner-none _ (c .if2 .left)) ∙ owner-read _ (c .before .bef
 
 pub owner-spec : {M : Type 1} → statement M
 owner-spec =
-    tie.close (tie.spec returns add-slot mul-slot shared-slice-read-slot returns-2 returns-3)
+    tie.close (tie.spec returns add-state mul-state shared-slice-read-state returns-2 returns-3)

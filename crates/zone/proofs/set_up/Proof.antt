@@ -1,4 +1,4 @@
--- `set_up` meets its contract: cleared words and six stores are the new zone's encoding. Assumes nothing.
+-- `set_up` meets its contract: cleared words and five stores are the new zone's encoding. Assumes nothing.
 use native.Mathlib.Omega.{arith}
 use lib.ListN.{length-set}
 use borrow.Author.Needs.{needs}
@@ -33,14 +33,14 @@ slice-write-part-4 c = simp length-set (omega arith)
 slice-write-part-5 : tie.Need-slice-write-part-5
 slice-write-part-5 c = simp length-set (omega arith)
 
-slice-write-part-6 : tie.Need-slice-write-part-6
-slice-write-part-6 c = simp length-set (omega arith)
-
 same-length : tie.Need-same-length
 same-length c = search needs
 
 returns : tie.Need-returns
-returns c = set-up-encoding (c .before .before .before .before .before .args .part .now) (c .before .before .before .before .before .args .class) (c .before .before .before .before .before .args .group) (c .before .before .clear .last .0) (c .before .before .before .before .before .pre .0) (c .before .before .before .before .before .pre .1) (c .before .before .clear .ensures)
+returns c =
+    let cleared : tie.After-clear = c .before .before in
+    let s : tie.Start = cleared .before .before .before in
+    set-up-encoding (s .args .part .now) (s .args .class) (s .args .group) (cleared .clear .last .0) (s .pre .0) (s .pre .1) (cleared .clear .ensures)
 
 pub set-up-spec : {M : Type 1} → statement M
 set-up-spec =
@@ -55,6 +55,5 @@ set-up-spec =
     slice-write-part-3
     slice-write-part-4
     slice-write-part-5
-    slice-write-part-6
     same-length
     returns)

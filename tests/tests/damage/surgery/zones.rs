@@ -7,7 +7,7 @@ use crate::subject::Subject;
 use reference::histories::Xorshift;
 use reference::sizes::{chunk_count, CLASSES};
 use reference::state::Page;
-use tests::layout::{page_at, slot_at, RETURNED, ZONE, ZONE_SLOTS};
+use tests::layout::{page_at, slot_at, ENTRY_SHIFT, RETURNED, STATE, ZONE, ZONE_SLOTS};
 
 /// A zone's words, as far as they can be taken for a zone.
 struct Head {
@@ -15,8 +15,8 @@ struct Head {
     class: u32,
     handed_out: u32,
     length: u32,
-    first: u32,
-    /// The chain as far as it can be followed, at most one chunk for each slot.
+    /// The chunks that the slots name as the chain's, the one at position 0 first: as many as the
+    /// length says, and no more than there are slots.
     chain: Vec<u32>,
 }
 
@@ -24,31 +24,22 @@ fn any_head(subject: &Subject, random: &mut Xorshift) -> Option<Head> {
     let start = any_zone(subject, random)?;
     let word = |place: usize| subject.get(page_at(start) + place);
     let in_range = word(0) == ZONE && word(1) < CLASSES && word(2) <= chunk_count(word(1));
+    let positions = 0..word(3).min(ZONE_SLOTS as u32);
     in_range.then(|| Head {
         start,
         class: word(1),
         handed_out: word(2),
         length: word(3),
-        first: word(4),
-        chain: follow(subject, start, word(4)),
+        chain: positions
+            .map(|position| subject.get(slot_at(start, position)) >> ENTRY_SHIFT)
+            .filter(|chunk| (*chunk as usize) < ZONE_SLOTS)
+            .collect(),
     })
-}
-
-fn follow(subject: &Subject, start: Page, first: u32) -> Vec<u32> {
-    let mut chain = Vec::new();
-    let mut link = first;
-    while link != 0 && link as usize <= ZONE_SLOTS && chain.len() < ZONE_SLOTS {
-        chain.push(link - 1);
-        link = subject
-            .get(slot_at(start, link - 1))
-            .saturating_sub(RETURNED);
-    }
-    chain
 }
 
 impl Head {
     fn set(&self, subject: &mut Subject) {
-        let words = [ZONE, self.class, self.handed_out, self.length, self.first];
+        let words = [ZONE, self.class, self.handed_out, self.length];
         subject.set_all(page_at(self.start), &words);
     }
 
@@ -56,14 +47,32 @@ impl Head {
         slot_at(self.start, chunk)
     }
 
-    /// Writes a chain over these chunks and its length.
+    fn state(&self, subject: &Subject, chunk: u32) -> u32 {
+        subject.get(self.slot(chunk)) & STATE
+    }
+
+    /// Writes a chunk's state; the other half of its slot stays.
+    fn set_state(&self, subject: &mut Subject, chunk: u32, state: u32) {
+        let at = self.slot(chunk);
+        subject.set(at, subject.get(at) & !STATE | state & STATE);
+    }
+
+    /// Writes the chunk at a position; the other half of that slot stays.
+    fn set_entry(&self, subject: &mut Subject, position: u32, chunk: u32) {
+        let at = self.slot(position);
+        subject.set(at, subject.get(at) & STATE | chunk << ENTRY_SHIFT);
+    }
+
+    /// Writes a chain of these chunks, position 0 first, with its length and both halves. A chunk
+    /// that was on it before keeps its state.
     fn set_chain(&mut self, subject: &mut Subject, chain: &[u32]) {
-        let mut link = 0;
-        for chunk in chain.iter().rev() {
-            subject.set(self.slot(*chunk), RETURNED + link);
-            link = 1 + chunk;
+        for position in 0..self.length.min(ZONE_SLOTS as u32) {
+            self.set_entry(subject, position, 0);
         }
-        self.first = link;
+        for (position, chunk) in (0..).zip(chain) {
+            self.set_entry(subject, position, *chunk);
+            self.set_state(subject, *chunk, RETURNED + position);
+        }
         self.length = chain.len() as u32;
         self.set(subject);
     }
@@ -71,8 +80,14 @@ impl Head {
     /// A live chunk at or above a place below k, if there is one.
     fn live_chunk(&self, subject: &Subject, random: &mut Xorshift) -> Option<u32> {
         let from = random.below(self.handed_out + 1);
-        let is_live = |chunk: &u32| (1..RETURNED).contains(&subject.get(self.slot(*chunk)));
+        let is_live = |chunk: &u32| (1..RETURNED).contains(&self.state(subject, *chunk));
         (from..self.handed_out).chain(0..from).find(is_live)
+    }
+
+    /// A position of the chain, if it has one.
+    fn position(&self, random: &mut Xorshift) -> Option<u32> {
+        let length = self.chain.len() as u32;
+        (length > 0).then(|| random.below(length))
     }
 }
 
@@ -80,31 +95,32 @@ impl Head {
 pub fn hand_out_next(subject: &mut Subject, random: &mut Xorshift) {
     if let Some(mut head) = any_head(subject, random) {
         if head.handed_out < chunk_count(head.class) {
-            subject.set(head.slot(head.handed_out), 1 + random.below(12));
+            head.set_state(subject, head.handed_out, 1 + random.below(12));
             head.handed_out += 1;
             head.set(subject);
         }
     }
 }
 
-/// A live chunk put on the chain, at its front or elsewhere: legal unless the zone was full.
+/// A live chunk put on the chain, as the one returned last or elsewhere: legal unless the zone was
+/// full.
 pub fn return_chunk(subject: &mut Subject, random: &mut Xorshift) {
     if let Some(mut head) = any_head(subject, random) {
         if let Some(chunk) = head.live_chunk(subject, random) {
             let mut chain = head.chain.clone();
             let at = random.below(chain.len() as u32 + 1) as usize;
-            chain.insert(random.pick(&[0, at]), chunk);
+            chain.insert(random.pick(&[chain.len(), at]), chunk);
             head.set_chain(subject, &chain);
         }
     }
 }
 
-/// The chain's first chunk granted.
-pub fn grant_first(subject: &mut Subject, random: &mut Xorshift) {
-    take_from_chain(subject, random, |_, _| 0);
+/// The chunk returned last granted.
+pub fn grant_last(subject: &mut Subject, random: &mut Xorshift) {
+    take_from_chain(subject, random, |length, _| length - 1);
 }
 
-/// A chunk inside the chain granted: as legal as its first.
+/// A chunk inside the chain granted, and those above it moved down: as legal as the last one.
 pub fn grant_inside_chain(subject: &mut Subject, random: &mut Xorshift) {
     take_from_chain(subject, random, |length, random| random.below(length));
 }
@@ -119,14 +135,14 @@ fn take_from_chain(
             let mut chain = head.chain.clone();
             let chunk = chain.remove(place(chain.len() as u32, random) as usize);
             head.set_chain(subject, &chain);
-            subject.set(head.slot(chunk), 1 + random.below(12));
+            head.set_state(subject, chunk, 1 + random.below(12));
         }
     }
 }
 
-/// A chunk taken off the chain that keeps its link, or is cleared: it is neither live nor
+/// A chunk taken off the chain that keeps its state, or is cleared: it is neither live nor
 /// returned. The length says what it said, or what is left.
-pub fn lose_link(subject: &mut Subject, random: &mut Xorshift) {
+pub fn lose_chunk(subject: &mut Subject, random: &mut Xorshift) {
     if let Some(mut head) = any_head(subject, random) {
         if !head.chain.is_empty() {
             let mut chain = head.chain.clone();
@@ -135,47 +151,104 @@ pub fn lose_link(subject: &mut Subject, random: &mut Xorshift) {
             head.set_chain(subject, &chain);
             match random.below(3) {
                 0 => subject.set(page_at(head.start) + 3, length),
-                1 => subject.set(head.slot(chunk), 0),
+                1 => head.set_state(subject, chunk, 0),
                 _ => {}
             }
         }
     }
 }
 
-/// The chain's end led back into the chain, to its end itself, or to a chunk that is not on it.
-pub fn close_chain(subject: &mut Subject, random: &mut Xorshift) {
+/// A chunk at two positions: it takes another one's place and keeps its own. The chunk that stood
+/// there keeps its state, or is live, or untouched.
+pub fn position_twice(subject: &mut Subject, random: &mut Xorshift) {
     if let Some(head) = any_head(subject, random) {
-        if let Some(&end) = head.chain.last() {
-            let to = match random.below(4) {
-                0 => end,
-                1 => head.chain[0],
-                2 => random.pick(&head.chain),
-                _ => random.below(head.handed_out + 2),
-            };
-            subject.set(head.slot(end), RETURNED + 1 + to);
-            let length = head.length.wrapping_add(random.below(3)).wrapping_sub(1);
-            subject.set(page_at(head.start) + 3, random.pick(&[head.length, length]));
+        if let (Some(one), Some(other)) = (head.position(random), head.position(random)) {
+            head.set_entry(subject, one, head.chain[other as usize]);
+            let group = 1 + random.below(12);
+            let state = random.pick(&[RETURNED + one, group, 0]);
+            head.set_state(subject, head.chain[one as usize], state);
         }
     }
 }
 
-/// Two chunks of the chain in each other's place, which is legal; or only their slots, which
-/// seldom is.
-pub fn cross_links(subject: &mut Subject, random: &mut Xorshift) {
+/// Two chunks with one position: a chunk of the chain, or a live one, gets the state of another.
+/// The length says what it said, or one more.
+pub fn same_position(subject: &mut Subject, random: &mut Xorshift) {
+    if let Some(head) = any_head(subject, random) {
+        if let (Some(one), Some(other)) = (head.position(random), head.position(random)) {
+            let live = head.live_chunk(subject, random);
+            let chunk = match random.below(2) {
+                0 => head.chain[one as usize],
+                _ => live.unwrap_or(head.chain[one as usize]),
+            };
+            head.set_state(subject, chunk, RETURNED + other);
+            if random.below(4) == 0 {
+                subject.set(page_at(head.start) + 3, head.length.wrapping_add(1));
+            }
+        }
+    }
+}
+
+/// A chunk named at or above the chain's length, be it above k or behind the zone's last chunk. With
+/// a greater length the same words are legal if the chunk has that position.
+pub fn entry_past_chain(subject: &mut Subject, random: &mut Xorshift) {
+    if let Some(head) = any_head(subject, random) {
+        let last = ZONE_SLOTS as u32 - 1;
+        let above = random.pick(&[
+            head.length,
+            head.length.saturating_add(1),
+            head.handed_out,
+            last,
+        ]);
+        let position = above.min(last);
+        let chunk = match random.below(3) {
+            0 => random.below(head.handed_out + 1),
+            1 => head.live_chunk(subject, random).unwrap_or(1),
+            _ => random.below(STATE + 1),
+        };
+        head.set_entry(subject, position, chunk);
+        if random.below(2) == 0 && (chunk as usize) < ZONE_SLOTS {
+            head.set_state(subject, chunk, RETURNED + position);
+            subject.set(page_at(head.start) + 3, head.length.wrapping_add(1));
+        }
+    }
+}
+
+/// A position that names a live chunk, an untouched one, one that no zone has, or any number.
+pub fn entry_of_another(subject: &mut Subject, random: &mut Xorshift) {
+    if let Some(head) = any_head(subject, random) {
+        if let Some(position) = head.position(random) {
+            let chunk = match random.below(4) {
+                0 => head.live_chunk(subject, random).unwrap_or(0),
+                1 => head.handed_out + random.below(3),
+                2 => random.pick(&[4_095, 4_096, 4_097, 8_192, STATE]),
+                _ => random.below(STATE + 1),
+            };
+            head.set_entry(subject, position, chunk);
+        }
+    }
+}
+
+/// Two chunks of the chain in each other's place, which is legal; or only the positions' chunks, or
+/// only the chunks' positions, which is not.
+pub fn cross_positions(subject: &mut Subject, random: &mut Xorshift) {
     if let Some(mut head) = any_head(subject, random) {
         if head.chain.len() >= 2 {
             let mut chain = head.chain.clone();
             let last = chain.len() - 1;
             let one = random.below(last as u32) as usize;
             let other = random.pick(&[one + 1, last]);
-            if random.below(3) == 0 {
-                let (at_one, at_other) = (head.slot(chain[one]), head.slot(chain[other]));
-                let (a, b) = (subject.get(at_one), subject.get(at_other));
-                subject.set(at_one, b);
-                subject.set(at_other, a);
-            } else {
-                chain.swap(one, other);
-                head.set_chain(subject, &chain);
+            chain.swap(one, other);
+            match random.below(4) {
+                0 => {
+                    head.set_entry(subject, one as u32, chain[one]);
+                    head.set_entry(subject, other as u32, chain[other]);
+                }
+                1 => {
+                    head.set_state(subject, chain[one], RETURNED + one as u32);
+                    head.set_state(subject, chain[other], RETURNED + other as u32);
+                }
+                _ => head.set_chain(subject, &chain),
             }
         }
     }
@@ -186,7 +259,8 @@ pub fn chain_untouched(subject: &mut Subject, random: &mut Xorshift) {
     if let Some(mut head) = any_head(subject, random) {
         let count = chunk_count(head.class);
         let chunk = random.pick(&[head.handed_out, count - 1, count, ZONE_SLOTS as u32 - 1]);
-        if chunk >= head.handed_out && (chunk as usize) < ZONE_SLOTS {
+        let has_room = head.chain.len() < ZONE_SLOTS;
+        if chunk >= head.handed_out && (chunk as usize) < ZONE_SLOTS && has_room {
             let mut chain = head.chain.clone();
             let at = random.below(chain.len() as u32 + 1) as usize;
             chain.insert(at, chunk);
@@ -200,14 +274,15 @@ pub fn chain_untouched(subject: &mut Subject, random: &mut Xorshift) {
     }
 }
 
-/// A zone with a chain said to have none, or with a shorter one.
+/// A zone with a chain said to have none, or a shorter one; what it says above that stays, or goes.
 pub fn forget_chain(subject: &mut Subject, random: &mut Xorshift) {
     if let Some(mut head) = any_head(subject, random) {
         let kept = random.below(head.chain.len() as u32 + 1);
-        head.first = match kept {
-            0 => 0,
-            _ => head.chain[head.chain.len() - kept as usize] + 1,
-        };
+        if random.below(2) == 0 {
+            for position in kept..head.chain.len() as u32 {
+                head.set_entry(subject, position, 0);
+            }
+        }
         head.length = random.pick(&[kept, head.length]);
         head.set(subject);
     }

@@ -1,26 +1,114 @@
 -- `slots::are_legal` meets its contract, part by part. Assumes nothing.
-use mathlib.Core.Path.{sym, _∙_}
+use Prim.Native.Nat.{ℕ, _*_}
+use mathlib.Core.Path.{sym, ap, _∙_}
+use mathlib.Core.List.{List}
 use native.Mathlib.Omega.{arith}
 use borrow.Author.Needs.{needs}
-use borrow.Author.Tests.{not-true, not-false}
-use Rattle.zone.proofs.Scans.{slots-illegal, slots-uncounted, slots-walked}
+use borrow.Author.Tests.{lt-ltb, le-ltb}
+use Rattle.lemmas.specs.Every.{every}
+use Rattle.zone.specs.Encoding.{slotCount, half}
+use Rattle.zone.specs.Decoding.{isNear}
+use Rattle.zone.proofs.Scans.{front, slots-full, slots-far, slots-uncounted, slots-placed}
 use Rattle.zone.proofs.slots.are_legal.Statement.{statement}
 use Rattle.zone.proofs.slots.are_legal.Tie as tie
+
+-- The places: the start, the survey of the slots from the chain's length on, and that of those below.
+abbrev start : tie.After-survey → tie.Start
+start c = c .before .before .before
+
+abbrev upper : tie.After-survey2 → tie.After-survey
+upper c = c .before .before .before .before
+
+abbrev lower : tie.After-struct-known4 → tie.After-survey2
+lower c = c .before .before .before .before
+
+-- The arguments.
+abbrev S : tie.After-survey → List ℕ
+S c = start c .args .slots .now
+
+abbrev K : tie.After-survey → ℕ
+K c = start c .args .touched
+
+abbrev M : tie.After-survey → ℕ
+M c = start c .args .chained
+
+mul-survey : tie.Need-mul-survey
+mul-survey c = search needs
+
+sub-survey : tie.Need-sub-survey
+sub-survey c = search needs
+
+part-survey-start : tie.Need-part-survey-start
+part-survey-start c = search needs
+
+part-survey-end : tie.Need-part-survey-end
+part-survey-end c = search needs
 
 survey-requires : tie.Need-survey-requires
 survey-requires c κs = search needs
 
 returns : tie.Need-returns
-returns c = slots-illegal _ _ _ (sym (c .before .before .survey .ensures .0) ∙ not-true _ (c .if1 .taken))
+returns c = let u = c .before .before in slots-full (S u) (K u) (M u) (sym (u .survey .ensures .1) ∙ le-ltb _ _ (c .if1 .taken))
+
+sub-survey-2 : tie.Need-sub-survey-2
+sub-survey-2 c = search needs
+
+part-survey-start-2 : tie.Need-part-survey-start-2
+part-survey-start-2 c = search needs
+
+part-survey-end-2 : tie.Need-part-survey-end-2
+part-survey-end-2 c = search needs
+
+survey-requires-2 : tie.Need-survey-requires-2
+survey-requires-2 c κs = search needs
 
 returns-2 : tie.Need-returns-2
-returns-2 c = slots-uncounted _ _ _ (λ e. omega (arith, e, c .before .before .before .before .survey .ensures .1))
+returns-2 c =
+    let l = c .before .before in
+    let u = upper l in slots-far (S u) (K u) (M u) (omega arith) (omega arith) (sym (l .survey2 .ensures .2) ∙ le-ltb _ _ (c .if2 .taken))
 
-follow-requires : tie.Need-follow-requires
-follow-requires c κs = (omega arith, sym (c .before .before .before .before .survey .ensures .0) ∙ not-false _ (c .before .before .if1 .left), omega arith)
+add-if3 : tie.Need-add-if3
+add-if3 c = search needs
+
+sub-if3 : tie.Need-sub-if3
+sub-if3 c = search needs
 
 returns-3 : tie.Need-returns-3
-returns-3 c = c .follow .ensures ∙ slots-walked _ _ _ (sym (c .before .before .before .before .before .survey .ensures .0) ∙ not-false _ (c .before .before .before .if1 .left)) (omega (arith, c .before .before .before .before .before .survey .ensures .1))
+returns-3 c =
+    let l = lower (c .before) in
+    let u = upper l in slots-uncounted (S u) (K u) (M u) (omega arith) (λ e. omega (arith, e, u .survey .ensures .0, l .survey2 .ensures .0))
+
+are-in-place-requires : tie.Need-are-in-place-requires
+are-in-place-requires c κs =
+    let l = lower (c .before) in
+    let u = upper l in
+    let near = sym (l .survey2 .ensures .2) ∙ lt-ltb (l .survey2 .result .seen) (half * slotCount) (omega arith) in
+    (omega arith, omega arith, ap (every isNear) (sym (front (S u) (M u))) ∙ near)
+
+returns-4 : tie.Need-returns-4
+returns-4 c =
+    let l = lower (c .before .before) in
+    let u = upper l in
+    let bare = sym (u .survey .ensures .1) ∙ lt-ltb (u .survey .result .seen) half (omega arith) in
+    c .are-in-place .ensures ∙ slots-placed (S u) (K u) (M u) (omega arith) bare (omega (arith, u .survey .ensures .0, l .survey2 .ensures .0))
 
 pub are-legal-spec : {M : Type 1} → statement M
-are-legal-spec = tie.close (tie.spec survey-requires returns returns-2 follow-requires returns-3)
+are-legal-spec =
+    tie.close
+    (tie.spec
+    mul-survey
+    sub-survey
+    part-survey-start
+    part-survey-end
+    survey-requires
+    returns
+    sub-survey-2
+    part-survey-start-2
+    part-survey-end-2
+    survey-requires-2
+    returns-2
+    add-if3
+    sub-if3
+    returns-3
+    are-in-place-requires
+    returns-4)

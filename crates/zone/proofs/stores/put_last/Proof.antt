@@ -1,0 +1,66 @@
+-- `stores::put_last` meets its contract. Assumes nothing.
+use Prim.Native.Nat.{ℕ, _+_}
+use mathlib.Core.List.{List}
+use mathlib.Core.Path.{ap, _∙_}
+use native.Mathlib.Omega.{arith}
+use lib.ListN.{set, length-set}
+use borrow.Author.Needs.{needs}
+use Rattle.zone.specs.Decoding.{chainedIn}
+use Rattle.zone.specs.Stores.{withEntry}
+use Prim.Native.Nat.{ℕ, _+_, _-_}
+use lib.ListN.{getD, set, length-set}
+use Rattle.zone.specs.Stores.{withState, withEntry}
+use Rattle.zone.proofs.stores.put_last.Statement.{statement}
+use Rattle.zone.proofs.stores.put_last.Tie as tie
+
+-- The places: the start, and the stores of the chunk's state and of the chain's entry.
+abbrev start : tie.After-set-state → tie.Start
+start c = c .before .before .before .before
+
+abbrev state : tie.After-set-entry → tie.After-set-state
+state c = c .before .before .before .before
+
+abbrev entry : tie.After-slice-known4 → tie.After-set-entry
+entry c = c .before .before
+
+slice-read-chained : tie.Need-slice-read-chained
+slice-read-chained c = search needs
+
+add-set-state : tie.Need-add-set-state
+add-set-state c = search needs
+
+set-state-requires : tie.Need-set-state-requires
+set-state-requires c κs = search needs
+
+set-entry-requires : tie.Need-set-entry-requires
+set-entry-requires c κs = search needs
+
+add-part : tie.Need-add-part
+add-part c = search needs
+
+slice-write-part : tie.Need-slice-write-part
+slice-write-part c = search needs
+
+same-length : tie.Need-same-length
+same-length c = simp length-set (omega (arith, entry c .set-entry .ensures .1))
+
+returns : tie.Need-returns
+returns c =
+    let e = entry c in
+    let s = state e in
+    let w : List ℕ = start s .args .part .now in
+    let stated = s .set-state .ensures .0 in
+    ap (λ (l : List ℕ). set l 3 (chainedIn w + 1)) (e .set-entry .ensures .0 ∙ ap (withEntry (chainedIn w) (start s .args .chunk)) stated)
+
+pub put-last-spec : {M : Type 1} → statement M
+put-last-spec =
+    tie.close
+    (tie.spec
+    slice-read-chained
+    add-set-state
+    set-state-requires
+    set-entry-requires
+    add-part
+    slice-write-part
+    same-length
+    returns)
