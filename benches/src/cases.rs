@@ -7,9 +7,15 @@ use tests::states::{zones_throughout, Plan};
 use tests::zones::{shuffle, zone_with};
 
 /// The greatest ratio with nothing but runs and direct blocks.
-const PAGES_BAR: f64 = 1.5;
+const PAGES_BAR: f64 = 1.4;
+/// The greatest ratio with zones of which half of the chunks are live and the others untouched.
+const HALF_LIVE_BAR: f64 = 2.5;
 /// The greatest ratio with full zones.
-const FULL_BAR: f64 = 8.0;
+const FULL_BAR: f64 = 4.0;
+/// The greatest ratio with zones of which half of the chunks are live and the others returned.
+const HALF_RETURNED_BAR: f64 = 7.0;
+/// The greatest ratio with zones of which every chunk was returned, in whatever order.
+const RETURNED_BAR: f64 = 10.0;
 /// The smallest arena that has bars: in a smaller one the header is most of the words.
 const BARS_FROM: u32 = 24;
 
@@ -46,16 +52,28 @@ pub fn cases(pages: u32) -> Vec<Case> {
         case("large blocks only", large_blocks(pages), barred(PAGES_BAR)),
     ];
     if pages >= ZONE_PAGES {
-        let zones = |name, zone: Zone, bar| case(name, zones_throughout(pages, &zone), bar);
+        let zones = |name, zone: Zone, bar| case(name, zones_throughout(pages, &zone), barred(bar));
         cases.extend([
-            zones("zones, half live, half untouched", half_live(), None),
-            zones("zones, half live, half returned", half_returned(), None),
-            zones("zones, full", full(), barred(FULL_BAR)),
-            zones("zones, all returned in ascending order", returned(), None),
+            zones(
+                "zones, half live, half untouched",
+                half_live(),
+                HALF_LIVE_BAR,
+            ),
+            zones(
+                "zones, half live, half returned",
+                half_returned(),
+                HALF_RETURNED_BAR,
+            ),
+            zones("zones, full", full(), FULL_BAR),
+            zones(
+                "zones, all returned in ascending order",
+                returned(),
+                RETURNED_BAR,
+            ),
             zones(
                 "zones, all returned in no order",
                 returned_in_no_order(),
-                None,
+                RETURNED_BAR,
             ),
         ]);
     }
@@ -92,7 +110,7 @@ fn returned() -> Zone {
     zone_with(CLASS, &vec![false; chunk_count(CLASS) as usize])
 }
 
-/// Where each link leads cannot be guessed by the processor here.
+/// Which slot a position leads to cannot be guessed by the processor here.
 fn returned_in_no_order() -> Zone {
     let mut zone = returned();
     shuffle(zone.chain.make_contiguous(), &mut Xorshift::new(1));
