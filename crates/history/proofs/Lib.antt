@@ -1,3 +1,4 @@
+pub mod Answers
 pub mod Determined
 pub mod Neat
 pub mod Sequence

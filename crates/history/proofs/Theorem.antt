@@ -1,40 +1,38 @@
 -- Demand 3, proved for any lent words on which every call leaves and answers what the rules say: two equations, `does` and `tells`.
 -- Assumes nothing.
-use Prim.Native.Nat.{ℕ, zero, suc, _+_, _*_, _≤_, _<_}
+use Prim.Native.Nat.{ℕ, _*_, _≤_, _<_}
 use mathlib.Core.Path.{_≡_, refl, sym, _∙_, ap, subst}
 use mathlib.Core.Logic.{_⊎_, inl, inr}
 use mathlib.Core.List.{List, [], _∷_, _++_, map, List·Memᴰ}
-use mathlib.Core.Option.{Option, none, some}
-use mathlib.Core.Bool.{Bool, true, false, _&&_}
+use mathlib.Core.Option.{some}
+use mathlib.Core.Bool.{true, false, _&&_}
 use native.Mathlib.Omega.{arith}
 use lib.Dec.{ltb, leb}
 use borrow.Author.Tests.{leb-true}
-use Rattle.lemmas.proofs.Cases.{bool, true-false, and-left, and-right, some-inj}
+use Rattle.lemmas.proofs.Cases.{bool, true-false, and-left, and-right}
 use Rattle.model.specs.declared.Call.{Call}
 use Rattle.model.specs.declared.Operation.{Operation}
 use Rattle.model.specs.declared.Operation.the-variants.{Allocate, Free, Reset}
 use Rattle.model.specs.declared.Refusal.the-variants.{NoRoom}
 use Rattle.model.specs.declared.Answer.{Answer}
-use Rattle.model.specs.declared.Answer.the-variants.{Granted, Refused}
-use Rattle.model.specs.Sizes.{pagesFor}
 use Rattle.model.specs.Arena.{Segment, run, direct, zone, total, retold, Each}
 use Rattle.model.specs.Zone.{Zone}
 use Rattle.model.specs.State.{State, freshState}
-use Rattle.model.specs.PageMap.{Occupancy, occupancy, PageMap, pageMap, idle, idleZone, chunk, blockAt}
+use Rattle.model.specs.PageMap.{occupancy, pageMap, idle, idleZone, blockAt}
 use Rattle.model.specs.Valid.{ValidSegment, Valid}
 use Rattle.model.specs.Pages.{joined}
-use Rattle.model.specs.Calls.{Action, group, trim, Command, init, act, Outcome, isRefused, groupOk, sizeOk}
+use Rattle.model.specs.Calls.{Action, group, trim, Command, init, act, isRefused}
 use Rattle.model.specs.Trim.{trimmed}
-use Rattle.model.specs.Perform.{asked, serve, Metadata, wordsFor, holding, initialise, perform}
+use Rattle.model.specs.Perform.{asked, serve, Metadata, wordsFor, holding, perform}
 use Rattle.model.proofs.Joins.{joined-retold}
 use Rattle.model.proofs.Validity.{fresh-valid, serve-valid, perform-leaves}
 use Rattle.model.proofs.Disjoint.{all-sized}
-use Rattle.history.specs.Ledger.{Held, Effect, begins, nothing, unlessRefused, effect, applied}
-use Rattle.history.specs.Rows.{Row}
-use Rattle.history.specs.Demand.{mapOf, mapAt, History, after, afterAll, NoStart, asks, Allowed, Sequence, answersTo, Exactly, ExactCall, Exact, Alike, Demand3}
+use Rattle.history.specs.Ledger.{begins, unlessRefused, effect, applied}
+use Rattle.history.specs.Demand.{mapOf, mapAt, History, after, afterAll, NoStart, Allowed, Sequence, answersTo, ExactCall, Exact, Alike, Demand3}
+use Rattle.history.proofs.Answers.{refusal-told, grant-told}
 use Rattle.history.proofs.Determined.{same-trimmed}
 use Rattle.history.proofs.Neat.{Neat, Fit, joined-neat}
-use Rattle.history.proofs.Sequence.{AllowedOn, mapAfter, sayAt, call-map, call-says, allowed-same, call-neat, ExactOn, request-exact}
+use Rattle.history.proofs.Sequence.{AllowedOn, mapAfter, sayAt, call-map, call-says, allowed-same, call-neat, request-exact}
 use Rattle.history.proofs.Ledger.{Entry, told, find, Single, After, unchanged, after-action}
 use Rattle.history.proofs.Growth.{Grew, grew-none, grew-more, grew-same}
 
@@ -103,14 +101,13 @@ module _ (B : Type 0) (view : B → Metadata) (next : B → Command → B) (says
       let rest = same-answers q j k (next b (act (group c))) (next d (act (group c))) ((asked g o s) .after) ((asked g o t) .after) (on-next j b s (group c) e) (on-next k d t (group c) f) maps (a .1) in
       λ i. said i ∷ rest i
 
-  exact-call : (k : ℕ) (b : B) (s : State) (g : ℕ) (q : Operation) → On k b s → Neat false (pageMap s) → AllowedOn s g q → ExactCall B view next says b g q
-  exact-call k b s g (Allocate n) e h a = λ t u m p.
+  exact-call : (k : ℕ) (b : B) (s : State) (g : ℕ) (q : Operation) → On k b s → Neat false (pageMap s) → AllowedOn s g q → ExactCall B view next says b (pageMap s) g q
+  exact-call k b s g (Allocate n) e h a = λ t u.
       let x = request-exact s g n h a t u in
-      let mm : m ≡ pageMap s = some-inj (sym p ∙ on-map k b s e) in
-      let told-so = on-says k b s (group (record { group = g; operation = Allocate n })) e in
+      let said = on-says k b s (group (record { group = g; operation = Allocate n })) e in
       record {
-        refused = λ w. told-so ∙ x .refused (λ r. w (subst (Row (pagesFor n)) (sym mm) r));
-        granted = λ r. let y = x .granted (subst (Row (pagesFor n)) mm r) in (y .0, told-so ∙ y .1);
+        refused = λ w. refusal-told NoRoom _ .1 (said ∙ x .refused w);
+        granted = λ r. let y = x .granted r in (y .0, grant-told (y .0) _ .1 (said ∙ y .1));
       }
   exact-call k b s g (Free o) e h a = tt
   exact-call k b s g Reset e h a = tt
@@ -119,7 +116,7 @@ module _ (B : Type 0) (view : B → Metadata) (next : B → Command → B) (says
   all-exact [] k b s e h a = tt
   all-exact (c ∷ q) k b s e h a =
       let al = allowed-on k b s (c .group) (c .operation) e (a .0) in (
-        exact-call k b s (c .group) (c .operation) e h al,
+        (pageMap s, on-map k b s e, exact-call k b s (c .group) (c .operation) e h al),
         all-exact q k (next b (act (group c))) ((asked (c .group) (c .operation) s) .after) (on-next k b s (group c) e) (call-neat s (c .group) (c .operation) h al) (a .1),
       )
 

@@ -7,18 +7,17 @@ use mathlib.Core.Path.{_≡_}
 use mathlib.Core.Logic.{_⊎_}
 use mathlib.Core.List.{List, [], _∷_, _++_, List·Memᴰ}
 use mathlib.Core.Option.{Option, none, some}
-use mathlib.Core.Bool.{Bool, true, false}
+use mathlib.Core.Bool.{true, false}
 use Rattle.model.specs.declared.Call.{Call}
 use Rattle.model.specs.declared.Operation.{Operation}
 use Rattle.model.specs.declared.Operation.the-variants.{Allocate, Free, Reset}
-use Rattle.model.specs.declared.Refusal.the-variants.{NoRoom}
 use Rattle.model.specs.declared.Answer.{Answer}
-use Rattle.model.specs.declared.Answer.the-variants.{Granted, Refused}
 use Rattle.model.specs.Sizes.{largeSize, pagesFor}
 use Rattle.model.specs.State.{State}
 use Rattle.model.specs.PageMap.{PageMap, pageMap, chunk, blockAt}
-use Rattle.model.specs.Calls.{Action, group, trim, Command, init, act, isRefused, groupOk, sizeOk}
+use Rattle.model.specs.Calls.{group, trim, Command, init, act, isRefused, groupOk, sizeOk}
 use Rattle.model.specs.Perform.{Metadata}
+use Rattle.history.specs.Answers.{RefusedBy, GrantedAt}
 use Rattle.history.specs.Ledger.{Held, begins, effect, applied}
 use Rattle.history.specs.Rows.{Row}
 
@@ -56,7 +55,8 @@ module _ (B : Type 0) (view : B → Metadata) (next : B → Command → B) (says
   abbrev pub asks : ℕ → Operation → Command
   asks g q = act (group (record { group = g; operation = q }))
 
-  -- A request from 8,192 bytes up, or a return by which no chunk comes back.
+  -- A request from 8,192 bytes up, or a return by which no chunk comes back: if it names a live chunk, it is refused. (Where words have
+  -- no page map this asks nothing, so that more sequences are claimed of; the claim itself gives a page map before every call.)
   abbrev pub Allowed : B → ℕ → Operation → Type 0
   Allowed b g (Allocate n) = largeSize ≤ n
   Allowed b g (Free o) = (m : PageMap) → mapAt b ≡ some m → (c i h : ℕ) → blockAt m o ≡ some (chunk c i h) → isRefused (says b (asks g (Free o))) ≡ true
@@ -73,20 +73,22 @@ module _ (B : Type 0) (view : B → Metadata) (next : B → Command → B) (says
 
   -- A request of legal group and size is refused, by 6, exactly when no row of as many pages as it needs is clear.
   pub record Exactly (b : B) (g n : ℕ) (m : PageMap) : Type 0 where
-    pub refused : (Row (pagesFor n) m → ⊥) → says b (asks g (Allocate n)) ≡ Refused NoRoom
-    pub granted : Row (pagesFor n) m → (o : ℕ) × (says b (asks g (Allocate n)) ≡ Granted o)
+    pub refused : (Row (pagesFor n) m → ⊥) → RefusedBy 6 (says b (asks g (Allocate n)))
+    pub granted : Row (pagesFor n) m → (o : ℕ) × GrantedAt o (says b (asks g (Allocate n)))
 
-  abbrev pub ExactCall : B → ℕ → Operation → Type 0
-  ExactCall b g (Allocate n) = groupOk g ≡ true → sizeOk n ≡ true → (m : PageMap) → mapAt b ≡ some m → Exactly b g n m
-  ExactCall b g (Free o) = Unit {0}
-  ExactCall b g Reset = Unit {0}
+  abbrev pub ExactCall : B → PageMap → ℕ → Operation → Type 0
+  ExactCall b m g (Allocate n) = groupOk g ≡ true → sizeOk n ≡ true → Exactly b g n m
+  ExactCall b m g (Free o) = Unit {0}
+  ExactCall b m g Reset = Unit {0}
 
+  -- Just before every call of the sequence the words have a page map, and the rule on refusals speaks of that one.
   abbrev pub Exact : B → List Call → Type 0
   Exact b [] = Unit {0}
-  Exact b (c ∷ l) = ExactCall b (c .group) (c .operation) × Exact (next b (act (group c))) l
+  Exact b (c ∷ l) = ((m : PageMap) × (mapAt b ≡ some m) × ExactCall b m (c .group) (c .operation)) × Exact (next b (act (group c))) l
 
   -- What is claimed of the words trimmed at the split point, m, and of those trimmed at the end, e: the same page map, and for
-  -- every such sequence the same list of answers, with refusals exactly as said.
+  -- every such sequence the same list of answers, with refusals exactly as said. (Equal answers are of one kind, and have the same
+  -- offset, number and count where they have one.)
   pub record Alike (m e : B) : Type 0 where
     pub map : (x : PageMap) × (mapAt m ≡ some x) × (mapAt e ≡ some x)
     pub answers : (q : List Call) → Sequence m q ⊎ Sequence e q → answersTo m q ≡ answersTo e q

@@ -1,3 +1,4 @@
+pub mod Answers
 pub mod Ledger
 pub mod Rows
 pub mod Demand
