@@ -1,40 +1,38 @@
 -- The ledger of a list of calls agrees with the live blocks of the states that the calls leave: one call after another. Assumes
 -- nothing.
-use Prim.Native.Nat.{ℕ, zero, suc, _+_, _*_, _≤_, _<_}
-use mathlib.Core.Path.{_≡_, refl, sym, _∙_, ap, subst}
-use mathlib.Core.List.{List, [], _∷_, _++_, map}
+use Prim.Native.Nat.{ℕ}
+use mathlib.Core.Path.{_≡_, refl, sym, _∙_, ap}
+use mathlib.Core.Logic.{_⊎_, inl, inr}
+use mathlib.Core.List.{List, [], _∷_, map, List·Memᴰ, List·Memᴰ·not-nil, List·Memᴰ·head, List·Memᴰ·tail, List·Memᴰ·cases-cons, Memᴰ·map, Memᴰ·of-map}
 use mathlib.Core.Option.{Option, none, some, Option·none-ne-some}
-use mathlib.Core.Bool.{Bool, true, false, cond, not}
+use mathlib.Core.Bool.{Bool, cond, not}
 use native.Mathlib.Omega.{arith}
-use lib.Dec.{ltb, leb, eqb}
+use lib.Dec.{leb, eqb}
 use lib.ListN.{length}
-use borrow.Author.Tests.{leb-true, eqb-true, eqb-false, eq-eqb, ne-eqb}
+use borrow.Author.Tests.{eqb-true, eqb-false, eq-eqb, ne-eqb}
 use Rattle.lemmas.specs.Keep.{keep}
-use Rattle.lemmas.proofs.Cases.{bool, either, true-false}
+use Rattle.lemmas.proofs.Cases.{bool, some-inj}
 use Rattle.model.specs.declared.Operation.{Operation}
 use Rattle.model.specs.declared.Operation.the-variants.{Allocate, Free, Reset}
-use Rattle.model.specs.declared.Refusal.{Refusal}
-use Rattle.model.specs.declared.Answer.{Answer}
-use Rattle.model.specs.declared.Answer.the-variants.{Granted, Refused, Done, Counted}
 use Rattle.model.specs.Sizes.{roomFor}
-use Rattle.model.specs.Arena.{Segment, total, Each}
+use Rattle.model.specs.Arena.{total}
 use Rattle.model.specs.State.{State}
-use Rattle.model.specs.PageMap.{occupancy, pageMap, idle, idleZone, Block, groupOf, roomOf, blockAt}
+use Rattle.model.specs.PageMap.{occupancy, PageMap, pageMap, idle, idleZone, Block, groupOf, roomOf, blockAt}
 use Rattle.model.specs.Valid.{Valid}
 use Rattle.model.specs.Pages.{joined}
-use Rattle.model.specs.Calls.{Action, group, trim, query, listing, Outcome, answers, refuses, isRefused, grantOf, groupOk}
+use Rattle.model.specs.Calls.{Action, group, trim, query, listing, Outcome, grantOf, groupOk}
 use Rattle.model.specs.Allocate.{allocate}
-use Rattle.model.specs.Free.{freed, freeBlock, free, freedAll, offsetsOf, reset}
+use Rattle.model.specs.Free.{freed, freeBlock, free, reset}
 use Rattle.model.specs.Trim.{trimmed}
 use Rattle.model.specs.Listing.{listingText}
 use Rattle.model.specs.Perform.{asked, serve}
 use Rattle.model.proofs.Joins.{joined-retold, total-joined}
-use Rattle.model.proofs.Blocks.{Sized, joined-blocks, Only}
+use Rattle.model.proofs.Blocks.{joined-blocks}
 use Rattle.model.proofs.Allocated.{Allocated, gives, denies, allocated, group-least}
 use Rattle.model.proofs.Freed.{freed-only}
 use Rattle.model.proofs.Reset.{isOf, without, reset-blocks}
 use Rattle.model.proofs.Disjoint.{all-sized}
-use Rattle.history.specs.Ledger.{Held, Effect, nothing, ofGrant, unlessRefused, ofOperation, ofAction, applied}
+use Rattle.history.specs.Ledger.{Held, Effect, nothing, ofGrant, ofOperation, ofAction, applied, Agrees}
 
 -- An entry of a ledger that knows what block it is; what the public ledger tells of it is `told`.
 pub record Entry : Type 0 where
@@ -54,6 +52,49 @@ find o (e ∷ r) = cond (eqb (e .offset) o) (some (e .block)) (find o r)
 abbrev pub Single : List Entry → Type 0
 Single [] = Unit {0}
 Single (e ∷ r) = (find (e .offset) r ≡ none) × Single r
+
+-- An entry is found at its offset, what is found is an entry, and two entries with one offset are one.
+entry-found : (l : List Entry) → Single l → (e : Entry) → List·Memᴰ e l → find (e .offset) l ≡ some (e .block)
+entry-found [] s e i = absurd (List·Memᴰ·not-nil i)
+entry-found (x ∷ r) s e i = go (entry-found r (s .1) e) (List·Memᴰ·cases-cons i)
+  where
+    go : (List·Memᴰ e r → find (e .offset) r ≡ some (e .block)) → (e ≡ x) ⊎ List·Memᴰ e r → find (e .offset) (x ∷ r) ≡ some (e .block)
+    go later (inl p) = rw (eq-eqb (x .offset) (e .offset) (ap (λ k. k .offset) (sym p))) (ap (λ k. some (k .block)) (sym p))
+    go later (inr j) = bool (eqb (x .offset) (e .offset))
+        (λ t. absurd (Option·none-ne-some (e .block) (sym (s .0) ∙ ap (λ k. find k r) (eqb-true (x .offset) (e .offset) t) ∙ later j)))
+        (λ t. rw t (later j))
+
+found-entry : (o : ℕ) (l : List Entry) (b : Block) → find o l ≡ some b → (e : Entry) × List·Memᴰ e l × (e .offset ≡ o) × (e .block ≡ b)
+found-entry o [] b h = absurd (Option·none-ne-some b h)
+found-entry o (x ∷ r) b h = bool (eqb (x .offset) o)
+    (λ t. (x, List·Memᴰ·head refl, eqb-true (x .offset) o t, some-inj (rw t at h)))
+    (λ t. let k = found-entry o r b (rw t at h) in (k .0, List·Memᴰ·tail (k .1), k .2, k .3))
+
+one-entry : (l : List Entry) → Single l → (e d : Entry) → List·Memᴰ e l → List·Memᴰ d l → e .offset ≡ d .offset → e ≡ d
+one-entry [] s e d i j q = absurd (List·Memᴰ·not-nil i)
+one-entry (x ∷ r) s e d i j q = go (one-entry r (s .1) e d) (List·Memᴰ·cases-cons i) (List·Memᴰ·cases-cons j)
+  where
+    other : (k : Entry) → x .offset ≡ k .offset → List·Memᴰ k r → ⊥
+    other k p n = Option·none-ne-some (k .block) (sym (s .0) ∙ ap (λ o. find o r) p ∙ entry-found r (s .1) k n)
+
+    go : (List·Memᴰ e r → List·Memᴰ d r → e .offset ≡ d .offset → e ≡ d) → (e ≡ x) ⊎ List·Memᴰ e r → (d ≡ x) ⊎ List·Memᴰ d r → e ≡ d
+    go later (inl p) (inl t) = p ∙ sym t
+    go later (inl p) (inr n) = absurd (other d (ap (λ k. k .offset) (sym p) ∙ q) n)
+    go later (inr m) (inl t) = absurd (other e (ap (λ k. k .offset) (sym t) ∙ sym q) m)
+    go later (inr m) (inr n) = later m n q
+
+-- A ledger whose entries are the live blocks of a page map, told.
+pub entries-agree : (l : List Entry) (m : PageMap) → Single l → ((o : ℕ) → blockAt m o ≡ find o l) → Agrees (map told l) m
+entries-agree l m s agree = record {
+  blocks = λ o g r. (
+    λ h. let x = Memᴰ·of-map told l (h .1) in let e = x .0 in
+        (e .block, agree o ∙ ap (λ q. find q l) (sym (h .2) ∙ ap (λ k. k .offset) (sym (x .2))) ∙ entry-found l s e (x .1), ap (λ k. k .group) (x .2) ∙ h .3, ap (λ k. k .room) (x .2) ∙ h .4),
+    λ b. let x = found-entry o l (b .0) (sym (agree o) ∙ b .1) in
+        (told (x .0), Memᴰ·map told (x .1), x .2, ap groupOf (x .3) ∙ b .2, ap roomOf (x .3) ∙ b .3),
+  );
+  single = λ h k i j q. let x = Memᴰ·of-map told l i in let y = Memᴰ·of-map told l j in
+      sym (x .2) ∙ ap told (one-entry l s (x .0) (y .0) (x .1) (y .1) (ap (λ t. t .offset) (x .2) ∙ q ∙ ap (λ t. t .offset) (sym (y .2)))) ∙ y .2;
+}
 
 abbrev pub kept : (Held → Bool) → List Entry → List Entry
 kept f l = keep (λ e. f (told e)) l

@@ -2,7 +2,7 @@
 -- takes a direct block and a chunk of a new zone and gives both back, with refused calls between. Assumes nothing.
 use Prim.Native.Nat.{ℕ}
 use mathlib.Core.Path.{_≡_, refl}
-use mathlib.Core.List.{List, [], _∷_}
+use mathlib.Core.List.{[], _∷_}
 use mathlib.Core.Option.{none}
 use Rattle.lemmas.specs.Keep.{keep}
 use Rattle.lemmas.specs.Times.{remove}
@@ -11,10 +11,9 @@ use Rattle.model.specs.declared.Operation.the-variants.{Allocate, Free, Reset}
 use Rattle.model.specs.declared.Answer.{Answer}
 use Rattle.model.specs.Sizes.{step, rounded, classOf, room, chunks}
 use Rattle.model.specs.Pages.{claim}
-use Rattle.model.specs.Calls.{Action, group, trim, query, Command, init, act}
+use Rattle.model.specs.Calls.{group, trim, query, Command, init, act}
 use Rattle.model.specs.Perform.{Metadata, perform}
-use Rattle.history.specs.Ledger.{Held}
-use Rattle.history.specs.Demand.{History, after, afterAll, asks, Demand3}
+use Rattle.history.specs.Demand.{History, afterAll, begun, asks, Demand3}
 use Rattle.history.proofs.Theorem.{demand-3}
 
 abbrev self : Metadata → Metadata
@@ -33,7 +32,7 @@ abbrev ask : ℕ → Operation → Command
 ask = asks Metadata self leaves says
 
 pub at-split : History Metadata self leaves says
-at-split = afterAll Metadata self leaves says (after Metadata self leaves says (record { lent = record { words = 13504; state = none }; live = []; calls = 0 }) (init 24)) (ask 1 (Allocate 100) ∷ [])
+at-split = afterAll Metadata self leaves says (begun Metadata self leaves says (record { words = 13504; state = none }) 24) (ask 1 (Allocate 100) ∷ [])
 
 pub at-end : History Metadata self leaves says
 at-end = afterAll Metadata self leaves says at-split (ask 2 (Allocate 9000) ∷ ask 3 (Allocate 8000) ∷ init 300 ∷ ask 4 (Free 32768) ∷ ask 2 (Free 32768) ∷ act (query 0) ∷ ask 3 Reset ∷ act trim ∷ [])

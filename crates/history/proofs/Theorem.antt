@@ -1,5 +1,5 @@
 -- Demand 3, proved for any lent words on which every call leaves and answers what the rules say: two equations, `does` and `tells`.
--- Assumes nothing.
+-- And the live blocks that it speaks of are those of the page map. Assumes nothing.
 use Prim.Native.Nat.{ℕ, _*_, _≤_, _<_}
 use mathlib.Core.Path.{_≡_, refl, sym, _∙_, ap, subst}
 use mathlib.Core.Logic.{_⊎_, inl, inr}
@@ -27,13 +27,13 @@ use Rattle.model.specs.Perform.{asked, serve, Metadata, wordsFor, holding, perf
 use Rattle.model.proofs.Joins.{joined-retold}
 use Rattle.model.proofs.Validity.{fresh-valid, serve-valid, perform-leaves}
 use Rattle.model.proofs.Disjoint.{all-sized}
-use Rattle.history.specs.Ledger.{begins, unlessRefused, effect, applied}
-use Rattle.history.specs.Demand.{mapOf, mapAt, History, after, afterAll, NoStart, Allowed, Sequence, answersTo, ExactCall, Exact, Alike, Demand3}
+use Rattle.history.specs.Ledger.{begins, unlessRefused, effect, applied, Agrees}
+use Rattle.history.specs.Demand.{mapOf, mapAt, History, after, afterAll, begun, NoStart, Allowed, Sequence, answersTo, ExactCall, Exact, Alike, Demand3, LedgerAgrees}
 use Rattle.history.proofs.Answers.{refusal-told, grant-told}
 use Rattle.history.proofs.Determined.{same-trimmed}
 use Rattle.history.proofs.Neat.{Neat, Fit, joined-neat}
 use Rattle.history.proofs.Sequence.{AllowedOn, mapAfter, sayAt, call-map, call-says, allowed-same, call-neat, request-exact}
-use Rattle.history.proofs.Ledger.{Entry, told, find, Single, After, unchanged, after-action}
+use Rattle.history.proofs.Ledger.{Entry, told, find, Single, entries-agree, After, unchanged, after-action}
 use Rattle.history.proofs.Growth.{Grew, grew-none, grew-more, grew-same}
 
 -- What joining asks of the page map of valid segments.
@@ -201,7 +201,7 @@ module _ (B : Type 0) (view : B → Metadata) (next : B → Command → B) (says
     later = omega arith;
   }
 
-  first-reached : (b : B) (n : ℕ) → isRefused (says b (init n)) ≡ false → Reached n 0 [] (after B view next says (record { lent = b; live = []; calls = 0 }) (init n))
+  first-reached : (b : B) (n : ℕ) → isRefused (says b (init n)) ≡ false → Reached n 0 [] (begun B view next says b n)
   first-reached b n h =
       let S = started (view b) n (ap isRefused (sym (tells b (init n))) ∙ h) in
       record {
@@ -226,7 +226,7 @@ module _ (B : Type 0) (view : B → Metadata) (next : B → Command → B) (says
   pub demand-3 : Demand3 B view next says
   unfolding Demand3
   demand-3 b n first stretch h starts early all =
-      let start : History B view next says = after B view next says (record { lent = b; live = []; calls = 0 }) (init n) in
+      let start : History B view next says = begun B view next says b n in
       let split : History B view next says = afterAll B view next says start first in
       let parts = split-starts first stretch start starts in
       let rs = reach-all n 0 [] first start (first-reached b n h) (parts .0) in
@@ -236,3 +236,13 @@ module _ (B : Type 0) (view : B → Metadata) (next : B → Command → B) (says
       (λ x i. subst (List·Memᴰ x) (re .live) (all x (subst (List·Memᴰ x) (sym (rs .live)) i))) in
       alike (rs .words) (re .words) (split .lent) ((afterAll B view next says split stretch) .lent) (rs .state) (re .state) (rs .on) (re .on) (rs .valid) (re .valid)
       (λ o. re .agree o ∙ ap (find o) same ∙ sym (rs .agree o)) (re .size ∙ sym (rs .size))
+
+  -- The live blocks that it speaks of are those of the page map.
+  pub ledger-agrees : LedgerAgrees B view next says
+  unfolding LedgerAgrees
+  ledger-agrees b n calls h starts =
+      let start : History B view next says = begun B view next says b n in
+      let end : History B view next says = afterAll B view next says start calls in
+      let r = reach-all n 0 [] calls start (first-reached b n h) starts in
+      let m = pageMap (r .state) in
+      (m, on-map (r .words) (end .lent) (r .state) (r .on), subst (λ l. Agrees l m) (sym (r .live)) (entries-agree (r .entries) m (r .single) (r .agree)))

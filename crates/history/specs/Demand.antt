@@ -1,7 +1,7 @@
 -- Demand 3 of the customer's letter, as one claim about a whole list of calls on the same lent words. It is stated over any kind B
 -- of lent words: `view` says how many words there are and which state they encode, `next` what a call leaves, `says` what it
--- answers. `Demand3` is proved for every B on which a call leaves and answers what the rules say (proofs/Theorem.antt). Assumes
--- nothing.
+-- answers. `Demand3`, and `LedgerAgrees` about the live blocks that it speaks of, are proved for every B on which a call leaves and
+-- answers what the rules say (proofs/Theorem.antt). Assumes nothing.
 use Prim.Native.Nat.{ℕ, suc, _≤_, _<_}
 use mathlib.Core.Path.{_≡_}
 use mathlib.Core.Logic.{_⊎_}
@@ -18,7 +18,7 @@ use Rattle.model.specs.PageMap.{PageMap, pageMap, chunk, blockAt}
 use Rattle.model.specs.Calls.{group, trim, Command, init, act, isRefused, groupOk, sizeOk}
 use Rattle.model.specs.Perform.{Metadata}
 use Rattle.history.specs.Answers.{RefusedBy, GrantedAt}
-use Rattle.history.specs.Ledger.{Held, begins, effect, applied}
+use Rattle.history.specs.Ledger.{Held, begins, effect, applied, Agrees}
 use Rattle.history.specs.Rows.{Row}
 
 -- The page map of the state that words encode.
@@ -44,6 +44,10 @@ module _ (B : Type 0) (view : B → Metadata) (next : B → Command → B) (says
   abbrev pub afterAll : History → List Command → History
   afterAll w [] = w
   afterAll w (c ∷ l) = afterAll (after w c) l
+
+  -- Words b after a start of n pages, which is call number 0.
+  abbrev pub begun : B → ℕ → History
+  begun b n = after (record { lent = b; live = []; calls = 0 }) (init n)
 
   -- No further start, unless that is refused.
   abbrev pub NoStart : History → List Command → Type 0
@@ -101,7 +105,7 @@ module _ (B : Type 0) (view : B → Metadata) (next : B → Command → B) (says
   -- and the calls from there to the end, the stretch.
   unfoldable pub Demand3 : Type 0
   Demand3 = (b : B) (n : ℕ) (first stretch : List Command) →
-      let start : History = after (record { lent = b; live = []; calls = 0 }) (init n) in
+      let start : History = begun b n in
       let split : History = afterAll start first in
       let end : History = afterAll split stretch in
       isRefused (says b (init n)) ≡ false →
@@ -112,3 +116,15 @@ module _ (B : Type 0) (view : B → Metadata) (next : B → Command → B) (says
       ((h : Held) → List·Memᴰ h (split .live) → List·Memᴰ h (end .live)) →
       -- trimming at the end leaves what trimming at the split point, on a copy of the words, would have left
       Alike (next (split .lent) (act trim)) (next (end .lent) (act trim))
+
+  -- Demand 3 speaks of demand 2's live blocks: after a start that is not refused, and any calls without a further start that is not
+  -- refused, the words have a page map, and the blocks that calls and answers tell are its live blocks. As this is so of every list, it
+  -- is so after each call of one: a start leaves no block live; a request that is granted makes one block live, at its offset, with its
+  -- group and room; that block comes back with a return that names its offset, or with a reset of its group, neither refused; nothing
+  -- else makes a block live or ends it.
+  unfoldable pub LedgerAgrees : Type 0
+  LedgerAgrees = (b : B) (n : ℕ) (calls : List Command) →
+      let end : History = afterAll (begun b n) calls in
+      isRefused (says b (init n)) ≡ false →
+      NoStart (begun b n) calls →
+      (m : PageMap) × (mapAt (end .lent) ≡ some m) × Agrees (end .live) m

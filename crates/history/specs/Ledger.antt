@@ -1,15 +1,18 @@
--- The live blocks of a list of calls, told from the calls and their answers alone (document 01, "Demand 3, word by word").
--- Assumes nothing.
+-- The live blocks of a list of calls, told from the calls and their answers alone (document 01, "Demand 3, word by word"), and what
+-- it is that they are those of a page map. Assumes nothing.
 use Prim.Native.Nat.{ℕ}
-use mathlib.Core.List.{List, [], _∷_}
+use mathlib.Core.Path.{_≡_}
+use mathlib.Core.Logic.{_↔_}
+use mathlib.Core.List.{List, [], _∷_, List·Memᴰ}
 use mathlib.Core.Option.{Option, none, some}
-use mathlib.Core.Bool.{Bool, true, false, cond, not}
+use mathlib.Core.Bool.{cond, not}
 use lib.Dec.{eqb}
 use Rattle.lemmas.specs.Keep.{keep}
 use Rattle.model.specs.declared.Operation.{Operation}
 use Rattle.model.specs.declared.Operation.the-variants.{Allocate, Free, Reset}
 use Rattle.model.specs.declared.Answer.{Answer}
 use Rattle.model.specs.Sizes.{roomFor}
+use Rattle.model.specs.PageMap.{PageMap, Block, groupOf, roomOf, blockAt}
 use Rattle.model.specs.Calls.{Action, group, trim, query, listing, Command, init, act, isRefused, grantOf}
 
 -- A live block: the number of the call that was granted it, its offset, its group and its room. The number tells a block from
@@ -62,3 +65,15 @@ applied i (grants o g r) l = record { serial = i; offset = o; group = g; room = 
 applied i (ends o) l = keep (λ h. not (eqb (h .offset) o)) l
 applied i (endsAll g) l = keep (λ h. not (eqb (h .group) g)) l
 applied i nothing l = l
+
+-- A block that is held has this offset, group and room; a live block of the page map begins at this offset, with this group and room.
+abbrev pub HeldAt : List Held → ℕ → ℕ → ℕ → Type 0
+HeldAt l o g r = (h : Held) × List·Memᴰ h l × (h .offset ≡ o) × (h .group ≡ g) × (h .room ≡ r)
+
+abbrev pub LiveAt : PageMap → ℕ → ℕ → ℕ → Type 0
+LiveAt m o g r = (b : Block) × (blockAt m o ≡ some b) × (groupOf b ≡ g) × (roomOf b ≡ r)
+
+-- The blocks that are held are the live blocks of the page map, and no two of them have one offset.
+pub record Agrees (l : List Held) (m : PageMap) : Type 0 where
+  pub blocks : (o g r : ℕ) → HeldAt l o g r ↔ LiveAt m o g r
+  pub single : (h k : Held) → List·Memᴰ h l → List·Memᴰ k l → h .offset ≡ k .offset → h ≡ k

@@ -17,8 +17,8 @@ use Rattle.model.specs.Perform.{serve, wordsFor}
 use Rattle.model.proofs.Validity.{serve-valid}
 use Rattle.model.proofs.Totals.{serve-total}
 use Rattle.model.proofs.Disjoint as model
-use Rattle.history.specs.Demand.{Demand3}
-use Rattle.history.proofs.Theorem.{demand-3}
+use Rattle.history.specs.Demand.{Demand3, LedgerAgrees}
+use Rattle.history.proofs.Theorem.{demand-3, ledger-agrees}
 use Rattle.metadata.specs.Encoding.{encode, BeginsWith}
 use Rattle.metadata.specs.Decoding.{stateOf}
 use Rattle.metadata.proofs.States.{encode-long}
@@ -55,6 +55,11 @@ length-unchanged w c = same-length w c
 pub words-demand-3 : Demand3 (List ℕ) viewOf metaAfter answerOf
 unfolding answerOf
 words-demand-3 = demand-3 (List ℕ) viewOf metaAfter answerOf view-after (λ w c. refl)
+
+-- The live blocks that it speaks of, told from calls and answers alone, are those of the page map that the words encode.
+pub words-ledger-agrees : LedgerAgrees (List ℕ) viewOf metaAfter answerOf
+unfolding answerOf
+words-ledger-agrees = ledger-agrees (List ℕ) viewOf metaAfter answerOf view-after (λ w c. refl)
 
 -- Live blocks lie inside the arena, ..
 pub inside-arena : (w : List ℕ) (s : State) → stateOf w ≡ some s → (o : ℕ) (b : Block) → blockAt (pageMap s) o ≡ some b → o + roomOf b ≤ total (s .segments) * pageBytes
