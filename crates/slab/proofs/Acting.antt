@@ -20,9 +20,7 @@ use Rattle.model.specs.Valid.{Valid}
 use Rattle.model.specs.PageMap.{shown, pageMap}
 use Rattle.model.specs.Calls.{Action, group, listing, act, isRefused}
 use Rattle.model.specs.Listing.{listingText}
-use Rattle.model.specs.Perform.{serve, headerWords, pageWords, wordsFor, onState}
-use Rattle.model.proofs.Validity.{serve-valid}
-use Rattle.model.proofs.Totals.{serve-total}
+use Rattle.model.specs.Perform.{serve, headerWords, pageWords, wordsFor}
 use Rattle.header.specs.Encoding.{pagesIn}
 use Rattle.pages.specs.Decoding.{segmentsOf, Holds}
 use Rattle.listing.specs.Into.{listAnswer, listedInto}
@@ -32,14 +30,14 @@ use Rattle.metadata.specs.Decoding.{headerPart, pagesPart, decode, isState, sta
 use Rattle.metadata.proofs.States.{state-valid, state-begins, state-read, encode-long, stateOf-some, stateOf-none}
 use Rattle.steps.specs.Lent.{Good}
 use Rattle.steps.proofs.Kept.{good-of, good-decoded}
-use Rattle.slab.specs.Calls.{viewOf, answerOf, metaAfter, listedOf, textAfter}
+use Rattle.slab.specs.Calls.{answerOf, metaAfter, listedOf, textAfter}
 use Rattle.slab.specs.Arena.{pagesOf, Arena}
-use Rattle.slab.proofs.Words.{front-fits, refused-same, served-answer, served-words}
+use Rattle.slab.proofs.Words.{front-fits, refused-same, unserved-answer, served-long, served-answer, served-words}
 
 -- The arena's pages, as the check tells them ----------------------------------------------------------------------------------------
 
 module _ (w : List ℕ) where
-  decoded-pages : isState w ≡ true → total (decode w .segments) ≡ pagesIn (headerPart w)
+  pub decoded-pages : isState w ≡ true → total (decode w .segments) ≡ pagesIn (headerPart w)
   unfolding decode
   decoded-pages t = state-read w t .segments .covers
 
@@ -64,8 +62,7 @@ module _ (w : List ℕ) where
         (λ t. stateOf-none w t)
 
     pub refused-answer : n ≡ 0 → (a : Action) → Refused NoState ≡ answerOf w (act a)
-    unfolding answerOf
-    refused-answer z a = sym (ap (λ x. (onState (viewOf w) a x) .answer) (no-state z))
+    refused-answer z a = sym (unserved-answer w (no-state z) a)
 
     pub refused-words : n ≡ 0 → (a : Action) → w ≡ metaAfter w (act a)
     refused-words z a = sym (refused-same w (act a) (ap (λ r. isRefused r) (sym (refused-answer z a))))
@@ -117,7 +114,7 @@ module _ {w : List ℕ} {n : ℕ} (h : Arena w n) where
     pub arena-words : (a : Action) (v : List ℕ) → v ≡ encode ((serve (decode (take e w)) a) .after) → v ++ drop e w ≡ metaAfter w (act a)
     arena-words a v q =
         let s = (serve (decode w) a) .after in
-        let k : e ≡ length (encode s) = at ∙ ap (λ j. wordsFor j) (h .pages ∙ sym (serve-total (decode w) valid a)) ∙ sym (encode-long s (serve-valid (decode w) valid a)) in
+        let k : e ≡ length (encode s) = at ∙ sym arena-long ∙ sym (served-long (decode w) valid a) in
         ap (λ l. l ++ drop e w) (q ∙ ap (λ t. encode ((serve t a) .after)) arena-decoded)
         ∙ ap (λ j. encode s ++ drop j w) k
         ∙ sym (served-words w (decode w) valid (state-begins w (h .state)) a)

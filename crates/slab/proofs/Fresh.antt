@@ -2,6 +2,7 @@
 use Prim.Native.Nat.{ℕ, _+_, _-_, _≤_, _<_}
 use mathlib.Core.Path.{_≡_, refl, sym, ap, _∙_}
 use mathlib.Core.List.{List, [], _∷_, _++_, append-assoc}
+use mathlib.Core.Option.{some}
 use mathlib.Core.Bool.{Bool, true, false, _&&_}
 use native.Mathlib.Omega.{arith}
 use lib.Dec.{leb}
@@ -56,7 +57,7 @@ module _ (w : List ℕ) (n : ℕ) where
   tested-words a b p q = λ i. written w ((tested (sym p i) (sym q i)) .after .state)
 
   -- Refusal 1.
-  bad-answer : (leb 1 n && leb n 256) ≡ false → Refused BadPages ≡ answerOf w (init n)
+  pub bad-answer : (leb 1 n && leb n 256) ≡ false → Refused BadPages ≡ answerOf w (init n)
   bad-answer t = tested-answer false (leb (wordsFor n) (length w)) t refl
 
   bad : (leb 1 n && leb n 256) ≡ false → (Refused BadPages ≡ answerOf w (init n)) × (w ≡ metaAfter w (init n))
@@ -68,28 +69,36 @@ module _ (w : List ℕ) (n : ℕ) where
   pub many-pages : 256 < n → (Refused BadPages ≡ answerOf w (init n)) × (w ≡ metaAfter w (init n))
   many-pages h = bad (refuted (leb 1 n && leb n 256) (λ t. omega (arith, leb-true n 256 (and-right (leb 1 n) (leb n 256) t))))
 
-  module _ (some : (n ≡ 0 → ⊥)) (few : n ≤ 256) where
+  module _ (there : (n ≡ 0 → ⊥)) (few : n ≤ 256) where
     legal : (leb 1 n && leb n 256) ≡ true
-    legal = and-both (leb 1 n) (leb n 256) (le-leb 1 n (omega (arith, some))) (le-leb n 256 few)
+    legal = and-both (leb 1 n) (leb n 256) (le-leb 1 n (omega (arith, there))) (le-leb n 256 few)
 
     module _ (e : ℕ) (at : e ≡ wordsFor n) where
       -- Refusal 2.
-      short-answer : length w < e → Refused FewWords ≡ answerOf w (init n)
+      pub short-answer : length w < e → Refused FewWords ≡ answerOf w (init n)
       short-answer h = tested-answer true false legal (lt-leb (wordsFor n) (length w) (omega (arith, at)))
 
       pub few-words : length w < e → (Refused FewWords ≡ answerOf w (init n)) × (w ≡ metaAfter w (init n))
       few-words h = (short-answer h, sym (refused-same w (init n) (ap (λ r. isRefused r) (sym (short-answer h)))))
 
+      -- The fresh state is written.
+      pub fresh-done : e ≤ length w → (Done ≡ answerOf w (init n)) × (written w (some (freshState n)) ≡ metaAfter w (init n))
+      fresh-done l =
+          let long : leb (wordsFor n) (length w) ≡ true = le-leb (wordsFor n) (length w) (omega (arith, at)) in
+          (tested-answer true true legal long, tested-words true true legal long)
+
+      pub fresh-words : length (encode (freshState n)) ≡ e
+      fresh-words = omega (arith, at, encode-long (freshState n) (fresh-valid n (omega (arith, there)) few))
+
       -- The header and the pages are set up.
       fresh-long : headerWords + (e - headerWords) ≡ length (encode (freshState n))
-      fresh-long = omega (arith, at, encode-long (freshState n) (fresh-valid n (omega (arith, some)) few))
+      fresh-long = omega (arith, at, fresh-words)
 
       pub set-up-done : e ≤ length w → (h g : List ℕ) → h ≡ headerEncoding n [] (replicate classes []) → g ≡ segmentsEncoding (run n ∷ []) → (Done ≡ answerOf w (init n)) × (putMid headerWords (e - headerWords) (h ++ drop headerWords w) g ≡ metaAfter w (init n))
-      set-up-done l h g p q =
-          let long : leb (wordsFor n) (length w) ≡ true = le-leb (wordsFor n) (length w) (omega (arith, at)) in (
-            tested-answer true true legal long,
-            put-front headerWords (e - headerWords) w h g (ap length p ∙ length-header n [] (replicate classes []))
-                ∙ (λ i. (p i ++ q i) ++ drop (fresh-long i) w)
-                ∙ ap (λ l. l ++ drop (length (encode (freshState n))) w) (fresh-encoded n)
-                ∙ tested-words true true legal long,
-          )
+      set-up-done l h g p q = (
+        fresh-done l .0,
+        put-front headerWords (e - headerWords) w h g (ap length p ∙ length-header n [] (replicate classes []))
+            ∙ (λ i. (p i ++ q i) ++ drop (fresh-long i) w)
+            ∙ ap (λ l. l ++ drop (length (encode (freshState n))) w) (fresh-encoded n)
+            ∙ fresh-done l .1,
+      )

@@ -3,31 +3,35 @@
 -- here are the promises that follow from it. w stands for any lent words, c for any call. Assumes nothing.
 use Prim.Native.Nat.{ℕ, _+_, _*_, _≤_, _<_}
 use mathlib.Core.Path.{_≡_, refl, sym, ap, _∙_}
+use mathlib.Core.Logic.{_⊎_, inl, inr}
 use mathlib.Core.List.{List, _++_}
-use mathlib.Core.Option.{some}
-use mathlib.Core.Bool.{true}
-use lib.ListN.{length, drop}
+use mathlib.Core.Option.{none, some}
+use native.Mathlib.Omega.{arith}
+use lib.ListN.{length, take, drop}
+use Rattle.model.specs.declared.Refusal.the-variants.{NoState}
+use Rattle.model.specs.declared.Answer.the-variants.{Refused, Done}
 use Rattle.model.specs.Sizes.{pageBytes}
 use Rattle.model.specs.Arena.{total}
-use Rattle.model.specs.State.{State}
+use Rattle.model.specs.State.{State, freshState}
 use Rattle.model.specs.PageMap.{pageMap, Block, roomOf, blockAt}
 use Rattle.model.specs.Valid.{Valid}
-use Rattle.model.specs.Calls.{Action, query, listing, Command, act, isRefused}
+use Rattle.model.specs.Calls.{Action, query, listing, Command, init, act, reading, isRefused}
 use Rattle.model.specs.Perform.{serve, wordsFor}
-use Rattle.model.proofs.Validity.{serve-valid}
-use Rattle.model.proofs.Totals.{serve-total}
 use Rattle.model.proofs.Disjoint as model
+use Rattle.history.specs.Answers.{RefusedBy}
 use Rattle.history.specs.Demand.{Demand3, LedgerAgrees}
+use Rattle.history.proofs.Answers.{refused-number}
 use Rattle.history.proofs.Theorem.{demand-3, ledger-agrees}
 use Rattle.metadata.specs.Encoding.{encode, BeginsWith}
 use Rattle.metadata.specs.Decoding.{stateOf}
-use Rattle.metadata.proofs.States.{encode-long}
-use Rattle.slab.specs.Calls.{viewOf, written, answerOf, metaAfter}
-use Rattle.slab.proofs.Words.{holding-of, written-later, view-after, after-is, same-length, refused-same, still-same, listing-still, served-answer, served-words}
+use Rattle.slab.specs.Calls.{viewOf, written, answerOf, metaAfter, listedOf, textAfter, extent}
+use Rattle.slab.proofs.Words.{holding-of, by-state, written-later, view-after, after-is, same-length, refused-same, still-same, listing-still, unserved-answer, served-long, served-answer, served-words}
+use Rattle.slab.proofs.Fresh.{no-pages, many-pages, short-answer, fresh-done, fresh-words}
+use Rattle.slab.proofs.Front.{front-state, front-alone}
 
--- Demand 1: a refused call changes no word.
-pub refused-unchanged : (w : List ℕ) (c : Command) → isRefused (answerOf w c) ≡ true → metaAfter w c ≡ w
-refused-unchanged w c r = refused-same w c r
+-- Demand 1: a refused call, which is one whose answer has a number, changes no word.
+pub refused-unchanged : (w : List ℕ) (c : Command) → 0 < (reading (answerOf w c)) .refusal → metaAfter w c ≡ w
+refused-unchanged w c r = refused-same w c (refused-number (answerOf w c) .1 r)
 
 -- Nor do query and listing, whatever they answer.
 pub query-unchanged : (w : List ℕ) (o : ℕ) → metaAfter w (act (query o)) ≡ w
@@ -40,16 +44,48 @@ listing-unchanged w n = still-same w (listing n) (listing-still n)
 pub later-unchanged : (w : List ℕ) (c : Command) (s : State) → stateOf (metaAfter w c) ≡ some s → (k : ℕ) → wordsFor (total (s .segments)) ≤ k → drop k (metaAfter w c) ≡ drop k w
 later-unchanged w c s e k h = ap (drop k) (after-is w c ∙ ap (λ x. written w x) e) ∙ written-later w s (holding-of (metaAfter w c) s e .valid) k h
 
--- .. no call looks at them: the answer is that of the rules on the state with which the words begin, and so are its words.
-pub later-unread : (w : List ℕ) (s : State) → Valid s → BeginsWith w s → (a : Action) → (answerOf w (act a) ≡ (serve s a) .answer) × (metaAfter w (act a) ≡ encode ((serve s a) .after) ++ drop (length (encode s)) w)
-later-unread w s v b a = (served-answer w s v b a, served-words w s v b a ∙ ap (λ k. encode ((serve s a) .after) ++ drop k w) same)
-  where
-    same : length (encode ((serve s a) .after)) ≡ length (encode s)
-    same = encode-long ((serve s a) .after) (serve-valid s v a) ∙ ap (λ n. wordsFor n) (serve-total s v a) ∙ sym (encode-long s v)
-
--- .. and there are as many words as before.
+-- .. there are as many words as before, ..
 pub length-unchanged : (w : List ℕ) (c : Command) → length (metaAfter w c) ≡ length w
 length-unchanged w c = same-length w c
+
+-- .. and no call reads words behind those that it can need, or asks how many there are, whatever the words hold: it answers what it
+-- answers on the first k words alone, k as far as `extent` or further, and leaves what it leaves there, with the others as they were.
+pub later-unread : (w : List ℕ) (c : Command) (k : ℕ) → extent w c ≤ k →
+    (answerOf w c ≡ answerOf (take k w) c) × (metaAfter w c ≡ metaAfter (take k w) c ++ drop k w)
+later-unread w c k h = front-alone w c k h
+
+pub later-unread-text : (w b : List ℕ) (k : ℕ) → extent w (act (listing (length b))) ≤ k → textAfter w b ≡ textAfter (take k w) b
+unfolding textAfter
+later-unread-text w b k h = ap (λ x. listedOf x b) (sym (front-state w k h))
+
+-- An init reads no word at all: it is refused by 1 for a number of pages that no arena has, by 2 if there are fewer words than the
+-- arena needs, and else sets them up, whatever they held.
+pub init-bad-pages : (w : List ℕ) (n : ℕ) → (n ≡ 0) ⊎ (256 < n) → RefusedBy 1 (answerOf w (init n))
+init-bad-pages w n (inl z) = ap reading (sym (no-pages w n z .0))
+init-bad-pages w n (inr h) = ap reading (sym (many-pages w n h .0))
+
+pub init-few-words : (w : List ℕ) (n : ℕ) → 1 ≤ n → n ≤ 256 → length w < wordsFor n → RefusedBy 2 (answerOf w (init n))
+init-few-words w n a b h = ap reading (sym (short-answer w n (λ z. omega arith) b (wordsFor n) refl h))
+
+pub init-fresh : (w : List ℕ) (n : ℕ) → 1 ≤ n → n ≤ 256 → wordsFor n ≤ length w →
+    (answerOf w (init n) ≡ Done) × (metaAfter w (init n) ≡ encode (freshState n) ++ drop (wordsFor n) w)
+init-fresh w n a b h =
+    let there : (n ≡ 0 → ⊥) = λ z. omega arith in
+    let f = fresh-done w n there b (wordsFor n) refl h in
+    (sym (f .0), sym (f .1) ∙ ap (λ k. encode (freshState n) ++ drop k w) (fresh-words w n there b (wordsFor n) refl))
+
+-- Any other call is refused by 3 on words that begin with no valid state's, ..
+pub no-state-refused : (w : List ℕ) → ((s : State) → Valid s → BeginsWith w s → ⊥) → (a : Action) →
+    RefusedBy 3 (answerOf w (act a)) × (metaAfter w (act a) ≡ w)
+no-state-refused w f a = (ap reading no, refused-same w (act a) (ap isRefused no))
+  where
+    no : answerOf w (act a) ≡ Refused NoState
+    no = unserved-answer w (by-state (λ x. x ≡ none) w (λ _. refl) (λ s _ h. absurd (f s (h .valid) (h .begins)))) a
+
+-- .. and served on words that do: the answer is that of the rules on that state, and the words are those of the state that they leave.
+pub state-served : (w : List ℕ) (s : State) → Valid s → BeginsWith w s → (a : Action) →
+    (answerOf w (act a) ≡ (serve s a) .answer) × (metaAfter w (act a) ≡ encode ((serve s a) .after) ++ drop (length (encode s)) w)
+state-served w s v b a = (served-answer w s v b a, served-words w s v b a ∙ ap (λ k. encode ((serve s a) .after) ++ drop k w) (served-long s v a))
 
 -- Demand 3, for any list of calls on lent words: see specs/Demand.antt of the crate history.
 pub words-demand-3 : Demand3 (List ℕ) viewOf metaAfter answerOf

@@ -11,6 +11,8 @@ use lib.ListN.{length, take, drop, length-append, length-drop, take-append-drop}
 use lib.Seq.{take-all, take-append-seam, drop-append-seam, drop-drop}
 use borrow.Author.Tests.{leb-true, leb-false}
 use Rattle.lemmas.proofs.Cases.{bool, and-left, and-right, some-inj}
+use Rattle.model.specs.declared.Refusal.the-variants.{NoState}
+use Rattle.model.specs.declared.Answer.the-variants.{Refused}
 use Rattle.model.specs.Arena.{total}
 use Rattle.model.specs.State.{State}
 use Rattle.model.specs.Valid.{Valid}
@@ -141,6 +143,15 @@ still-same w a f = metaAfter-is w (act a) ∙ by-state (λ x. written w ((onStat
 
 pub listing-still : (n : ℕ) (s : State) → (serve s (listing n)) .after ≡ s
 listing-still n s = bool (leb (length (listingText (pageMap s))) n) (λ t. rw t) (λ t. rw t)
+
+-- A call on words that encode no state is refused.
+pub unserved-answer : (w : List ℕ) → stateOf w ≡ none → (a : Action) → answerOf w (act a) ≡ Refused NoState
+unfolding answerOf
+unserved-answer w e a = ap (λ x. (onState (viewOf w) a x) .answer) e
+
+-- The state that a call leaves has as many words as the one before.
+pub served-long : (s : State) → Valid s → (a : Action) → length (encode ((serve s a) .after)) ≡ length (encode s)
+served-long s v a = encode-long ((serve s a) .after) (serve-valid s v a) ∙ ap (λ n. wordsFor n) (serve-total s v a) ∙ sym (encode-long s v)
 
 -- A call on words that begin with those of a valid state.
 module _ (w : List ℕ) (s : State) (v : Valid s) (b : BeginsWith w s) (a : Action) where

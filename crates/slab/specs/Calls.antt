@@ -3,13 +3,16 @@
 use Prim.Native.Nat.{ℕ}
 use mathlib.Core.List.{List, _++_}
 use mathlib.Core.Option.{Option, none, some}
+use mathlib.Core.Bool.{cond, _&&_}
+use lib.Dec.{leb}
 use lib.ListN.{length, drop}
 use Rattle.model.specs.declared.Answer.{Answer}
 use Rattle.model.specs.State.{State}
 use Rattle.model.specs.PageMap.{pageMap}
-use Rattle.model.specs.Calls.{Command}
+use Rattle.model.specs.Calls.{Command, init, act}
 use Rattle.model.specs.Listing.{listingText}
-use Rattle.model.specs.Perform.{Metadata, perform}
+use Rattle.model.specs.Perform.{Metadata, wordsFor, perform}
+use Rattle.header.specs.Encoding.{pagesIn}
 use Rattle.metadata.specs.Encoding.{encode}
 use Rattle.metadata.specs.Decoding.{stateOf}
 use Rattle.listing.specs.Into.{listedInto}
@@ -38,3 +41,13 @@ listedOf (some s) b = listedInto b (listingText (pageMap s))
 
 unfoldable pub textAfter : List ℕ → List ℕ → List ℕ
 textAfter w b = listedOf (stateOf w) b
+
+-- The pages of an arena; 0 for a number of pages that no arena has.
+abbrev pub legalPages : ℕ → ℕ
+legalPages n = cond (leb 1 n && leb n 256) n 0
+
+-- How far into the words a call goes at most: as far as the words of the arena that an init asks for, or that the words name (in word 1,
+-- document 01's N) for any other call. Where that is no arena, as far as the header.
+abbrev pub extent : List ℕ → Command → ℕ
+extent w (init n) = wordsFor (legalPages n)
+extent w (act a) = wordsFor (legalPages (pagesIn w))
