@@ -165,8 +165,14 @@ pub extern "C" fn nostrimel_trim(meta: &mut [u32], count: &mut u32) -> u32
 }
 
 #[no_mangle]
-pub extern "C" fn nostrimel_query(meta: &[u32], offset: u32, group: &mut u32, room: &mut u32) -> u32
+pub extern "C" fn nostrimel_query(
+    meta: &mut [u32],
+    offset: u32,
+    group: &mut u32,
+    room: &mut u32,
+) -> u32
     ensures { λ r. ⌜ r ≡ reading (answerOf (now (meta .entry)) (rules.act (rules.query offset))) .refusal ⌝ }
+    ensures { λ _. ⌜ now (meta .exit) ≡ metaAfter (now (meta .entry)) (rules.act (rules.query offset)) ⌝ }
     ensures { λ _. ⌜ now (group .exit) ≡ firstOr (now (group .entry)) (reading (answerOf (now (meta .entry)) (rules.act (rules.query offset))) .values) ⌝ }
     ensures { λ _. ⌜ now (room .exit) ≡ secondOr (now (room .entry)) (reading (answerOf (now (meta .entry)) (rules.act (rules.query offset))) .values) ⌝ }
 {
@@ -174,8 +180,9 @@ pub extern "C" fn nostrimel_query(meta: &[u32], offset: u32, group: &mut u32, ro
 }
 
 #[no_mangle]
-pub extern "C" fn nostrimel_listing(meta: &[u32], text: &mut [u8], used: &mut usize) -> u32
+pub extern "C" fn nostrimel_listing(meta: &mut [u32], text: &mut [u8], used: &mut usize) -> u32
     ensures { λ r. ⌜ r ≡ reading (answerOf (now (meta .entry)) (rules.act (rules.listing (length (now (text .entry)))))) .refusal ⌝ }
+    ensures { λ _. ⌜ now (meta .exit) ≡ metaAfter (now (meta .entry)) (rules.act (rules.listing (length (now (text .entry))))) ⌝ }
     ensures { λ _. ⌜ now (text .exit) ≡ textAfter (now (meta .entry)) (now (text .entry)) ⌝ }
     ensures { λ _. ⌜ now (used .exit) ≡ firstOr (now (used .entry)) (reading (answerOf (now (meta .entry)) (rules.act (rules.listing (length (now (text .entry)))))) .values) ⌝ }
 {

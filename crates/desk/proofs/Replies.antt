@@ -93,10 +93,10 @@ module _ (w b : List ℕ) (l : Line) where
   unfolding replyTo wordsAfter
   served-bad {r} {m} e s = (ap (wordsAfter w) (sym e), replied-line (ap (replyTo w (length b)) e) s (bad-short s))
 
-  pub served-listing : {r : ℕ} {m : List ℕ} → l ≡ Listing → Replied b (replyTo w (length b) Listing) r m → ServedBy r w m
+  pub served-listing : {r : ℕ} {v m : List ℕ} → l ≡ Listing → (v ≡ w) × Replied b (replyTo w (length b) Listing) r m → ServedBy r v m
   unfolding wordsAfter
-  served-listing {r} {m} e h =
-      (sym (listing-unchanged w 0) ∙ ap (wordsAfter w) (sym e), subst (λ q. Replied b (replyTo w (length b) q) r m) (sym e) h)
+  served-listing {r} {v} {m} e h =
+      (h .0 ∙ sym (listing-unchanged w 0) ∙ ap (wordsAfter w) (sym e), subst (λ q. Replied b (replyTo w (length b) q) r m) (sym e) (h .1))
 
 -- ---- the listing
 

@@ -34,8 +34,9 @@ pub fn serve(meta: &mut [u32], line: Line, out: &mut [u8]) -> usize
     }
 }
 
-// A listing that is refused leaves the buffer to the refusal's line.
-fn serve_listing(meta: &[u32], out: &mut [u8]) -> usize
+// A listing that is refused leaves the buffer to the refusal's line. No word changes.
+fn serve_listing(meta: &mut [u32], out: &mut [u8]) -> usize
+    ensures { λ _. ⌜ now (meta .exit) ≡ now (meta .entry) ⌝ }
     ensures { λ r. ⌜ Replied (now (out .entry)) (replyTo (now (meta .entry)) (length (now (out .entry))) lines.Listing) r (now (out .exit)) ⌝ }
 {
     let answer = slab::listing(meta, out);

@@ -25,7 +25,7 @@ use Rattle.history.proofs.Theorem.{demand-3, ledger-agrees}
 use Rattle.metadata.specs.Encoding.{encode, BeginsWith}
 use Rattle.metadata.specs.Decoding.{stateOf}
 use Rattle.slab.specs.Calls.{viewOf, written, answerOf, metaAfter, listedOf, textAfter, extent}
-use Rattle.slab.proofs.Words.{holding-of, by-state, written-later, view-after, after-is, same-length, refused-same, still-same, listing-still, unserved-answer, served-long, served-answer, served-words}
+use Rattle.slab.proofs.Words.{holding-of, by-state, written-later, view-after, after-is, same-length, refused-same, query-same, listing-same, unserved-answer, served-long, served-answer, served-words}
 use Rattle.slab.proofs.Fresh.{no-pages, many-pages, short-answer, fresh-done, fresh-words}
 use Rattle.slab.proofs.Front.{front-state, front-alone}
 
@@ -35,10 +35,10 @@ refused-unchanged w c r = refused-same w c (refused-number (answerOf w c) .1 r)
 
 -- Nor do query and listing, whatever they answer.
 pub query-unchanged : (w : List ℕ) (o : ℕ) → metaAfter w (act (query o)) ≡ w
-query-unchanged w o = still-same w (query o) (λ s. refl)
+query-unchanged w o = query-same w o
 
 pub listing-unchanged : (w : List ℕ) (n : ℕ) → metaAfter w (act (listing n)) ≡ w
-listing-unchanged w n = still-same w (listing n) (listing-still n)
+listing-unchanged w n = listing-same w n
 
 -- Demand 1: words behind those of the arena are as they were after every call, ..
 pub later-unchanged : (w : List ℕ) (c : Command) (s : State) → stateOf (metaAfter w c) ≡ some s → (k : ℕ) → wordsFor (total (s .segments)) ≤ k → drop k (metaAfter w c) ≡ drop k w

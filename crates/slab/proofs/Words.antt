@@ -18,7 +18,7 @@ use Rattle.model.specs.State.{State}
 use Rattle.model.specs.Valid.{Valid}
 use Rattle.model.specs.PageMap.{pageMap}
 use Rattle.model.specs.Listing.{listingText}
-use Rattle.model.specs.Calls.{Action, listing, Command, init, act, isRefused}
+use Rattle.model.specs.Calls.{Action, query, listing, Command, init, act, isRefused}
 use Rattle.model.specs.Perform.{serve, Metadata, wordsFor, onState, perform}
 use Rattle.model.proofs.Validity as model
 use Rattle.model.proofs.Validity.{fresh-valid, serve-valid, perform-leaves}
@@ -136,13 +136,19 @@ pub refused-same : (w : List ℕ) (c : Command) → isRefused (answerOf w c) ≡
 unfolding answerOf
 refused-same w c r = metaAfter-is w c ∙ ap (λ m. written w (m .state)) (perform-leaves (viewOf w) c (state-holds w) r) ∙ written-own w
 
-pub still-same : (w : List ℕ) (a : Action) → ((s : State) → (serve s a) .after ≡ s) → metaAfter w (act a) ≡ w
+still-same : (w : List ℕ) (a : Action) → ((s : State) → (serve s a) .after ≡ s) → metaAfter w (act a) ≡ w
 still-same w a f = metaAfter-is w (act a) ∙ by-state (λ x. written w ((onState (viewOf w) a x) .after .state) ≡ w) w
     (λ e. written-own w)
     (λ s e h. ap (λ t. written w (some t)) (f s) ∙ front-same (encode s) w (h .begins))
 
-pub listing-still : (n : ℕ) (s : State) → (serve s (listing n)) .after ≡ s
+pub query-same : (w : List ℕ) (o : ℕ) → metaAfter w (act (query o)) ≡ w
+query-same w o = still-same w (query o) (λ s. refl)
+
+listing-still : (n : ℕ) (s : State) → (serve s (listing n)) .after ≡ s
 listing-still n s = bool (leb (length (listingText (pageMap s))) n) (λ t. rw t) (λ t. rw t)
+
+pub listing-same : (w : List ℕ) (n : ℕ) → metaAfter w (act (listing n)) ≡ w
+listing-same w n = still-same w (listing n) (listing-still n)
 
 -- A call on words that encode no state is refused.
 pub unserved-answer : (w : List ℕ) → stateOf w ≡ none → (a : Action) → answerOf w (act a) ≡ Refused NoState

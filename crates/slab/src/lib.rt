@@ -71,9 +71,10 @@ pub fn trim(meta: &mut [u32]) -> Answer
     Answer::Counted(count)
 }
 
-// The group and the room of the live block that begins at the offset.
-pub fn query(meta: &[u32], offset: u32) -> Answer
+// The group and the room of the live block that begins at the offset. The words are only read.
+pub fn query(meta: &mut [u32], offset: u32) -> Answer
     ensures { λ r. ⌜ r ≡ answerOf (now (meta .entry)) (rules.act (rules.query offset)) ⌝ }
+    ensures { λ _. ⌜ now (meta .exit) ≡ metaAfter (now (meta .entry)) (rules.act (rules.query offset)) ⌝ }
 {
     let n = arena_pages(meta);
     if n == 0 {
@@ -83,9 +84,11 @@ pub fn query(meta: &[u32], offset: u32) -> Answer
     blocks::describe(&meta[..e], n, offset)
 }
 
-// Writes the arena's listing to the front of the buffer, if it has room for all of it, and answers the listing's bytes.
-pub fn listing(meta: &[u32], text: &mut [u8]) -> Answer
+// Writes the arena's listing to the front of the buffer, if it has room for all of it, and answers the listing's bytes. The words are
+// only read.
+pub fn listing(meta: &mut [u32], text: &mut [u8]) -> Answer
     ensures { λ r. ⌜ r ≡ answerOf (now (meta .entry)) (rules.act (rules.listing (length (now (text .entry))))) ⌝ }
+    ensures { λ _. ⌜ now (meta .exit) ≡ metaAfter (now (meta .entry)) (rules.act (rules.listing (length (now (text .entry))))) ⌝ }
     ensures { λ _. ⌜ now (text .exit) ≡ textAfter (now (meta .entry)) (now (text .entry)) ⌝ }
 {
     let n = arena_pages(meta);

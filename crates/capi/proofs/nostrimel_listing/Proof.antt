@@ -1,8 +1,8 @@
 -- `nostrimel_listing` meets its contract. Assumes nothing.
 use mathlib.Core.Path.{_∙_, ap}
-use Rattle.capi.specs.Values.{firstOr}
-use Rattle.model.specs.Calls.{reading}
 use borrow.Author.Needs.{needs}
+use Rattle.model.specs.Calls.{reading}
+use Rattle.capi.specs.Values.{firstOr}
 use Rattle.capi.proofs.nostrimel_listing.Statement.{statement}
 use Rattle.capi.proofs.nostrimel_listing.Tie as tie
 
@@ -15,9 +15,17 @@ tell-length-requires c κs = search needs
 same-length : tie.Need-same-length
 same-length c = search needs
 
+same-length-2 : tie.Need-same-length-2
+same-length-2 c = search needs
+
 returns : tie.Need-returns
-returns c = let e = c .before .before .before .before .listing .ensures in let d = c .tell-length .ensures in (d .0 ∙ ap (λ x. reading x .refusal) (e .0), (e .1, d .1 ∙ ap (λ x. firstOr (c .before .before .before .before .before .before .before .before .args .used .now) (reading x .values)) (e .0)))
+returns c =
+    let listed : tie.After-listing = c .before .before .before .before .before .before in
+    let s : tie.Start = listed .before .before .before .before .before in
+    let e = listed .listing .ensures in
+    let d = c .tell-length .ensures in
+    (d .0 ∙ ap (λ x. reading x .refusal) (e .0), (e .1 .0, (e .1 .1, d .1 ∙ ap (λ x. firstOr (s .args .used .now) (reading x .values)) (e .0))))
 
 pub nostrimel-listing-spec : {M : Type 1} → statement M
 nostrimel-listing-spec =
-    tie.close (tie.spec listing-requires tell-length-requires same-length returns)
+    tie.close (tie.spec listing-requires tell-length-requires same-length same-length-2 returns)

@@ -1,11 +1,13 @@
--- `desk::serve` meets its contract. Assumes nothing.
-use Rattle.model.specs.Calls.{init, act, group, trim, query}
-use mathlib.Core.Path.{sym}
-use Rattle.slab.proofs.Promises.{query-unchanged}
-use Rattle.desk.proofs.Replies.{performs-init, performs-group, performs-trim, performs-query, served-call, served-bad, served-listing}
+-- `desk::serve` meets its contract, kind of line by kind of line. Assumes nothing.
 use borrow.Author.Needs.{needs}
+use Rattle.model.specs.Calls.{init, act, group, trim, query}
+use Rattle.desk.proofs.Replies.{performs-init, performs-group, performs-trim, performs-query, served-call, served-bad, served-listing}
 use Rattle.desk.proofs.serve.Statement.{statement}
 use Rattle.desk.proofs.serve.Tie as tie
+
+-- The start, as each kind sees it.
+abbrev start : tie.After-slice-known2 → tie.Start
+start c = c .before .before
 
 enum-known-line : tie.Need-enum-known-line
 enum-known-line c = search needs
@@ -62,7 +64,12 @@ same-length-2 : tie.Need-same-length-2
 same-length-2 c = search needs
 
 returns : tie.Need-returns
-returns c = served-call (c .before .before .before .before .before .before .before .before .before .before .before .before .before .args .meta .now) (c .before .before .before .before .before .before .before .before .before .before .before .before .before .args .out .now) (c .before .before .before .before .before .before .before .before .before .before .before .before .before .args .line) (init _) (c .before .before .before .before .before .before .before .before .before .line .given .1) (performs-init _ _ _) (c .before .before .before .before .before .init .ensures) (c .before .before .put-answer .ensures)
+returns c =
+    let done : tie.After-put-answer = c .before .before in
+    let asked : tie.After-init = done .before .before .before in
+    let told : tie.After-line = asked .before .before .before .before in
+    let s = start (told .before .before) in
+    served-call (s .args .meta .now) (s .args .out .now) (s .args .line) (init _) (told .line .given .1) (performs-init _ _ _) (asked .init .ensures) (done .put-answer .ensures)
 
 same-length-3 : tie.Need-same-length-3
 same-length-3 c = search needs
@@ -71,7 +78,12 @@ same-length-4 : tie.Need-same-length-4
 same-length-4 c = search needs
 
 returns-2 : tie.Need-returns-2
-returns-2 c = served-call (c .before .before .before .before .before .before .before .before .before .before .before .before .before .args .meta .now) (c .before .before .before .before .before .before .before .before .before .before .before .before .before .args .out .now) (c .before .before .before .before .before .before .before .before .before .before .before .before .before .args .line) (act (group _)) (c .before .before .before .before .before .before .before .before .before .line2 .given .1) (performs-group _ _ _) (c .before .before .before .before .before .call .ensures) (c .before .before .put-answer2 .ensures)
+returns-2 c =
+    let done : tie.After-put-answer2 = c .before .before in
+    let asked : tie.After-call = done .before .before .before in
+    let told : tie.After-line2 = asked .before .before .before .before in
+    let s = start (told .before .before) in
+    served-call (s .args .meta .now) (s .args .out .now) (s .args .line) (act (group _)) (told .line2 .given .1) (performs-group _ _ _) (asked .call .ensures) (done .put-answer2 .ensures)
 
 same-length-5 : tie.Need-same-length-5
 same-length-5 c = search needs
@@ -80,7 +92,12 @@ same-length-6 : tie.Need-same-length-6
 same-length-6 c = search needs
 
 returns-3 : tie.Need-returns-3
-returns-3 c = served-call (c .before .before .before .before .before .before .before .before .before .before .before .before .args .meta .now) (c .before .before .before .before .before .before .before .before .before .before .before .before .args .out .now) (c .before .before .before .before .before .before .before .before .before .before .before .before .args .line) (act trim) (c .before .before .before .before .before .before .before .before .enum-told .given .1) (performs-trim _ _) (c .before .before .before .before .before .trim .ensures) (c .before .before .put-answer3 .ensures)
+returns-3 c =
+    let done : tie.After-put-answer3 = c .before .before in
+    let asked : tie.After-trim = done .before .before .before in
+    let told : tie.After-enum-told = asked .before .before .before in
+    let s = start (told .before .before) in
+    served-call (s .args .meta .now) (s .args .out .now) (s .args .line) (act trim) (told .enum-told .given .1) (performs-trim _ _) (asked .trim .ensures) (done .put-answer3 .ensures)
 
 same-length-7 : tie.Need-same-length-7
 same-length-7 c = search needs
@@ -89,7 +106,12 @@ same-length-8 : tie.Need-same-length-8
 same-length-8 c = search needs
 
 returns-4 : tie.Need-returns-4
-returns-4 c = served-call (c .before .before .before .before .before .before .before .before .before .before .before .args .meta .now) (c .before .before .before .before .before .before .before .before .before .before .before .args .out .now) (c .before .before .before .before .before .before .before .before .before .before .before .args .line) (act (query _)) (c .before .before .before .before .before .before .before .line3 .given .1) (performs-query _ _ _) (c .before .before .before .query .ensures, sym (query-unchanged _ _)) (c .before .before .put-answer4 .ensures)
+returns-4 c =
+    let done : tie.After-put-answer4 = c .before .before in
+    let asked : tie.After-query = done .before .before .before in
+    let told : tie.After-line3 = asked .before .before .before .before in
+    let s = start (told .before .before) in
+    served-call (s .args .meta .now) (s .args .out .now) (s .args .line) (act (query _)) (told .line3 .given .1) (performs-query _ _ _) (asked .query .ensures) (done .put-answer4 .ensures)
 
 same-length-9 : tie.Need-same-length-9
 same-length-9 c = search needs
@@ -98,13 +120,21 @@ same-length-10 : tie.Need-same-length-10
 same-length-10 c = search needs
 
 returns-5 : tie.Need-returns-5
-returns-5 c = served-listing (c .before .before .before .before .before .before .before .before .before .args .meta .now) (c .before .before .before .before .before .before .before .before .before .args .out .now) (c .before .before .before .before .before .before .before .before .before .args .line) (c .before .before .before .before .before .enum-told2 .given .1) (c .before .before .serve-listing .ensures)
+returns-5 c =
+    let done : tie.After-serve-listing = c .before .before .before .before in
+    let told : tie.After-enum-told2 = done .before .before .before in
+    let s = start (told .before .before) in
+    served-listing (s .args .meta .now) (s .args .out .now) (s .args .line) (told .enum-told2 .given .1) (done .serve-listing .ensures)
 
 same-length-11 : tie.Need-same-length-11
 same-length-11 c = search needs
 
 returns-6 : tie.Need-returns-6
-returns-6 c = served-bad (c .before .before .before .before .before .before .before .before .args .meta .now) (c .before .before .before .before .before .before .before .before .args .out .now) (c .before .before .before .before .before .before .before .before .args .line) (c .before .before .before .before .enum-told3 .given .1) (c .before .before .put-bad .ensures)
+returns-6 c =
+    let done : tie.After-put-bad = c .before .before in
+    let told : tie.After-enum-told3 = done .before .before in
+    let s = start (told .before .before) in
+    served-bad (s .args .meta .now) (s .args .out .now) (s .args .line) (told .enum-told3 .given .1) (done .put-bad .ensures)
 
 pub serve-spec : {M : Type 1} → statement M
 serve-spec =

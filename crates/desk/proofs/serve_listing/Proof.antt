@@ -1,17 +1,25 @@
 -- `desk::serve_listing` meets its contract. Assumes nothing.
-use mathlib.Core.Logic.{inl, inr}
 use Prim.Native.Nat.{ℕ}
-use Rattle.model.specs.declared.Answer.the-variants.{Counted}
+use mathlib.Core.Logic.{inl, inr}
+use mathlib.Core.List.{[], _∷_}
+use mathlib.Core.Path.{_∙_, subst}
 use native.Mathlib.Omega.{arith}
 use denote.Enum.Declared.{tagOf}
 use types.Run.{OneOf}
-use mathlib.Core.Path.{subst}
-use mathlib.Core.List.{[], _∷_}
-use Rattle.desk.proofs.Replies.{listing-counted, listing-refused}
 use borrow.Author.Needs.{needs}
-use Rattle.desk.proofs.serve_listing.Statement.{statement}
+use Rattle.model.specs.declared.Answer.the-variants.{Counted}
 use Rattle.model.proofs.Answer as answer
+use Rattle.slab.proofs.Promises.{listing-unchanged}
+use Rattle.desk.proofs.Replies.{listing-counted, listing-refused}
+use Rattle.desk.proofs.serve_listing.Statement.{statement}
 use Rattle.desk.proofs.serve_listing.Tie as tie
+
+-- The places: the start, the call, and its answer told apart.
+abbrev start : tie.After-listing → tie.Start
+start c = c .before .before .before .before .before
+
+abbrev listed : tie.After-slice-known4 → tie.After-listing
+listed c = c .before .before .before .before
 
 -- The arms that bind no count are those of the other kinds of answer.
 not-counted : (k : ℕ) → OneOf (0 ∷ 1 ∷ 2 ∷ 4 ∷ []) (tagOf answer.the-type (Counted k)) → ⊥
@@ -32,17 +40,35 @@ wide-requires c κs = search needs
 same-length : tie.Need-same-length
 same-length c = search needs
 
+same-length-2 : tie.Need-same-length-2
+same-length-2 c = search needs
+
 returns : tie.Need-returns
-returns c = listing-counted (c .before .before .before .before .before .before .before .before .before .before .args .meta .now) (c .before .before .before .before .before .before .before .before .before .before .args .out .now) (c .before .before .before .before .before .before .listing .ensures) (c .before .before .answer .given .1) (c .wide .ensures)
+returns c =
+    let l = listed (c .before .before .before .before) in
+    let s = start l in
+    let e = l .listing .ensures in
+    (e .1 .0 ∙ listing-unchanged _ _, listing-counted (s .args .meta .now) (s .args .out .now) (e .0, e .1 .1) (c .before .before .answer .given .1) (c .wide .ensures))
 
 put-answer-requires : tie.Need-put-answer-requires
 put-answer-requires c κs = search needs
 
-same-length-2 : tie.Need-same-length-2
-same-length-2 c = search needs
+same-length-3 : tie.Need-same-length-3
+same-length-3 c = search needs
+
+same-length-4 : tie.Need-same-length-4
+same-length-4 c = search needs
 
 returns-2 : tie.Need-returns-2
-returns-2 c = listing-refused (c .before .before .before .before .before .before .before .before .before .before .before .args .meta .now) (c .before .before .before .before .before .before .before .before .before .before .before .args .out .now) (c .before .before .before .before .before .before .before .listing .ensures) (λ k e. not-counted k (subst (λ a. OneOf (0 ∷ 1 ∷ 2 ∷ 4 ∷ []) (tagOf answer.the-type a)) e (c .before .before .before .before .match .keys2))) (c .before .before .put-answer .ensures)
+returns-2 c =
+    let m : tie.At-match-keys2 = c .before .before .before .before in
+    let l = listed (m .before) in
+    let s = start l in
+    let e = l .listing .ensures in (
+      e .1 .0 ∙ listing-unchanged _ _,
+      listing-refused (s .args .meta .now) (s .args .out .now) (e .0, e .1 .1)
+          (λ k q. not-counted k (subst (λ a. OneOf (0 ∷ 1 ∷ 2 ∷ 4 ∷ []) (tagOf answer.the-type a)) q (m .match .keys2))) (c .before .before .put-answer .ensures),
+    )
 
 pub serve-listing-spec : {M : Type 1} → statement M
 serve-listing-spec =
@@ -52,7 +78,9 @@ serve-listing-spec =
     enum-known-answer
     wide-requires
     same-length
+    same-length-2
     returns
     put-answer-requires
-    same-length-2
+    same-length-3
+    same-length-4
     returns-2)

@@ -1,17 +1,36 @@
 -- `listing` meets its contract. Assumes nothing.
-use Rattle.slab.proofs.Acting.{refused-answer, refused-text, arena-of, arena-few, arena-inside, arena-holds, arena-listing, arena-text}
+use mathlib.Core.List.{List}
+use mathlib.Core.Path.{sym}
+use Prim.Native.Nat.{ℕ}
 use borrow.Author.Needs.{needs}
+use Rattle.slab.specs.Arena.{Arena}
+use Rattle.slab.proofs.Words.{listing-same}
+use Rattle.slab.proofs.Acting.{refused-answer, refused-words, refused-text, arena-of, arena-few, arena-inside, arena-holds, arena-listing, arena-text}
 use Rattle.slab.proofs.listing.Statement.{statement}
 use Rattle.slab.proofs.listing.Tie as tie
+
+-- The places: the words are an arena's, behind the check; and the listing written.
+arena : (c : tie.Else1) → Arena (c .before .before .before .before .before .args .meta .now) (c .before .arena-pages .result)
+arena c = arena-of _ _ (c .before .arena-pages .ensures) (c .if1 .left)
+
+abbrev words : tie.After-list-into-arg2 → tie.After-words-for
+words c = c .before .before .before
+
+abbrev written : tie.After-slice-known3 → tie.After-list-into
+written c = c .before .before
 
 arena-pages-requires : tie.Need-arena-pages-requires
 arena-pages-requires c κs = search needs
 
+same-length : tie.Need-same-length
+same-length c = search needs
+
 returns : tie.Need-returns
-returns c = (refused-answer _ _ (c .before .arena-pages .ensures) (c .if1 .taken) _, refused-text _ _ (c .before .arena-pages .ensures) (c .if1 .taken) _)
+returns c = let n = c .before .arena-pages .ensures in
+    (refused-answer _ _ n (c .if1 .taken) _, (refused-words _ _ n (c .if1 .taken) _, refused-text _ _ n (c .if1 .taken) _))
 
 words-for-requires : tie.Need-words-for-requires
-words-for-requires c κs = arena-few (arena-of _ _ (c .before .arena-pages .ensures) (c .if1 .left))
+words-for-requires c κs = arena-few (arena c)
 
 sub-list-into : tie.Need-sub-list-into
 sub-list-into c = search needs
@@ -20,27 +39,39 @@ part-list-into-start : tie.Need-part-list-into-start
 part-list-into-start c = search needs
 
 part-list-into-end : tie.Need-part-list-into-end
-part-list-into-end c = arena-inside (arena-of _ _ (c .before .before .arena-pages .ensures) (c .before .if1 .left)) _ (c .words-for .ensures)
+part-list-into-end c = arena-inside (arena (c .before .before)) _ (c .before .words-for .ensures)
 
 list-into-requires : tie.Need-list-into-requires
-list-into-requires c κs = arena-holds (arena-of _ _ (c .before .before .before .before .arena-pages .ensures) (c .before .before .before .if1 .left)) _ (c .before .before .words-for .ensures)
+list-into-requires c κs = let w = words c in arena-holds (arena (w .before)) _ (w .words-for .ensures)
 
-same-length : tie.Need-same-length
-same-length c = search needs
+same-length-2 : tie.Need-same-length-2
+same-length-2 c = search needs
+
+same-length-3 : tie.Need-same-length-3
+same-length-3 c = search needs
 
 returns-2 : tie.Need-returns-2
-returns-2 c = let h = arena-of _ _ (c .before .before .before .before .before .before .before .arena-pages .ensures) (c .before .before .before .before .before .before .if1 .left) in let e = c .before .before .before .before .before .words-for .ensures in let r = c .before .before .list-into .ensures in (arena-listing h _ e (c .before .before .before .before .before .before .before .before .before .before .args .text .now) _ (r .0), arena-text h _ e (c .before .before .before .before .before .before .before .before .before .before .args .text .now) _ (r .1))
+returns-2 c =
+    let done = written c in
+    let w = words (done .before) in
+    let a = arena (w .before) in
+    let text : List ℕ = w .before .before .before .before .before .before .args .text .now in
+    let e = w .words-for .ensures in
+    let r = done .list-into .ensures in
+    (arena-listing a _ e text _ (r .0), (sym (listing-same _ _), arena-text a _ e text _ (r .1)))
 
 pub listing-spec : {M : Type 1} → statement M
 listing-spec =
     tie.close
     (tie.spec
     arena-pages-requires
+    same-length
     returns
     words-for-requires
     sub-list-into
     part-list-into-start
     part-list-into-end
     list-into-requires
-    same-length
+    same-length-2
+    same-length-3
     returns-2)
