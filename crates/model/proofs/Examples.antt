@@ -11,7 +11,7 @@ use Rattle.model.specs.declared.Operation.the-variants.{Allocate, Free, 
 use Rattle.model.specs.declared.Refusal.the-variants.{BadPages, FewWords, NoState, BadGroup, BadSize, NoRoom, NoBlock, OtherGroup, ShortBuffer}
 use Rattle.model.specs.declared.Answer.{Answer}
 use Rattle.model.specs.declared.Answer.the-variants.{Granted, Refused, Done, Counted, Block}
-use Rattle.model.specs.Sizes.{step, rounded, classOf, room, chunks, pagesFor, largeSize}
+use Rattle.model.specs.Sizes.{step, rounded, classOf, room, chunksOf, chunks, pagesFor, largeSize}
 use Rattle.model.specs.State.{State, listOf}
 use Rattle.model.specs.PageMap.{pageMap}
 use Rattle.model.specs.Pages.{claim}
@@ -23,20 +23,42 @@ use Rattle.model.specs.Perform.{Metadata, wordsFor, perform}
 use Rattle.lemmas.specs.Keep.{keep}
 use Rattle.lemmas.specs.Times.{remove}
 
--- What a size takes: a chunk (room, class), or whole pages.
+-- The table marked P. A size gives a chunk (its room and class) or is whole pages; of chunks of a size a zone has so many.
+pub data Case : Type 0 where
+  size : ℕ → Case
+  chunksOfSize : ℕ → Case
+
 pub data Share : Type 0 where
-  aChunk : ℕ → ℕ → Share
-  wholePages : ℕ → Share
+  gives : ℕ → ℕ → Share
+  isPages : ℕ → Share
+  has : ℕ → Share
 
-pub share : ℕ → Share
-share n = cond (ltb n largeSize) (aChunk (room (classOf n)) (classOf n)) (wholePages (pagesFor n))
+pub share : Case → Share
+share (size n) = cond (ltb n largeSize) (gives (room (classOf n)) (classOf n)) (isPages (pagesFor n))
+share (chunksOfSize c) = has (chunksOf c)
 
--- The table marked P: ten sizes and what each takes; four chunk sizes and how many chunks a zone has of each.
-pub edges : (map share (1 ∷ 127 ∷ 128 ∷ 129 ∷ 255 ∷ 257 ∷ 8191 ∷ 8192 ∷ 8193 ∷ 1048576 ∷ [])
-    ≡ aChunk 8 0 ∷ aChunk 128 15 ∷ aChunk 128 15 ∷ aChunk 144 16 ∷ aChunk 256 23 ∷ aChunk 288 24 ∷ aChunk 8192 63 ∷ wholePages 2 ∷ wholePages 3 ∷ wholePages 256 ∷ [])
-    × (map (λ n. chunks (classOf n)) (8 ∷ 104 ∷ 144 ∷ 8191 ∷ []) ≡ 4096 ∷ 315 ∷ 227 ∷ 4 ∷ [])
-unfolding share step rounded classOf room chunks
-edges = (refl, refl)
+pub table : List (Case × Share)
+table =
+    (size 1, gives 8 0)
+    ∷ (size 127, gives 128 15)
+    ∷ (size 128, gives 128 15)
+    ∷ (size 129, gives 144 16)
+    ∷ (size 255, gives 256 23)
+    ∷ (size 257, gives 288 24)
+    ∷ (size 8191, gives 8192 63)
+    ∷ (size 8192, isPages 2)
+    ∷ (size 8193, isPages 3)
+    ∷ (size 1048576, isPages 256)
+    ∷ (chunksOfSize 8, has 4096)
+    ∷ (chunksOfSize 104, has 315)
+    ∷ (chunksOfSize 144, has 227)
+    ∷ (chunksOfSize 8192, has 4)
+    ∷ []
+
+-- In every row the rules give what the row says.
+pub edges : map (λ row. share (row .0)) table ≡ map (λ row. row .1) table
+unfolding share table step rounded classOf room
+edges = refl
 
 -- The calls as document 01's lines have them.
 abbrev pub s : ℕ → Command

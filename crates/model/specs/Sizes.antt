@@ -40,9 +40,12 @@ classOf n =
 unfoldable pub room : ℕ → ℕ
 room k = cond (ltb k 16) (8 * (k + 1)) (cond (ltb k 24) (16 * (k - 7)) (cond (ltb k 32) (32 * (k - 15)) (cond (ltb k 40) (64 * (k - 23)) (cond (ltb k 48) (128 * (k - 31)) (cond (ltb k 56) (256 * (k - 39)) (512 * (k - 47)))))))
 
--- How many chunks a zone of the class has.
+-- How many chunks of c bytes a zone has, and so how many a zone of the class has.
+abbrev pub chunksOf : ℕ → ℕ
+chunksOf c = zoneBytes / c
+
 unfoldable pub chunks : ℕ → ℕ
-chunks k = zoneBytes / room k
+chunks k = chunksOf (room k)
 
 -- The whole pages that a large request takes.
 abbrev pub pagesFor : ℕ → ℕ
