@@ -76,6 +76,10 @@ uint32_t nostrimel_init(uint32_t *meta, size_t words, uint32_t pages);
 /*
  * Requests a block of at least size bytes for a group. *offset is where it begins, in bytes from the arena's start. The block is
  * live until the group returns it, and shares no byte with another live block.
+ * Alignment: *offset is a multiple of every power of two up to 4,096 that divides the block's room (the size rounded up). So it is
+ * a multiple of 8 always, of 16 from 128 bytes up, of 32 from 256, of 64 from 512, of 128 from 1,024, of 256 from 2,048, of 512
+ * from 4,096, of 4,096 from 8,192; and a request of 64 bytes begins at a multiple of 64. The address arena + *offset is aligned so
+ * as far as the arena's start is.
  * Refusals: NO_STATE, BAD_GROUP, BAD_SIZE, NO_ROOM.
  */
 uint32_t nostrimel_allocate(uint32_t *meta, size_t words, uint32_t group, uint32_t size, uint32_t *offset);

@@ -16,5 +16,6 @@ pub mod ValidFree
 pub mod ValidTrim
 pub mod Validity
 pub mod Disjoint
+pub mod Aligned
 pub mod Groups
 pub mod Totals

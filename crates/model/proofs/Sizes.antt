@@ -29,6 +29,13 @@ room-pos c = room-rows (λ v. 0 < v) c (λ l. omega arith) (λ l u. omega arith)
 pub room-most : (c : ℕ) → c < 64 → room c ≤ 8192
 room-most c h = room-rows (λ v. v ≤ 8192) c (λ l. omega arith) (λ l u. omega arith) (λ l u. omega arith) (λ l u. omega arith) (λ l u. omega arith) (λ l u. omega arith) (λ l. omega arith)
 
+-- What holds of the seven steps holds of the step of every size.
+pub step-rows : (P : ℕ → Type 0) (n : ℕ) → P 8 → P 16 → P 32 → P 64 → P 128 → P 256 → P 512 → P (step n)
+unfolding step
+step-rows P n k8 k16 k32 k64 k128 k256 k512 =
+    by-row P n 128 _ _ (λ l. k8) λ l. by-row P n 256 _ _ (λ u. k16) λ l. by-row P n 512 _ _ (λ u. k32) λ l.
+    by-row P n 1024 _ _ (λ u. k64) λ l. by-row P n 2048 _ _ (λ u. k128) λ l. by-row P n 4096 _ _ (λ u. k256) (λ l. k512)
+
 -- A number of steps: n divided by s, rounded up.
 steps : ℕ → ℕ → ℕ
 steps n s = (n + (s - 1)) / s

@@ -1,7 +1,7 @@
 -- What the public calls promise, as theorems about lent words. `answerOf` and `metaAfter` (specs/Calls.antt) are what the contracts in
 -- src/lib.rt say of each call: its answer and the words after it. That the code does that is demand 2, and is proved with the code;
 -- here are the promises that follow from it. w stands for any lent words, c for any call. Assumes nothing.
-use Prim.Native.Nat.{ℕ, _+_, _*_, _≤_, _<_}
+use Prim.Native.Nat.{ℕ, _+_, _*_, _%_, _≤_, _<_}
 use mathlib.Core.Path.{_≡_, refl, sym, ap, _∙_}
 use mathlib.Core.Logic.{_⊎_, inl, inr}
 use mathlib.Core.List.{List, _++_}
@@ -9,13 +9,15 @@ use mathlib.Core.Option.{none, some}
 use native.Mathlib.Omega.{arith}
 use lib.ListN.{length, take, drop}
 use Rattle.model.specs.declared.Refusal.the-variants.{NoState}
-use Rattle.model.specs.declared.Answer.the-variants.{Refused, Done}
+use Rattle.model.specs.declared.Answer.the-variants.{Refused, Done, Granted}
+use mathlib.Core.Bool.{true}
+use Rattle.model.specs.declared.Operation.the-variants.{Allocate}
 use Rattle.model.specs.Sizes.{pageBytes}
 use Rattle.model.specs.Arena.{total}
 use Rattle.model.specs.State.{State, freshState}
 use Rattle.model.specs.PageMap.{pageMap, Block, roomOf, blockAt}
 use Rattle.model.specs.Valid.{Valid}
-use Rattle.model.specs.Calls.{Action, query, listing, Command, init, act, reading, isRefused}
+use Rattle.model.specs.Calls.{Action, query, listing, Command, init, act, reading, isRefused, group}
 use Rattle.model.specs.Perform.{serve, wordsFor}
 use Rattle.model.proofs.Disjoint as model
 use Rattle.history.specs.Answers.{RefusedBy}
@@ -28,6 +30,9 @@ use Rattle.slab.specs.Calls.{viewOf, written, answerOf, metaAfter, liste
 use Rattle.slab.proofs.Words.{holding-of, by-state, written-later, view-after, after-is, same-length, refused-same, query-same, listing-same, unserved-answer, served-long, served-answer, served-words}
 use Rattle.slab.proofs.Fresh.{no-pages, many-pages, short-answer, fresh-done, fresh-words}
 use Rattle.slab.proofs.Front.{front-state, front-alone}
+use Rattle.model.proofs.Aligned as aligned
+use Rattle.model.proofs.Aligned.{Aligned}
+use Rattle.metadata.proofs.States.{encode-long}
 
 -- Demand 1: a refused call, which is one whose answer has a number, changes no word.
 pub refused-unchanged : (w : List ℕ) (c : Command) → 0 < (reading (answerOf w c)) .refusal → metaAfter w c ≡ w
@@ -104,3 +109,17 @@ inside-arena w s e o b f = model.inside-arena s (holding-of w s e .valid) o b f
 -- .. and never share a byte: two blocks that hold the byte x are one.
 pub never-share : (w : List ℕ) (s : State) → stateOf w ≡ some s → (o q : ℕ) (b c : Block) → blockAt (pageMap s) o ≡ some b → blockAt (pageMap s) q ≡ some c → (x : ℕ) → o ≤ x → x < o + roomOf b → q ≤ x → x < q + roomOf c → (o ≡ q) × (b ≡ c)
 never-share w s e o q b c f g x i j k l = model.never-share s (holding-of w s e .valid) o q b c f g x i j k l
+
+-- A group's request of n bytes.
+abbrev pub request : ℕ → ℕ → Action
+request g n = group (record { group = g; operation = Allocate n })
+
+-- A live block begins at a multiple of every number that divides a page's bytes and the block's room, ..
+pub block-aligned : (w : List ℕ) (s : State) → stateOf w ≡ some s → (o : ℕ) (b : Block) → blockAt (pageMap s) o ≡ some b → (d : ℕ) → pageBytes % d ≡ 0 → roomOf b % d ≡ 0 → o % d ≡ 0
+block-aligned w s e o b f d p h = aligned.block-aligned (pageMap s) o b f d p h
+
+-- .. so an offset that is granted is a multiple of 8, of the step of its size, and from 8,192 bytes up of a page's bytes (`Aligned`).
+pub grant-aligned : (w : List ℕ) (g n o : ℕ) → answerOf w (act (request g n)) ≡ Granted o → Aligned n o
+grant-aligned w g n o e = by-state (λ _. Aligned n o) w
+    (λ f. absurd (let u = sym (unserved-answer w f (request g n)) ∙ e in let z : _≡_ {A = ℕ} 0 1 = cc in omega arith))
+    (λ s _ h. aligned.grant-aligned s (h .valid) g n o (sym (served-answer w s (h .valid) (h .begins) (request g n)) ∙ e))
