@@ -11,8 +11,8 @@ use libc::STDIN_FILENO;
 use libc::STDOUT_FILENO;
 use uplink::Reader;
 
-// The room for one reply. Every listing of 24 pages has room there (proofs/Room.antt).
-const REPLY: usize = 8192;
+// The room for one reply: that of the longest listing of 24 pages (proofs/Room.antt). Every other reply is shorter.
+const REPLY: usize = 207;
 
 // What a fragment leaves: the reader, and whether all replies could be written.
 struct Served {
@@ -31,7 +31,7 @@ fn fresh_words() -> [u32; 13504]
 // Serves a fragment's lines. Replies are gathered, and written when there is no room for another and at the fragment's end.
 fn serve_fragment(reader: Reader, meta: &mut [u32], fragment: &[u8], out: &mut [u8]) -> Served
     requires { ⌜ Sound reader ⌝ }
-    requires { ⌜ 8192 ≤ length (now out) ⌝ }
+    requires { ⌜ 207 ≤ length (now out) ⌝ }
     ensures { λ r. ⌜ ServedAll (held reader) (now (meta .entry)) (now (fragment .entry)) r (now (meta .exit)) ⌝ }
 {
     let mut reader = reader;
@@ -61,7 +61,7 @@ fn serve_fragment(reader: Reader, meta: &mut [u32], fragment: &[u8], out: &mut [
 // The end of the input: a last line without LF.
 fn serve_end(reader: Reader, meta: &mut [u32], out: &mut [u8])
     requires { ⌜ Sound reader ⌝ }
-    requires { ⌜ 8192 ≤ length (now out) ⌝ }
+    requires { ⌜ 207 ≤ length (now out) ⌝ }
 {
     let len = desk::serve_last(reader, meta, &mut out[..REPLY]);
     io::write_all(STDOUT_FILENO, &out[..len]);
@@ -70,7 +70,7 @@ fn serve_end(reader: Reader, meta: &mut [u32], out: &mut [u8])
 // Reads what is there, serves it, and reads on. A loop has to end, and nothing says that an input does: so this one counts its reads
 // down, from a number that no run uses up.
 fn run(meta: &mut [u32], input: &mut [u8], out: &mut [u8])
-    requires { ⌜ 8192 ≤ length (now out) ⌝ }
+    requires { ⌜ 207 ≤ length (now out) ⌝ }
 {
     let mut reader = uplink::new_reader();
     let mut reads = u64::MAX;

@@ -1,119 +1,215 @@
--- How long the listing is at most: every segment has a page and one row of at most 64 bytes. Assumes nothing.
-use Prim.Native.Nat.{ℕ, _+_, _*_, _^_, _≤_, _<_}
+-- How long the listing is at most: as long as that of direct blocks of one page each, of group 12, one for each page. A direct block
+-- writes no more than its pages would as such blocks. A run and a zone write less, at least a byte, and that makes up for the
+-- digits that their sections' counts have more. Assumes nothing.
+use Prim.Native.Nat.{ℕ, zero, suc, _+_, _*_, _^_, _-_, _≤_, _<_}
+use Prim.Native.String.{String}
 use mathlib.Core.Path.{_≡_, refl, ap}
-use mathlib.Core.Bool.{true}
-use mathlib.Core.List.{List, [], _∷_}
+use mathlib.Core.List.{List, [], _∷_, _++_}
 use native.Mathlib.Omega.{arith}
-use lib.Dec.{eqb}
 use lib.ListN.{length, length-append}
-use borrow.Author.Tests.{lt-ltb}
-use Rattle.lemmas.specs.Every.{every}
-use Rattle.lemmas.proofs.Cases.{and-both, either}
+use Rattle.lemmas.specs.Below.{sumBelow}
+use Rattle.lemmas.proofs.Below.{sum-none, sum-more, sum-split}
 use Rattle.lemmas.proofs.Every.{count-le-length}
-use Rattle.model.specs.Arena.{Segment, run, direct, zone, pages, total, Each}
+use Rattle.model.specs.Sizes.{chunks}
+use Rattle.model.specs.Arena.{Segment, run, direct, zone, total, Each}
 use Rattle.model.specs.Zone.{Zone}
+use Rattle.model.specs.PageMap.{PageMap, padded, shown}
 use Rattle.model.specs.Valid.{ValidZone}
-use Rattle.model.specs.PageMap.{shown}
 use Rattle.model.specs.Ascii.{ascii}
-use Rattle.model.specs.Text.{line, lines}
-use Rattle.model.specs.Listing.{listingText}
+use Rattle.model.specs.Text.{digits, decimal, line, lines}
+use Rattle.model.specs.Listing.{section, liveCount, runLines, directLines, zoneLines, listingText}
 use Rattle.zone.specs.Live.{isGroup, liveChunks}
 use Rattle.zone.proofs.Chains.{touched-most}
-use Rattle.pages.specs.Encoding.{kindOf, Writable}
+use Rattle.pages.specs.Encoding.{Writable}
 use Rattle.pages.specs.Decoding.{Encodes}
-use Rattle.text.specs.Writing.{Bounded, named, joined}
-use Rattle.text.proofs.Lines.{isLong, length-line, length-named}
-use Rattle.listing.specs.Rows.{rowOf, rowsAt, rowsOf, sectionText}
-use Rattle.listing.proofs.Rows.{lines-append, listing-sections}
+use Rattle.text.specs.Writing.{Bounded}
+use Rattle.text.proofs.Decimal.{decimal-some, decimal-length, decimal-grows, decimal-tens}
+use Rattle.listing.specs.Longest.{singles, longest}
+use Rattle.listing.proofs.Rows.{live-shown}
 
-every-long : (a : ℕ) (s : List ℕ) → a < 2 ^ 64 → every isLong s ≡ true → every isLong (a ∷ s) ≡ true
-unfolding every
-every-long a s h e = and-both (isLong a) (every isLong s) (lt-ltb a (2 ^ 64) h) e
+-- ---- the bytes of a line, of a section and of a listing
 
-none-long : every isLong [] ≡ true
-unfolding every
-none-long = refl
+-- The digits of a number.
+abbrev width : ℕ → ℕ
+width n = length (decimal n)
 
-live-most : (z : Zone) → ValidZone z → liveChunks z ≤ 4096
+line-two : (a b : ℕ) → length (line (a ∷ b ∷ [])) ≡ width a + width b + 2
+unfolding line
+line-two a b = omega (arith, length-append (decimal a) (32 ∷ (decimal b ++ (10 ∷ []))), length-append (decimal b) (10 ∷ []))
+
+line-three : (a b c : ℕ) → length (line (a ∷ b ∷ c ∷ [])) ≡ width a + width b + width c + 3
+unfolding line
+line-three a b c = omega (arith, length-append (decimal a) (32 ∷ line (b ∷ c ∷ [])), line-two b c)
+
+section-length : (name : String) (rows : List (List ℕ)) → length (section name rows) ≡ length (ascii name) + width (length rows) + 2 + length (lines rows)
+unfolding section line
+section-length name rows =
+    let count = decimal (length rows) in
+    omega (
+      arith,
+      length-append (ascii name) (32 ∷ ((count ++ (10 ∷ [])) ++ lines rows)),
+      length-append (count ++ (10 ∷ [])) (lines rows),
+      length-append count (10 ∷ []),
+    )
+
+-- The bytes of the rows of the three sections, for segments from page p on.
+abbrev rowBytes : ℕ → PageMap → ℕ
+rowBytes p m = length (lines (runLines p m)) + length (lines (directLines p m)) + length (lines (zoneLines p m))
+
+text-length : (m : PageMap) → length (listingText m) ≡ 21 + width (length (runLines 0 m)) + width (length (directLines 0 m)) + width (length (zoneLines 0 m)) + rowBytes 0 m
+unfolding listingText ascii
+text-length m =
+    omega (
+      arith,
+      length-append (section "runs" (runLines 0 m)) (section "direct" (directLines 0 m) ++ section "zones" (zoneLines 0 m)),
+      length-append (section "direct" (directLines 0 m)) (section "zones" (zoneLines 0 m)),
+      section-length "runs" (runLines 0 m),
+      section-length "direct" (directLines 0 m),
+      section-length "zones" (zoneLines 0 m),
+    )
+
+-- ---- pages as blocks of one page, of group 12
+
+-- The bytes of such a block's row at page p, and of the rows of the pages below n.
+abbrev pageRow : ℕ → ℕ
+pageRow p = width p + 6
+
+abbrev pageRows : ℕ → ℕ
+pageRows n = sumBelow pageRow n
+
+-- The rows of n pages from p on have a digit or more for each page, all of p's digits, and six bytes behind each number.
+pages-from : (p n : ℕ) → 0 < n → pageRows p + width p + 7 * n ≤ 1 + pageRows (p + n)
+pages-from p zero h = absurd (omega arith)
+pages-from p (suc zero) h = omega (arith, sum-more pageRow p)
+pages-from p (suc (suc n)) h =
+    let e : p + suc (suc n) ≡ p + suc n + 1 = omega arith in
+    omega (arith, pages-from p (suc n) (omega arith), sum-more pageRow (p + suc n), ap pageRows e, decimal-some (p + suc n))
+
+widths : (width 0 ≡ 1) × (width 1 ≡ 1) × (width 12 ≡ 2)
+unfolding decimal digits
+widths = (refl, refl, refl)
+
+-- The rows of n such blocks from page p on.
+record Singles (p n : ℕ) : Type 0 where
+  runs : runLines p (singles n) ≡ []
+  zones : zoneLines p (singles n) ≡ []
+  blocks : length (directLines p (singles n)) ≡ n
+  rows : length (lines (directLines p (singles n))) + pageRows p ≡ pageRows (p + n)
+
+single-rows : (p n : ℕ) → Singles p n
+unfolding lines
+single-rows p zero = record { runs = refl; zones = refl; blocks = refl; rows = let e : p + 0 ≡ p = omega arith in omega (arith, ap pageRows e) }
+single-rows p (suc n) =
+    let i = single-rows (p + 1) n in
+    let e : p + suc n ≡ p + 1 + n = omega arith in
+    let all = length-append (line (p ∷ 1 ∷ 12 ∷ [])) (lines (directLines (p + 1) (singles n))) in
+    record {
+      runs = i .runs;
+      zones = i .zones;
+      blocks = ap suc (i .blocks);
+      rows = omega (arith, i .rows, all, line-three p 1 12, widths .1, widths .2, sum-more pageRow p, ap pageRows e);
+    }
+
+longest-is : (n : ℕ) → longest n ≡ 23 + width n + pageRows n
+unfolding longest lines
+longest-is n =
+    let i = single-rows 0 n in
+    let e : 0 + n ≡ n = omega arith in
+    let bare : List (List ℕ) → ℕ = λ l. width (length l) + length (lines l) in
+    omega (arith, text-length (singles n), ap bare (i .runs), ap bare (i .zones), widths .0, ap width (i .blocks), i .rows, ap pageRows e, sum-none pageRow)
+
+-- ---- any segments
+
+live-most : (z : Zone) → ValidZone z → liveCount (padded (chunks (z .class)) (z .owners)) ≤ 4096
 unfolding liveChunks
-live-most z v = omega (arith, count-le-length isGroup (z .owners), touched-most z v)
+live-most z v = omega (arith, live-shown z v, count-le-length isGroup (z .owners), touched-most z v)
 
-row-length : (p : ℕ) (x : Segment Zone) → Writable x → p + pages x ≤ 256 → length (line (rowOf p x)) ≤ 64
-row-length p (run n) w h = omega (arith, length-line (p ∷ n ∷ []) (every-long p (n ∷ []) (omega arith) (every-long n [] (omega arith) none-long)))
-row-length p (direct n g) w h =
-    let few : g ≤ 12 = w .1 .2 in
-    omega (arith, length-line (p ∷ n ∷ g ∷ []) (every-long p (n ∷ g ∷ []) (omega arith) (every-long n (g ∷ []) (omega arith) (every-long g [] (omega arith) none-long))))
-row-length p (zone z) w h =
-    let c : z .class < 64 = w .1 .class in
-    let l : liveChunks z ≤ 4096 = live-most z (w .1) in
+-- A direct block's row is not longer than the rows of its pages would be; a run's and a zone's are shorter.
+direct-row : (p n g : ℕ) → 0 < n → g ≤ 12 → length (line (p ∷ n ∷ g ∷ [])) < width p + 7 * n
+direct-row p n g h k = omega (arith, line-three p n g, decimal-tens n, decimal-length 1 g (omega arith))
+
+run-row : (p n : ℕ) → 0 < n → length (line (p ∷ n ∷ [])) + 1 < width p + 7 * n
+run-row p n h = omega (arith, line-two p n, decimal-tens n)
+
+zone-row : (p : ℕ) (z : Zone) → ValidZone z → length (line (p ∷ z .class ∷ liveCount (padded (chunks (z .class)) (z .owners)) ∷ [])) + 1 < width p + 7 * 8
+zone-row p z v =
+    let live = liveCount (padded (chunks (z .class)) (z .owners)) in
+    let few : z .class < 64 = v .class in
+    omega (arith, line-three p (z .class) live, decimal-length 1 (z .class) (omega arith), decimal-length 3 live (omega (arith, live-most z v)))
+
+-- The bytes of the rows of segments from page p on, and one for each run and each zone.
+abbrev spent : ℕ → PageMap → ℕ
+spent p m = rowBytes p m + length (runLines p m) + length (zoneLines p m)
+
+-- a for a segment of n pages and b for the k pages behind it are no more than the rows of those pages.
+spent-more : (p n k a b : ℕ) → 0 < n → a < width p + 7 * n → b + pageRows (p + n) ≤ pageRows (p + n + k) → a + b + pageRows p ≤ pageRows (p + (n + k))
+spent-more p n k a b h row rest =
+    let e : p + n + k ≡ p + (n + k) = omega arith in
+    omega (arith, ap pageRows e, pages-from p n h)
+
+all-spent : (p : ℕ) (m : List (Segment Zone)) → Each Writable m → spent p (shown m) + pageRows p ≤ pageRows (p + total m)
+unfolding lines
+all-spent p [] w = let e : p + 0 ≡ p = omega arith in omega (arith, ap pageRows e)
+all-spent p (run n ∷ r) w =
+    let row = line (p ∷ n ∷ []) in
     omega (
       arith,
-      length-line (p ∷ z .class ∷ liveChunks z ∷ [])
-          (every-long p (z .class ∷ liveChunks z ∷ []) (omega arith)
-          (every-long (z .class) (liveChunks z ∷ []) (omega arith) (every-long (liveChunks z) [] (omega arith) none-long))),
+      length-append row (lines (runLines (p + n) (shown r))),
+      spent-more p n (total r) (length row + 1) (spent (p + n) (shown r)) (w .0 .0) (run-row p n (w .0 .0)) (all-spent (p + n) r (w .1)),
     )
-
--- The rows of a segment: not more than it has pages, and 64 bytes each.
-abbrev Short : ℕ → List (List ℕ) → Type 0
-Short n rows = (length rows ≤ n) × (length (lines rows) ≤ 64 * n)
-
-short-at : (k p : ℕ) (x : Segment Zone) → Writable x → p + pages x ≤ 256 → Short (pages x) (rowsAt k p x)
-unfolding rowsAt lines
-short-at k p x w h =
-    let some : 0 < pages x = w .0 in
-    either (Short (pages x)) (eqb (kindOf x) k) (rowOf p x ∷ []) []
-    (λ e. (omega arith, omega (arith, row-length p x w h, length-append (line (rowOf p x)) []))) (λ e. (omega arith, omega arith))
-
-pub short-rows : (k p : ℕ) (m : List (Segment Zone)) → Each Writable m → p + total m ≤ 256 → Short (total m) (rowsOf k p m)
-unfolding rowsOf lines
-short-rows k p [] w h = (omega arith, omega arith)
-short-rows k p (x ∷ r) w h =
-    let a = short-at k p x (w .0) (omega arith) in
-    let b = short-rows k (p + pages x) r (w .1) (omega arith) in (
-      omega (arith, a .0, b .0, length-append (rowsAt k p x) (rowsOf k (p + pages x) r)),
-      omega (
-        arith,
-        a .1,
-        b .1,
-        ap length (lines-append (rowsAt k p x) (rowsOf k (p + pages x) r)),
-        length-append (lines (rowsAt k p x)) (lines (rowsOf k (p + pages x) r)),
-      ),
-    )
-
-section-length : (name : List ℕ) (k : ℕ) (m : List (Segment Zone)) → Each Writable m → total m ≤ 256 → length (sectionText name (rowsOf k 0 m)) ≤ length name + 22 + 64 * total m
-section-length name k m w h =
-    let s = short-rows k 0 m w (omega arith) in
+all-spent p (direct n g ∷ r) w =
+    let row = line (p ∷ n ∷ g ∷ []) in
     omega (
       arith,
-      s .1,
-      length-append (named name (length (rowsOf k 0 m))) (lines (rowsOf k 0 m)),
-      length-named name (length (rowsOf k 0 m)) (omega (arith, s .0)),
+      length-append row (lines (directLines (p + n) (shown r))),
+      spent-more p n (total r) (length row) (spent (p + n) (shown r)) (w .0 .0) (direct-row p n g (w .0 .0) (w .0 .1 .2)) (all-spent (p + n) r (w .1)),
     )
-
--- For an arena of n pages: three names with their counts, and the rows of three sections.
-pub listing-most : {w : List ℕ} {m : List (Segment Zone)} {n : ℕ} → Encodes w m n → length (listingText (shown m)) ≤ 81 + 192 * n
-unfolding ascii
-listing-most {w} {m} {n} e =
-    let few : total m ≤ 256 = omega (arith, e .covers, e .most) in
+all-spent p (zone z ∷ r) w =
+    let row = line (p ∷ z .class ∷ liveCount (padded (chunks (z .class)) (z .owners)) ∷ []) in
     omega (
       arith,
-      e .covers,
-      ap length (listing-sections m (e .sound)),
-      length-append (sectionText (ascii "runs") (rowsOf 1 0 m)) (joined (sectionText (ascii "direct") (rowsOf 2 0 m) ∷ sectionText (ascii "zones") (rowsOf 3 0 m) ∷ [])),
-      length-append (sectionText (ascii "direct") (rowsOf 2 0 m)) (joined (sectionText (ascii "zones") (rowsOf 3 0 m) ∷ [])),
-      length-append (sectionText (ascii "zones") (rowsOf 3 0 m)) [],
-      section-length (ascii "runs") 1 m (e .sound) few,
-      section-length (ascii "direct") 2 m (e .sound) few,
-      section-length (ascii "zones") 3 m (e .sound) few,
+      length-append row (lines (zoneLines (p + 8) (shown r))),
+      spent-more p 8 (total r) (length row + 1) (spent (p + 8) (shown r)) (omega arith) (zone-row p z (w .0 .1)) (all-spent (p + 8) r (w .1)),
     )
 
--- So its length is a number of 32 bits, ..
+-- Direct blocks are at most as many as the pages.
+blocks-most : (p : ℕ) (m : List (Segment Zone)) → Each Writable m → length (directLines p (shown m)) ≤ total m
+blocks-most p [] w = omega arith
+blocks-most p (run n ∷ r) w = omega (arith, blocks-most (p + n) r (w .1))
+blocks-most p (direct n g ∷ r) w = omega (arith, w .0 .0, blocks-most (p + n) r (w .1))
+blocks-most p (zone z ∷ r) w = omega (arith, blocks-most (p + 8) r (w .1))
+
+-- No segments have a longer listing than as many blocks of one page as they have pages.
+pub listing-longest : (m : List (Segment Zone)) → Each Writable m → length (listingText (shown m)) ≤ longest (total m)
+listing-longest m w =
+    let e : 0 + total m ≡ total m = omega arith in
+    omega (
+      arith,
+      text-length (shown m),
+      longest-is (total m),
+      all-spent 0 m w,
+      ap pageRows e,
+      sum-none pageRow,
+      decimal-tens (length (runLines 0 (shown m))),
+      decimal-tens (length (zoneLines 0 (shown m))),
+      decimal-grows (total m) (length (directLines 0 (shown m))) (blocks-most 0 m w),
+    )
+
+-- ---- the figures
+
+pub longest-grows : (n k : ℕ) → n ≤ k → longest n ≤ longest k
+longest-grows n k h =
+    let e : n + (k - n) ≡ k = omega arith in
+    omega (arith, longest-is n, longest-is k, decimal-grows k n h, ap pageRows e, sum-split pageRow n (k - n))
+
+pub longest-figures : (longest 24 ≡ 207) × (longest 256 ≡ 2220)
+unfolding longest listingText section lines line decimal digits ascii
+longest-figures = (refl, refl)
+
+-- For the words of segments: the length is a number of 32 bits.
 pub listing-length : {w : List ℕ} {m : List (Segment Zone)} {n : ℕ} → Encodes w m n → length (listingText (shown m)) < 2 ^ 32
-listing-length e = omega (arith, listing-most e, e .most)
-
--- .. and for 24 pages it has room in 8,192 bytes.
-pub listing-short : {w : List ℕ} {m : List (Segment Zone)} {n : ℕ} → Encodes w m n → n ≤ 24 → length (listingText (shown m)) ≤ 8192
-listing-short e h = omega (arith, listing-most e)
+listing-length {w} {m} {n} e =
+    omega (arith, listing-longest m (e .sound), longest-grows (total m) 256 (omega (arith, e .covers, e .most)), longest-figures .1)
 
 pub listing-bounded : {w : List ℕ} {m : List (Segment Zone)} {n : ℕ} → Encodes w m n → Bounded 0 (listingText (shown m))
 listing-bounded e = omega (arith, listing-length e)

@@ -14,11 +14,11 @@ use Rattle.model.specs.declared.Refusal.{Refusal}
 use Rattle.model.specs.declared.Operation.{Operation}
 use Rattle.model.specs.declared.Operation.the-variants.{Allocate, Free, Reset}
 use Rattle.model.specs.declared.Answer.{Answer}
-use Rattle.model.specs.Arena.{Segment, run, zone, locate}
+use Rattle.model.specs.Arena.{Segment, run, zone, total, locate, Each}
 use Rattle.model.specs.Zone.{Zone}
-use Rattle.model.specs.State.{State, listOf, freshState}
+use Rattle.model.specs.State.{State, listOf, freshState, ZoneAt}
 use Rattle.model.specs.PageMap.{pageMap, Block, groupOf, blockAt}
-use Rattle.model.specs.Valid.{Valid}
+use Rattle.model.specs.Valid.{Apart, ValidSegment, Valid}
 use Rattle.model.specs.Pages.{FreeRun, claim}
 use Rattle.model.specs.Calls.{Action, group, trim, query, listing, Command, init, act, Outcome, isRefused, provided, groupOk, sizeOk}
 use Rattle.model.specs.Allocate.{directFrom, zoneFrom, fromSpare, chunkFrom, supplied, allocate}
@@ -36,21 +36,27 @@ use Rattle.model.proofs.ValidTrim.{trimmed-valid}
 fresh-list : (n c : ℕ) → getD {A = List ℕ} (replicate n []) c [] ≡ []
 fresh-list n c = bool (ltb c n) (λ t. getD-replicate n c [] [] (ltb-true c n t)) (λ t. List·getD-eq-default (replicate n []) [] {n = c} (omega (arith, ltb-false c n t, length-replicate {A = List ℕ} n [])))
 
-pub fresh-valid : (n : ℕ) → 0 < n → n ≤ 256 → Valid (freshState n)
-fresh-valid n least most = record {
-  least = omega arith;
-  most = omega arith;
-  apart = (refl, least, tt);
-  sound = (tt, tt);
+-- A state of valid segments with no zone among them and nothing on its lists is valid.
+pub bare-valid : (m : List (Segment Zone)) → 0 < total m → total m ≤ 256 → Apart false m → Each ValidSegment m
+    → ((p : ℕ) (z : Zone) → ZoneAt m p z → ⊥) → Valid (record { segments = m; lists = replicate 64 []; spare = [] })
+bare-valid m least most apart sound bare = record {
+  least = least;
+  most = most;
+  apart = apart;
+  sound = sound;
   classes = length-replicate {A = List ℕ} 64 [];
   listed = λ c p i. absurd (List·Memᴰ·not-nil (subst (List·Memᴰ p) (fresh-list 64 c) i));
-  complete = λ p z b f. absurd (let u : run n ≡ zone z = cut-zone (run n) 0 (p * 4096) z b .1 in let v : _≡_ {A = ℕ} 0 1 = cc in omega arith);
+  complete = λ p z b f. absurd (bare p z b);
   few = omega arith;
   spared = λ p i. absurd (List·Memᴰ·not-nil i);
   once = λ c. subst (λ l. Distinct l) (sym (fresh-list 64 c)) tt;
   once-spare = tt;
   not-both = λ c p i j. List·Memᴰ·not-nil j;
 }
+
+pub fresh-valid : (n : ℕ) → 0 < n → n ≤ 256 → Valid (freshState n)
+fresh-valid n least most = bare-valid (run n ∷ []) (omega arith) (omega arith) (refl, least, tt) (tt, tt)
+    (λ p z b. let u : run n ≡ zone z = cut-zone (run n) 0 (p * 4096) z b .1 in let v : _≡_ {A = ℕ} 0 1 = cc in omega arith)
 
 -- Calls on a valid state ------------------------------------------------------------------------------------------------
 

@@ -8,17 +8,19 @@ use mathlib.Core.List.{List, _++_}
 use mathlib.Core.Option.{none, some}
 use native.Mathlib.Omega.{arith}
 use lib.ListN.{length, take, drop}
-use Rattle.model.specs.declared.Refusal.the-variants.{NoState}
-use Rattle.model.specs.declared.Answer.the-variants.{Refused, Done, Granted}
-use mathlib.Core.Bool.{true}
+use Rattle.model.specs.declared.Refusal.the-variants.{NoState, ShortBuffer}
+use Rattle.model.specs.declared.Answer.the-variants.{Refused, Done, Granted, Counted}
+use mathlib.Core.Bool.{false}
 use Rattle.model.specs.declared.Operation.the-variants.{Allocate}
+use borrow.Author.Tests.{le-leb}
 use Rattle.model.specs.Sizes.{pageBytes}
 use Rattle.model.specs.Arena.{total}
 use Rattle.model.specs.State.{State, freshState}
 use Rattle.model.specs.PageMap.{pageMap, Block, roomOf, blockAt}
 use Rattle.model.specs.Valid.{Valid}
 use Rattle.model.specs.Calls.{Action, query, listing, Command, init, act, reading, isRefused, group}
-use Rattle.model.specs.Perform.{serve, wordsFor}
+use Rattle.model.specs.Perform.{serve, wordsFor, onState}
+use Rattle.model.specs.Listing.{listingText}
 use Rattle.model.proofs.Disjoint as model
 use Rattle.history.specs.Answers.{RefusedBy}
 use Rattle.history.specs.Demand.{Demand3, LedgerAgrees}
@@ -27,12 +29,14 @@ use Rattle.history.proofs.Theorem.{demand-3, ledger-agrees}
 use Rattle.metadata.specs.Encoding.{encode, BeginsWith}
 use Rattle.metadata.specs.Decoding.{stateOf}
 use Rattle.slab.specs.Calls.{viewOf, written, answerOf, metaAfter, listedOf, textAfter, extent}
-use Rattle.slab.proofs.Words.{holding-of, by-state, written-later, view-after, after-is, same-length, refused-same, query-same, listing-same, unserved-answer, served-long, served-answer, served-words}
+use Rattle.slab.proofs.Words.{holding-of, by-state, written-later, view-after, after-is, same-length, refused-same, query-same, listing-same, unserved-answer, served-long, served-answer, served-words, holding-long}
 use Rattle.slab.proofs.Fresh.{no-pages, many-pages, short-answer, fresh-done, fresh-words}
 use Rattle.slab.proofs.Front.{front-state, front-alone}
 use Rattle.model.proofs.Aligned as aligned
 use Rattle.model.proofs.Aligned.{Aligned}
-use Rattle.metadata.proofs.States.{encode-long}
+use Rattle.metadata.proofs.States.{all-writable}
+use Rattle.listing.specs.Longest.{longest}
+use Rattle.listing.proofs.Lengths as lengths
 
 -- Demand 1: a refused call, which is one whose answer has a number, changes no word.
 pub refused-unchanged : (w : List ℕ) (c : Command) → 0 < (reading (answerOf w c)) .refusal → metaAfter w c ≡ w
@@ -123,3 +127,35 @@ pub grant-aligned : (w : List ℕ) (g n o : ℕ) → answerOf w (act (request g 
 grant-aligned w g n o e = by-state (λ _. Aligned n o) w
     (λ f. absurd (let u = sym (unserved-answer w f (request g n)) ∙ e in let z : _≡_ {A = ℕ} 0 1 = cc in omega arith))
     (λ s _ h. aligned.grant-aligned s (h .valid) g n o (sym (served-answer w s (h .valid) (h .begins) (request g n)) ∙ e))
+
+-- A listing has at most as many bytes as that of as many direct blocks of one page, of group 12, as the arena has pages, ..
+pub listing-longest : (w : List ℕ) (s : State) → stateOf w ≡ some s → length (listingText (pageMap s)) ≤ longest (total (s .segments))
+listing-longest w s e = let v = holding-of w s e .valid in lengths.listing-longest (s .segments) (all-writable false (s .segments) (v .apart) (v .sound))
+
+-- .. which are 2,220 at most, and 207 where there are no more words than 24 pages need.
+pub longest-any : (w : List ℕ) (s : State) → stateOf w ≡ some s → longest (total (s .segments)) ≤ 2220
+longest-any w s e = omega (arith, lengths.longest-grows (total (s .segments)) 256 (holding-of w s e .valid .most), lengths.longest-figures .1)
+
+pub longest-few : (w : List ℕ) (s : State) → stateOf w ≡ some s → length w ≤ wordsFor 24 → longest (total (s .segments)) ≤ 207
+longest-few w s e h =
+    let few : total (s .segments) ≤ 24 = omega (arith, holding-long w s (holding-of w s e)) in
+    omega (arith, lengths.longest-grows (total (s .segments)) 24 few, lengths.longest-figures .0)
+
+-- A buffer of so many bytes is answered with the listing's length, ..
+pub listing-answered : (w : List ℕ) (s : State) → stateOf w ≡ some s → (n : ℕ) → longest (total (s .segments)) ≤ n → answerOf w (act (listing n)) ≡ Counted (length (listingText (pageMap s)))
+unfolding answerOf
+listing-answered w s e n h =
+    ap (λ x. (onState (viewOf w) (listing n) x) .answer) e
+    ∙ rw (le-leb (length (listingText (pageMap s))) n (omega (arith, listing-longest w s e)))
+
+-- .. so 2,220 bytes are never too few, whatever the words, nor are 207 where there are no more words than 24 pages need.
+enough : (w : List ℕ) (n : ℕ) → ((s : State) → stateOf w ≡ some s → longest (total (s .segments)) ≤ n) → answerOf w (act (listing n)) ≡ Refused ShortBuffer → ⊥
+enough w n h r = by-state (λ _. ⊥) w
+    (λ e. let u = sym (unserved-answer w e (listing n)) ∙ r in let z : _≡_ {A = ℕ} 0 1 = cc in omega arith)
+    (λ s e _. let u = sym (listing-answered w s e n (h s e)) ∙ r in let z : _≡_ {A = ℕ} 0 1 = cc in omega arith)
+
+pub never-short : (w : List ℕ) (n : ℕ) → 2220 ≤ n → answerOf w (act (listing n)) ≡ Refused ShortBuffer → ⊥
+never-short w n h = enough w n (λ s e. omega (arith, longest-any w s e))
+
+pub never-short-few : (w : List ℕ) (n : ℕ) → length w ≤ wordsFor 24 → 207 ≤ n → answerOf w (act (listing n)) ≡ Refused ShortBuffer → ⊥
+never-short-few w n few h = enough w n (λ s e. omega (arith, longest-few w s e few))

@@ -58,6 +58,10 @@ holding-of w s e = bool (isState w)
     (λ t. subst (Holding w) (some-inj (rw t at e)) (record { valid = state-valid w t; begins = state-begins w t }))
     (λ t. absurd (Option·none-ne-some s (rw t at e)))
 
+-- There are as many words as the state's pages need.
+pub holding-long : (w : List ℕ) (s : State) → Holding w s → wordsFor (total (s .segments)) ≤ length w
+holding-long w s h = omega (arith, front-fits (encode s) w (h .begins), encode-long s (h .valid))
+
 -- A claim about what words encode, by whether they encode a state.
 pub by-state {ℓ} : (P : Option State → Type ℓ) (w : List ℕ) → (stateOf w ≡ none → P none) → ((s : State) → stateOf w ≡ some s → Holding w s → P (some s)) → P (stateOf w)
 by-state P w f g = go (stateOf w) refl
@@ -84,7 +88,7 @@ view-written w (some s) h = λ i. record {
 -- What a call leaves --------------------------------------------------------------------------------------------------------------
 
 own-writes : (w : List ℕ) → Writes w (stateOf w)
-own-writes w = by-state (Writes w) w (λ e. e) (λ s _ h. (h .valid, omega (arith, front-fits (encode s) w (h .begins), encode-long s (h .valid))))
+own-writes w = by-state (Writes w) w (λ e. e) (λ s _ h. (h .valid, holding-long w s h))
 
 -- What is claimed of the rules' outcome on the words w.
 abbrev Lands : List ℕ → Metadata → Type 0
@@ -101,7 +105,7 @@ perform-lands w (init n) = bool (leb 1 n && leb n 256)
     (λ t. rw t (own-lands w))
 perform-lands w (act a) = by-state (λ x. Lands w ((onState (viewOf w) a x) .after)) w
     (λ e. own-lands w)
-    (λ s e h. (refl, (serve-valid s (h .valid) a, omega (arith, serve-total s (h .valid) a, front-fits (encode s) w (h .begins), encode-long s (h .valid)))))
+    (λ s e h. (refl, (serve-valid s (h .valid) a, omega (arith, serve-total s (h .valid) a, holding-long w s h))))
 
 metaAfter-is : (w : List ℕ) (c : Command) → metaAfter w c ≡ written w ((perform (viewOf w) c) .after .state)
 unfolding metaAfter

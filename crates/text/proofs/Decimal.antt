@@ -71,6 +71,20 @@ decimal-length (suc k) n h =
     by-ltb (λ t. length (decimal n) ≤ suc (suc k)) n 10 (λ s. omega (arith, ap length (decimal-small n s)))
     (λ m. omega (arith, more-length n m))
 
+-- A larger number has as many digits or more; a number has at most one digit more than it has tens.
+pub decimal-grows : (n m : ℕ) → m ≤ n → length (decimal m) ≤ length (decimal n)
+decimal-grows =
+    by-digits (λ n. (m : ℕ) → m ≤ n → length (decimal m) ≤ length (decimal n))
+    (λ n h m l. omega (arith, ap length (decimal-small n h), ap length (decimal-small m (omega arith))))
+    (λ n h k m l.
+    by-ltb (λ t. length (decimal m) ≤ length (decimal n)) m 10 (λ s. omega (arith, ap length (decimal-small m s), decimal-some n))
+    (λ b. omega (arith, more-length n h, more-length m b, k (m / 10) (omega arith))))
+
+pub decimal-tens : (n : ℕ) → length (decimal n) ≤ 1 + n / 10
+decimal-tens =
+    by-digits (λ n. length (decimal n) ≤ 1 + n / 10) (λ n h. omega (arith, ap length (decimal-small n h)))
+    (λ n h k. omega (arith, more-length n h))
+
 -- The numbers of 32 and of 64 bits.
 pub length-word : (n : ℕ) → n < 2 ^ 32 → length (decimal n) ≤ 10
 length-word n h = decimal-length 9 n (omega arith)

@@ -11,7 +11,7 @@ use Rattle.bench.proofs.serve_fragment.Statement.{statement}
 use Rattle.bench.proofs.serve_fragment.Tie as tie
 
 abbrev Inv-loop : tie.InvT-loop
-Inv-loop meta₀ fragment out₀ reader₀ at₀ used₀ meta out reader at used = Serving meta₀ fragment out₀ reader₀ meta out reader at × (used + 8192 ≤ length out)
+Inv-loop meta₀ fragment out₀ reader₀ at₀ used₀ meta out reader at used = Serving meta₀ fragment out₀ reader₀ meta out reader at × (used + 207 ≤ length out)
 
 abbrev μ-loop : tie.MeasureT-loop
 μ-loop meta₀ fragment out₀ reader₀ at₀ used₀ meta out reader at used = length fragment - at
@@ -35,22 +35,22 @@ serve-next-requires : tie.Need-serve-next-requires Inv-loop μ-loop
 serve-next-requires c κs = search needs
 
 add-used : tie.Need-add-used Inv-loop μ-loop
-add-used c = omega (arith, part-holds (c .before .before .before .before .before .before .before .before .before .before .loop .out) (c .before .before .before .before .before .before .before .before .before .before .loop .used) _ 8192 (c .before .before .before .before .before .before .before .before .before .before .loop .inv .1) refl (omega arith) (c .before .before .before .before .before .before .serve-next .ensures .reply), part-keeps (c .before .before .before .before .before .before .before .before .before .before .loop .out) (c .before .before .before .before .before .before .before .before .before .before .loop .used) _ 8192 (c .before .before .before .before .before .before .before .before .before .before .loop .inv .1) refl (omega arith) (c .before .before .before .before .before .before .serve-next .ensures .reply))
+add-used c = omega (arith, part-holds (c .before .before .before .before .before .before .before .before .before .before .loop .out) (c .before .before .before .before .before .before .before .before .before .before .loop .used) _ 207 (c .before .before .before .before .before .before .before .before .before .before .loop .inv .1) refl (omega arith) (c .before .before .before .before .before .before .serve-next .ensures .reply), part-keeps (c .before .before .before .before .before .before .before .before .before .before .loop .out) (c .before .before .before .before .before .before .before .before .before .before .loop .used) _ 207 (c .before .before .before .before .before .before .before .before .before .before .loop .inv .1) refl (omega arith) (c .before .before .before .before .before .before .serve-next .ensures .reply))
 
 sub-if1 : tie.Need-sub-if1 Inv-loop μ-loop
-sub-if1 c = part-holds (c .before .before .before .before .before .before .before .before .before .before .loop .out) (c .before .before .before .before .before .before .before .before .before .before .loop .used) _ 8192 (c .before .before .before .before .before .before .before .before .before .before .loop .inv .1) refl (omega arith) (c .before .before .before .before .before .before .serve-next .ensures .reply)
+sub-if1 c = part-holds (c .before .before .before .before .before .before .before .before .before .before .loop .out) (c .before .before .before .before .before .before .before .before .before .before .loop .used) _ 207 (c .before .before .before .before .before .before .before .before .before .before .loop .inv .1) refl (omega arith) (c .before .before .before .before .before .before .serve-next .ensures .reply)
 
 loop-less : tie.Need-loop-less Inv-loop μ-loop
 loop-less c = omega (arith, c .before .before .before .before .before .before .before .serve-next .ensures .onward (c .before .before .before .before .before .before .before .before .before .before .loop-test .taken))
 
 loop-again : tie.Need-loop-again Inv-loop μ-loop
-loop-again c = (serving-turn (c .before .before .before .before .before .before .before .before .before .before .before .loop .inv .0) (c .before .before .before .before .before .before .before .serve-next .ensures) (search needs) (part-keeps (c .before .before .before .before .before .before .before .before .before .before .before .loop .out) (c .before .before .before .before .before .before .before .before .before .before .before .loop .used) _ 8192 (c .before .before .before .before .before .before .before .before .before .before .before .loop .inv .1) refl (omega arith) (c .before .before .before .before .before .before .before .serve-next .ensures .reply)), omega (arith, part-holds (c .before .before .before .before .before .before .before .before .before .before .before .loop .out) (c .before .before .before .before .before .before .before .before .before .before .before .loop .used) _ 8192 (c .before .before .before .before .before .before .before .before .before .before .before .loop .inv .1) refl (omega arith) (c .before .before .before .before .before .before .before .serve-next .ensures .reply)))
+loop-again c = (serving-turn (c .before .before .before .before .before .before .before .before .before .before .before .loop .inv .0) (c .before .before .before .before .before .before .before .serve-next .ensures) (search needs) (part-keeps (c .before .before .before .before .before .before .before .before .before .before .before .loop .out) (c .before .before .before .before .before .before .before .before .before .before .before .loop .used) _ 207 (c .before .before .before .before .before .before .before .before .before .before .before .loop .inv .1) refl (omega arith) (c .before .before .before .before .before .before .before .serve-next .ensures .reply)), omega (arith, part-holds (c .before .before .before .before .before .before .before .before .before .before .before .loop .out) (c .before .before .before .before .before .before .before .before .before .before .before .loop .used) _ 207 (c .before .before .before .before .before .before .before .before .before .before .before .loop .inv .1) refl (omega arith) (c .before .before .before .before .before .before .before .serve-next .ensures .reply)))
 
 slice-reshare-prefix-write-all : tie.Need-slice-reshare-prefix-write-all Inv-loop μ-loop
-slice-reshare-prefix-write-all c = part-holds (c .before .before .before .before .before .before .before .before .before .before .before .loop .out) (c .before .before .before .before .before .before .before .before .before .before .before .loop .used) _ 8192 (c .before .before .before .before .before .before .before .before .before .before .before .loop .inv .1) refl (omega arith) (c .before .before .before .before .before .before .before .serve-next .ensures .reply)
+slice-reshare-prefix-write-all c = part-holds (c .before .before .before .before .before .before .before .before .before .before .before .loop .out) (c .before .before .before .before .before .before .before .before .before .before .before .loop .used) _ 207 (c .before .before .before .before .before .before .before .before .before .before .before .loop .inv .1) refl (omega arith) (c .before .before .before .before .before .before .before .serve-next .ensures .reply)
 
 slice-aggregate-write-all : tie.Need-slice-aggregate-write-all Inv-loop μ-loop
-slice-aggregate-write-all c = sym (length-take-le _ _ (part-holds (c .before .before .before .before .before .before .before .before .before .before .before .before .loop .out) (c .before .before .before .before .before .before .before .before .before .before .before .before .loop .used) _ 8192 (c .before .before .before .before .before .before .before .before .before .before .before .before .loop .inv .1) refl (omega arith) (c .before .before .before .before .before .before .before .before .serve-next .ensures .reply)))
+slice-aggregate-write-all c = sym (length-take-le _ _ (part-holds (c .before .before .before .before .before .before .before .before .before .before .before .before .loop .out) (c .before .before .before .before .before .before .before .before .before .before .before .before .loop .used) _ 207 (c .before .before .before .before .before .before .before .before .before .before .before .before .loop .inv .1) refl (omega arith) (c .before .before .before .before .before .before .before .before .serve-next .ensures .reply)))
 
 write-all-requires : tie.Need-write-all-requires Inv-loop μ-loop
 write-all-requires c κs = search needs
@@ -68,7 +68,7 @@ loop-less-2 : tie.Need-loop-less-2 Inv-loop μ-loop
 loop-less-2 c = omega (arith, c .before .before .before .before .before .before .before .before .before .before .serve-next .ensures .onward (c .before .before .before .before .before .before .before .before .before .before .before .before .before .loop-test .taken))
 
 loop-again-2 : tie.Need-loop-again-2 Inv-loop μ-loop
-loop-again-2 c = (serving-turn (c .before .before .before .before .before .before .before .before .before .before .before .before .before .before .loop .inv .0) (c .before .before .before .before .before .before .before .before .before .before .serve-next .ensures) (search needs) (part-keeps (c .before .before .before .before .before .before .before .before .before .before .before .before .before .before .loop .out) (c .before .before .before .before .before .before .before .before .before .before .before .before .before .before .loop .used) _ 8192 (c .before .before .before .before .before .before .before .before .before .before .before .before .before .before .loop .inv .1) refl (omega arith) (c .before .before .before .before .before .before .before .before .before .before .serve-next .ensures .reply)), omega (arith, part-keeps (c .before .before .before .before .before .before .before .before .before .before .before .before .before .before .loop .out) (c .before .before .before .before .before .before .before .before .before .before .before .before .before .before .loop .used) _ 8192 (c .before .before .before .before .before .before .before .before .before .before .before .before .before .before .loop .inv .1) refl (omega arith) (c .before .before .before .before .before .before .before .before .before .before .serve-next .ensures .reply), c .before .before .before .before .before .before .before .before .before .before .before .before .before .before .loop .inv .1))
+loop-again-2 c = (serving-turn (c .before .before .before .before .before .before .before .before .before .before .before .before .before .before .loop .inv .0) (c .before .before .before .before .before .before .before .before .before .before .serve-next .ensures) (search needs) (part-keeps (c .before .before .before .before .before .before .before .before .before .before .before .before .before .before .loop .out) (c .before .before .before .before .before .before .before .before .before .before .before .before .before .before .loop .used) _ 207 (c .before .before .before .before .before .before .before .before .before .before .before .before .before .before .loop .inv .1) refl (omega arith) (c .before .before .before .before .before .before .before .before .before .before .serve-next .ensures .reply)), omega (arith, part-keeps (c .before .before .before .before .before .before .before .before .before .before .before .before .before .before .loop .out) (c .before .before .before .before .before .before .before .before .before .before .before .before .before .before .loop .used) _ 207 (c .before .before .before .before .before .before .before .before .before .before .before .before .before .before .loop .inv .1) refl (omega arith) (c .before .before .before .before .before .before .before .before .before .before .serve-next .ensures .reply), c .before .before .before .before .before .before .before .before .before .before .before .before .before .before .loop .inv .1))
 
 slice-reshare-prefix-write-all-2 : tie.Need-slice-reshare-prefix-write-all-2 Inv-loop μ-loop
 slice-reshare-prefix-write-all-2 c = search needs
