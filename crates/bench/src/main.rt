@@ -4,6 +4,7 @@ ghost use mathlib.Core.Path.{_≡_};
 ghost use mathlib.Core.Bool.{false};
 ghost use Prim.Native.Nat.{_≤_};
 ghost use lib.ListN.{length};
+ghost use Rattle.lemmas.specs.Zeros.{zeros};
 ghost use Rattle.metadata.specs.Decoding.{isState};
 ghost use Rattle.uplink.specs.Fragments.{Sound, held};
 ghost use Rattle.bench.specs.Fragments.{ServedAll};
@@ -20,9 +21,10 @@ struct Served {
     written: bool,
 }
 
-// 1,024 + 520 × 24 words.
+// 1,024 + 520 × 24 words, all zero: they encode no valid state.
 fn fresh_words() -> [u32; 13504]
     ensures { λ r. ⌜ 13504 ≡ length r ⌝ }
+    ensures { λ r. ⌜ r ≡ zeros 13504 ⌝ }
     ensures { λ r. ⌜ isState r ≡ false ⌝ }
 {
     [0; 13504]

@@ -7,7 +7,7 @@ use Rattle.bench.proofs.fresh_words.Tie as tie
 
 returns : tie.Need-returns
 unfolding zeros
-returns c = (refl, zeros-none 13504)
+returns c = (refl, (refl, zeros-none 13504))
 
 pub fresh-words-spec : {M : Type 1} → statement M
 fresh-words-spec = tie.close (tie.spec returns)
