@@ -78,28 +78,37 @@ pub fn trim(words: &mut [u32]) -> Result<u32, Number> {
 /// Group and room. It only reads; why the words are lent for writing all the same is said at
 /// [`crate::check::check`].
 pub fn query(words: &mut [u32], offset: u32) -> Result<(u32, u32), Number> {
+    query_at(words.as_mut_ptr(), words.len(), offset)
+}
+
+/// The same of words that need not be writable: the header says `const`.
+pub fn query_of(words: &[u32], offset: u32) -> Result<(u32, u32), Number> {
+    query_at(words.as_ptr(), words.len(), offset)
+}
+
+fn query_at(meta: *const u32, words: usize, offset: u32) -> Result<(u32, u32), Number> {
     let mut room = UNWRITTEN;
-    // SAFETY: as in `allocate`; the two results are two locals.
-    let group = result(|group| unsafe {
-        nostrimel_query(words.as_mut_ptr(), words.len(), offset, group, &mut room)
-    });
+    // SAFETY: pointer and count are those of one slice; the two results are two locals.
+    let group = result(|group| unsafe { nostrimel_query(meta, words, offset, group, &mut room) });
     assert!(group.is_ok() || room == UNWRITTEN, "a refusal wrote a room");
     group.map(|group| (group, room))
 }
 
 /// The length of the listing, which stands at the front of the text then.
 pub fn listing(words: &mut [u32], text: &mut [u8]) -> Result<usize, Number> {
+    listing_at(words.as_mut_ptr(), words.len(), text)
+}
+
+/// The same of words that need not be writable.
+pub fn listing_of(words: &[u32], text: &mut [u8]) -> Result<usize, Number> {
+    listing_at(words.as_ptr(), words.len(), text)
+}
+
+fn listing_at(meta: *const u32, words: usize, text: &mut [u8]) -> Result<usize, Number> {
     let mut length = usize::MAX;
-    // SAFETY: as in `allocate`; pointer and capacity are those of one slice too.
-    let number = unsafe {
-        nostrimel_listing(
-            words.as_mut_ptr(),
-            words.len(),
-            text.as_mut_ptr(),
-            text.len(),
-            &mut length,
-        )
-    };
+    // SAFETY: as in `query_at`; pointer and capacity are those of one slice too.
+    let number =
+        unsafe { nostrimel_listing(meta, words, text.as_mut_ptr(), text.len(), &mut length) };
     match number {
         0 => Ok(length),
         _ => {

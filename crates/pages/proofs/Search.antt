@@ -1,24 +1,24 @@
 -- The walk of the search for pages, and the walk to the segment that holds a page. Assumes nothing.
 use Prim.Native.Nat.{ℕ, _+_, _*_, _≤_, _<_}
 use mathlib.Core.Path.{_≡_, refl, sym, ap, _∙_, subst}
-use mathlib.Core.List.{List, [], _∷_}
-use mathlib.Core.Option.{Option, none, some}
-use mathlib.Core.Bool.{Bool, true, false, cond}
+use mathlib.Core.List.{List, [], _∷_, _++_}
+use mathlib.Core.Option.{none}
+use mathlib.Core.Bool.{cond}
 use native.Mathlib.Omega.{arith}
-use lib.Dec.{ltb, leb, eqb}
+use lib.Dec.{eqb}
 use lib.ListN.{length, getD}
 use borrow.Author.Tests.{le-leb, lt-leb, lt-ltb, le-ltb, eq-eqb, ne-eqb}
-use Rattle.model.specs.Arena.{Segment, run, direct, zone, pages}
+use Rattle.model.specs.Arena.{Segment, run, direct, zone, pages, total}
 use Rattle.model.specs.Zone.{Zone}
-use Rattle.model.specs.Pages.{FreeRun, firstFit, claim}
+use Rattle.model.specs.Pages.{firstFit, claim}
 use Rattle.pages.specs.declared.Found.{Found}
 use Rattle.pages.specs.declared.Found.the-variants.{Run, Nothing}
 use Rattle.pages.specs.declared.Spot.{Spot}
-use Rattle.pages.specs.declared.Spot.the-variants.{Segment as At, Nowhere}
+use Rattle.pages.specs.declared.Spot.the-variants.{Segment as At}
 use Rattle.pages.specs.Encoding.{kindOf}
 use Rattle.pages.specs.Decoding.{segmentsOf, Holds}
-use Rattle.pages.specs.Places.{found, runPages, runAtStart, Stands, spotFrom}
-use Rattle.pages.proofs.Walk.{Read, Walk, walk-start, Next, next, past, at-it, walk-end, Behind, last, more, behind-it}
+use Rattle.pages.specs.Places.{found, runPages, runAtEnd, runAtStart, Stands, Passed, firstRun, spotFrom}
+use Rattle.pages.proofs.Walk.{read-at, passed-more, passed-stands, passed-on, Walk, walk-from, walk-start, Next, next, past, at-it, Behind, last, more, behind-it}
 
 -- A run's pages, as the code has them.
 pub run-pages : (x : Segment Zone) (kind len : ℕ) → kind ≡ kindOf x → len ≡ pages x → cond (eqb kind 1) len 0 ≡ runPages x
@@ -26,20 +26,42 @@ run-pages (run n) k l e f = rw (eq-eqb k 1 e) f
 run-pages (direct n g) k l e f = rw (ne-eqb k 1 (λ z. omega arith))
 run-pages (zone z) k l e f = rw (ne-eqb k 1 (λ z. omega arith))
 
+-- The next run -------------------------------------------------------------------------------------------------------------------
+
+abbrev pub runs : ℕ → ℕ → ℕ → List (Segment Zone) → Found
+runs a b p l = found (firstRun p l)
+
+run-here : (p : ℕ) (x : Segment Zone) (r : List (Segment Zone)) → kindOf x ≡ 1 → found (firstRun p (x ∷ r)) ≡ Run p (pages x)
+run-here p (run n) r k = rw (le-leb 0 n (omega arith))
+run-here p (direct n g) r k = absurd (omega arith)
+run-here p (zone z) r k = absurd (omega arith)
+
+run-past : (p : ℕ) (x : Segment Zone) (r : List (Segment Zone)) → (kindOf x ≡ 1 → ⊥) → found (firstRun p (x ∷ r)) ≡ found (firstRun (p + pages x) r)
+run-past p (run n) r k = absurd (k refl)
+run-past p (direct n g) r k = refl
+run-past p (zone z) r k = refl
+
+-- The walk to it, at page p: what is left has the run f as its first one.
+abbrev pub Seeking : List ℕ → ℕ → Found → ℕ → Type 0
+Seeking w n f p = (b : ℕ) × Walk runs w n f 0 b p
+
+pub seek-from : {w : List ℕ} {n p b : ℕ} {l : List (Segment Zone)} → Holds w n → Passed (segmentsOf w) p b l → Seeking w n (found (firstRun p l)) p
+seek-from {w} {n} {p} {b} h q = (b, walk-from 0 h q)
+
+module _ {w : List ℕ} {n p len : ℕ} {f : Found} (i : Seeking w n f p) (h : p < n) (size : len ≡ pages ((next (i .1) h) .x)) where
+  abbrev k : Next (i .1)
+  k = next (i .1) h
+
+  pub seek-past : (getD w (520 * p) 0 ≡ 1 → ⊥) → Seeking w n f (p + len)
+  seek-past e = subst (λ l. Seeking w n f (p + l)) (sym size) (runPages (k .x), past (i .1) k 0 (run-past p (k .x) (k .rest) (λ q. e (k .read .kind ∙ q))))
+
+  pub seek-hit : getD w (520 * p) 0 ≡ 1 → Run p len ≡ f
+  seek-hit e = ap (Run p) size ∙ sym (run-here p (k .x) (k .rest) (sym (k .read .kind) ∙ e)) ∙ at-it (i .1) k
+
 -- The search ---------------------------------------------------------------------------------------------------------------------
 
 abbrev pub fits : ℕ → ℕ → ℕ → ℕ → List (Segment Zone) → Found
 fits need a b p l = found (firstFit p need l)
-
-fit-here : (p need : ℕ) (x : Segment Zone) (r : List (Segment Zone)) → kindOf x ≡ 1 → need ≤ pages x → found (firstFit p need (x ∷ r)) ≡ Run p (pages x)
-fit-here p need (run n) r k h = rw (le-leb need n h)
-fit-here p need (direct n g) r k h = absurd (omega arith)
-fit-here p need (zone z) r k h = absurd (omega arith)
-
-fit-past : (p need : ℕ) (x : Segment Zone) (r : List (Segment Zone)) → (kindOf x ≡ 1 → pages x < need) → found (firstFit p need (x ∷ r)) ≡ found (firstFit (p + pages x) need r)
-fit-past p need (run n) r h = rw (lt-leb need n (h refl))
-fit-past p need (direct n g) r h = refl
-fit-past p need (zone z) r h = refl
 
 -- The loop's invariant: the search of what is left finds what the whole search finds.
 abbrev pub Searching : List ℕ → ℕ → ℕ → ℕ → Type 0
@@ -49,15 +71,65 @@ pub search-start : (w : List ℕ) (n need : ℕ) → Holds w n → Searching w n
 unfolding claim
 search-start w n need h = (0, walk-start 0 h)
 
-module _ {w : List ℕ} {n need p len : ℕ} (i : Searching w n need p) (h : p < n) (size : len ≡ pages ((next (i .1) h) .x)) where
-  abbrev k : Next (i .1)
-  k = next (i .1) h
+-- Where there is no run, none has enough pages.
+no-run : (p need : ℕ) (l : List (Segment Zone)) → found (firstRun p l) ≡ Nothing → found (firstFit p need l) ≡ Nothing
+no-run p need [] e = refl
+no-run p need (run k ∷ r) e = absurd (let q : Run p k ≡ Nothing = sym (run-here p (run k) r refl) ∙ e in let z : _≡_ {A = ℕ} 0 1 = cc in omega arith)
+no-run p need (direct k g ∷ r) e = no-run (p + k) need r e
+no-run p need (zone z ∷ r) e = no-run (p + 8) need r e
 
-  pub search-past : (getD w (520 * p) 0 ≡ 1 → len < need) → Searching w n need (p + len)
-  search-past f = subst (λ l. Searching w n need (p + l)) (sym size) (runPages (k .x), past (i .1) k 0 (fit-past p need (k .x) (k .rest) (λ e. omega (arith, f (k .read .kind ∙ e), size))))
+-- The segments l, which begin at page p, up to their first run, and the search from there on.
+record Reaches (p need : ℕ) (l : List (Segment Zone)) (at len : ℕ) : Type 0 where
+  pre : List (Segment Zone)
+  post : List (Segment Zone)
+  whole : l ≡ pre ++ (run len ∷ post)
+  starts : p + total pre ≡ at
+  same : firstFit p need l ≡ firstFit at need (run len ∷ post)
 
-  pub search-hit : getD w (520 * p) 0 ≡ 1 → need ≤ len → Run p len ≡ found (claim need (segmentsOf w))
-  search-hit e f = ap (Run p) size ∙ sym (fit-here p need (k .x) (k .rest) (sym (k .read .kind) ∙ e) (omega (arith, size))) ∙ at-it (i .1) k
+reaches-behind : {p need : ℕ} {r : List (Segment Zone)} {at len : ℕ} (x : Segment Zone) → firstFit p need (x ∷ r) ≡ firstFit (p + pages x) need r → Reaches (p + pages x) need r at len → Reaches p need (x ∷ r) at len
+reaches-behind x q h = record { pre = x ∷ h .pre; post = h .post; whole = ap (λ l. x ∷ l) (h .whole); starts = omega (arith, h .starts); same = q ∙ h .same }
+
+reaches : (p need : ℕ) (l : List (Segment Zone)) (at len : ℕ) → found (firstRun p l) ≡ Run at len → Reaches p need l at len
+reaches p need [] at len e = absurd (let z : _≡_ {A = ℕ} 0 1 = cc in omega arith)
+reaches p need (run k ∷ r) at len e =
+    let q : Run p k ≡ Run at len = sym (run-here p (run k) r refl) ∙ e in
+    let a : p ≡ at = cc in
+    let b : k ≡ len = cc in
+    record { pre = []; post = r; whole = ap (λ j. run j ∷ r) b; starts = omega arith; same = λ i. firstFit (a i) need (run (b i) ∷ r) }
+reaches p need (direct k g ∷ r) at len e = reaches-behind (direct k g) refl (reaches (p + k) need r at len e)
+reaches p need (zone z ∷ r) at len e = reaches-behind (zone z) refl (reaches (p + 8) need r at len e)
+
+-- A turn: the next run f behind page p.
+module _ {w : List ℕ} {n need p : ℕ} {f : Found} (i : Searching w n need p) (next-is : f ≡ found (firstRun p (i .1 .left))) where
+  pub search-none : f ≡ Nothing → Nothing ≡ found (claim need (segmentsOf w))
+  search-none e = sym (no-run p need (i .1 .left) (sym next-is ∙ e)) ∙ i .1 .same
+
+  module _ {at len : ℕ} (is : f ≡ Run at len) where
+    stop : Reaches p need (i .1 .left) at len
+    stop = reaches p need (i .1 .left) at len (sym next-is ∙ is)
+
+    from-stop : Passed (segmentsOf w) at (runAtEnd (i .0) (stop .pre)) (run len ∷ stop .post)
+    from-stop = passed-on (stop .pre) (stop .whole) (stop .starts) (i .1 .passed)
+
+    pub run-inside : (0 < len) × (p ≤ at) × (at + len ≤ n) × (n ≤ 256)
+    run-inside = let r = read-at (i .1 .encodes) (passed-stands (run len) (stop .post) from-stop) in
+        (r .ok .0, omega (arith, stop .starts), r .inside, r .few)
+
+    pub search-hit : need ≤ len → Run at len ≡ found (claim need (segmentsOf w))
+    search-hit h = sym (ap found (stop .same) ∙ rw (le-leb need len h)) ∙ i .1 .same
+
+    pub search-past : len < need → Searching w n need (at + len)
+    search-past h = (
+      len,
+      record {
+        encodes = i .1 .encodes;
+        long = i .1 .long;
+        few = i .1 .few;
+        left = stop .post;
+        passed = passed-more (run len) (stop .post) from-stop;
+        same = sym (ap found (stop .same) ∙ rw (lt-leb need len h)) ∙ i .1 .same;
+      },
+    )
 
 -- The segment of a page ----------------------------------------------------------------------------------------------------------
 

@@ -16,9 +16,9 @@ use Rattle.model.proofs.Arena.{locate-right}
 use Rattle.pages.specs.declared.Spot.{Spot}
 use Rattle.pages.specs.declared.Spot.the-variants.{Segment as At, Nowhere}
 use Rattle.pages.specs.Encoding.{kindOf, segmentEncoding}
-use Rattle.pages.specs.Places.{runPages, Stands, spotFrom}
+use Rattle.pages.specs.Places.{runPages, Stands, spotFrom, Passed}
 use Rattle.pages.proofs.Laws.{group-is}
-use Rattle.pages.proofs.Walk.{Read, Passed, passed-none, passed-more, passed-stands, passed-total}
+use Rattle.pages.proofs.Walk.{Read, passed-none, passed-more, passed-stands, passed-total}
 
 -- The segment that holds the page q stands there, or q is no page of the arena.
 abbrev pub Spotted : List (Segment Zone) → ℕ → Spot → Type 0

@@ -1,19 +1,19 @@
 -- A walk over the segments from page to page: what stands at a page, and one law for every loop that goes on behind a segment.
 -- Assumes nothing.
-use Prim.Native.Nat.{ℕ, zero, suc, _+_, _-_, _*_, _≤_, _<_}
+use Prim.Native.Nat.{ℕ, _+_, _-_, _*_, _≤_, _<_}
 use mathlib.Core.Path.{_≡_, refl, sym, ap, _∙_, subst}
 use mathlib.Core.List.{List, [], _∷_, _++_, append-assoc}
 use native.Mathlib.Omega.{arith}
 use native.Mathlib.Nat.{add-zero}
-use lib.ListN.{length, getD, take, drop}
+use lib.ListN.{length, getD, drop}
 use lib.Seq.{drop-at, drop-drop, getD-drop}
-use Rattle.model.specs.Arena.{Segment, run, direct, zone, pages, total, Each}
+use Rattle.model.specs.Arena.{Segment, run, pages, total, Each}
 use Rattle.model.specs.Zone.{Zone}
 use Rattle.model.proofs.Arena.{total-append}
 use Rattle.pages.specs.Encoding.{kindOf, segmentEncoding, segmentsEncoding, Writable}
 use Rattle.pages.specs.Decoding.{segmentsOf, Encodes, Holds}
-use Rattle.pages.specs.Places.{runPages, runAtEnd, Stands}
-use Rattle.pages.proofs.Laws.{length-segment, length-segments, encoding-append, kind-is, size-is, zone-size, drop-segment, each-left, each-right}
+use Rattle.pages.specs.Places.{runPages, runAtEnd, Stands, Passed}
+use Rattle.pages.proofs.Laws.{length-segments, encoding-append, kind-is, size-is, drop-segment, each-left, each-right}
 
 pub encodes-length : {w : List ℕ} {m : List (Segment Zone)} {n : ℕ} → Encodes w m n → length w ≡ 520 * n
 encodes-length {w} {m} {n} h = ap length (h .words) ∙ length-segments m (h .sound) ∙ ap (λ k. 520 * k) (h .covers)
@@ -48,13 +48,6 @@ read-at {w} {m} {n} {p} {b} {x} h s =
       inside = omega (arith, h .covers, s .starts, ap (λ l. total l) (s .whole), total-append (s .before) (x ∷ s .behind));
     }
 
--- The segments behind the pages that a walk has passed. (b: the pages of the run that ends there.)
-pub record Passed (m : List (Segment Zone)) (p b : ℕ) (post : List (Segment Zone)) : Type 0 where
-  pub pre : List (Segment Zone)
-  pub whole : m ≡ pre ++ post
-  pub starts : total pre ≡ p
-  pub ends : runAtEnd 0 pre ≡ b
-
 pub passed-none : (m : List (Segment Zone)) → Passed m 0 0 m
 passed-none m = record { pre = []; whole = refl; starts = refl; ends = refl }
 
@@ -62,12 +55,25 @@ pub run-at-end : (b : ℕ) (a : List (Segment Zone)) (x : Segment Zone) → runA
 run-at-end b [] x = refl
 run-at-end b (y ∷ a) x = run-at-end (runPages y) a x
 
+at-end-append : (b : ℕ) (a c : List (Segment Zone)) → runAtEnd b (a ++ c) ≡ runAtEnd (runAtEnd b a) c
+at-end-append b [] c = refl
+at-end-append b (x ∷ a) c = at-end-append (runPages x) a c
+
 pub passed-more : {m : List (Segment Zone)} {p b : ℕ} (x : Segment Zone) (r : List (Segment Zone)) → Passed m p b (x ∷ r) → Passed m (p + pages x) (runPages x) r
 passed-more {m} {p} {b} x r h = record {
   pre = h .pre ++ (x ∷ []);
   whole = h .whole ∙ sym (append-assoc (h .pre) (x ∷ []) r);
   starts = omega (arith, total-append (h .pre) (x ∷ []), h .starts);
   ends = run-at-end 0 (h .pre) x;
+}
+
+-- Past several segments at once.
+pub passed-on : {m : List (Segment Zone)} {p b at : ℕ} {l r : List (Segment Zone)} (a : List (Segment Zone)) → l ≡ a ++ r → p + total a ≡ at → Passed m p b l → Passed m at (runAtEnd b a) r
+passed-on {m} {p} {b} {at} {l} {r} a e s h = record {
+  pre = h .pre ++ a;
+  whole = h .whole ∙ ap (λ k. h .pre ++ k) e ∙ sym (append-assoc (h .pre) a r);
+  starts = omega (arith, total-append (h .pre) a, h .starts);
+  ends = at-end-append 0 (h .pre) a ∙ ap (λ k. runAtEnd k a) (h .ends);
 }
 
 pub passed-stands : {m : List (Segment Zone)} {p b : ℕ} (x : Segment Zone) (r : List (Segment Zone)) → Passed m p b (x ∷ r) → Stands m p b x
@@ -87,8 +93,12 @@ pub record Walk {A R : Type 0} (f : A → ℕ → ℕ → List (Segment Zone) �
   pub same : f a b p left ≡ e
 
 module _ {A R : Type 0} {f : A → ℕ → ℕ → List (Segment Zone) → R} {w : List ℕ} {n : ℕ} where
+  -- A walk that begins behind pages passed already, or at the arena's start.
+  pub walk-from : (a : A) {b p : ℕ} {l : List (Segment Zone)} → Holds w n → Passed (segmentsOf w) p b l → Walk f w n (f a b p l) a b p
+  walk-from a {b} {p} {l} h q = record { encodes = h; long = encodes-length h; few = h .most; left = l; passed = q; same = refl }
+
   pub walk-start : (a : A) → Holds w n → Walk f w n (f a 0 0 (segmentsOf w)) a 0 0
-  walk-start a h = record { encodes = h; long = encodes-length h; few = h .most; left = segmentsOf w; passed = passed-none (segmentsOf w); same = refl }
+  walk-start a h = walk-from a h (passed-none (segmentsOf w))
 
   -- The segment at the walk's page.
   pub record Next {e : R} {a : A} {b p : ℕ} (i : Walk f w n e a b p) : Type 0 where

@@ -9,7 +9,7 @@ use lib.ListN.{length}
 use Rattle.lemmas.specs.Zeros.{Zero}
 use Rattle.model.specs.Arena.{Segment, run, direct, zone, pages, total}
 use Rattle.model.specs.Zone.{Zone}
-use Rattle.model.specs.Pages.{FreeRun}
+use Rattle.model.specs.Pages.{FreeRun, firstFit}
 use Rattle.model.specs.Perform.{pageWords}
 use Rattle.pages.specs.declared.Found.{Found}
 use Rattle.pages.specs.declared.Found.the-variants.{Run, Nothing}
@@ -45,6 +45,17 @@ pub record Stands (m : List (Segment Zone)) (p b : ℕ) (x : Segment Zone) : Typ
   pub whole : m ≡ before ++ (x ∷ behind)
   pub starts : total before ≡ p
   pub ends : runAtEnd 0 before ≡ b
+
+-- The segments l are those from the page p on, and a run of b pages (0: none) ends there.
+pub record Passed (m : List (Segment Zone)) (p b : ℕ) (l : List (Segment Zone)) : Type 0 where
+  pub pre : List (Segment Zone)
+  pub whole : m ≡ pre ++ l
+  pub starts : total pre ≡ p
+  pub ends : runAtEnd 0 pre ≡ b
+
+-- The first run of segments that begin at the page p: the first that has no pages or more.
+abbrev pub firstRun : ℕ → List (Segment Zone) → Option FreeRun
+firstRun p l = firstFit p 0 l
 
 -- The segment that holds the page q: its first page, its kind, its pages, and the pages of the run that ends where it begins. The
 -- list begins at page p, behind a run of b pages.

@@ -15,7 +15,7 @@ ghost use Rattle.model.specs.Pages.{FreeRun, claim, withRun, carve, release};
 ghost use Rattle.pages.specs.Encoding.{kindOf, segmentEncoding, segmentsEncoding};
 ghost use Rattle.pages.specs.Decoding.{segmentsOf, Holds};
 ghost use Rattle.lemmas.specs.Zeros.{zeros};
-ghost use Rattle.pages.specs.Places.{found, runPages, runAtEnd, runAtStart, Stands, spotFrom, Blank};
+ghost use Rattle.pages.specs.Places.{found, runPages, runAtEnd, runAtStart, Stands, Passed, firstRun, spotFrom, Blank};
 use zone::layout::KIND_ZONE;
 
 // What the search for pages finds: a free run, or none that is long enough.
@@ -84,6 +84,24 @@ pub fn group(words: &[u32], n: usize, p: usize) -> u32
     words[PAGE * p + 2]
 }
 
+// The first free run from the page on; a segment begins there, or the arena ends.
+fn next_run(words: &[u32], n: usize, page: usize) -> Found
+    requires { ⌜ Holds (now words) n ⌝ }
+    requires { ⌜ ((b : ℕ) × (l : List (Segment Zone)) × Passed (segmentsOf (now words)) page b l) ⌝ }
+    ensures { λ r. ⌜ ((b : ℕ) (l : List (Segment Zone)) → Passed (segmentsOf (now (words .entry))) page b l → r ≡ found (firstRun page l)) ⌝ }
+{
+    let mut p = page;
+    while p < n {
+        let len = size(words, n, p);
+        let at = PAGE * p;
+        if words[at] == KIND_RUN {
+            return Found::Run { at: p, len: len };
+        }
+        p += len;
+    }
+    Found::Nothing
+}
+
 // The first free run, in ascending order, that has `need` pages.
 pub fn find_run(words: &[u32], n: usize, need: usize) -> Found
     requires { ⌜ Holds (now words) n ⌝ }
@@ -91,17 +109,13 @@ pub fn find_run(words: &[u32], n: usize, need: usize) -> Found
 {
     let mut p: usize = 0;
     let found = loop {
-        if n <= p {
+        let Found::Run { at, len } = next_run(words, n, p) else {
             break Found::Nothing;
+        };
+        if need <= len {
+            break Found::Run { at: at, len: len };
         }
-        let len = size(words, n, p);
-        let at = PAGE * p;
-        if words[at] == KIND_RUN {
-            if need <= len {
-                break Found::Run { at: p, len: len };
-            }
-        }
-        p += len;
+        p = at + len;
     };
     found
 }

@@ -2,7 +2,8 @@
 
 use reference::calls::Call;
 use reference::listing::LONGEST;
-use tests::layout::{encode, used_words};
+use tests::calls::{listing_of, query_of};
+use tests::layout::{encode, used_words, MAGIC};
 use tests::pair::{noise, Pair};
 use tests::states::{odd, reached};
 
@@ -108,6 +109,44 @@ fn later_words_are_neither_read_nor_changed() {
             assert_eq!(pair.init(pages), Ok(()));
         }
     }
+}
+
+/// The example of docs/LAYOUT.md, in memory that cannot be written: a store, be it of the same word,
+/// would end the test's process.
+static FIXED: [u32; 7_264] = fixed();
+
+const fn fixed() -> [u32; 7_264] {
+    let mut words = [0; 7_264];
+    words[0] = MAGIC;
+    words[1] = 12;
+    words[4] = 3_073;
+    words[1_024] = 3;
+    words[1_025] = 12;
+    words[1_026] = 3;
+    words[1_027] = 2;
+    words[1_088] = 13;
+    words[1_089] = 131_076;
+    words[1_090] = 14;
+    words[5_184] = 2;
+    words[5_185] = 3;
+    words[5_186] = 5;
+    words[6_744] = 1;
+    words[6_745] = 1;
+    words
+}
+
+#[test]
+fn query_and_listing_take_words_that_cannot_be_written() {
+    assert_eq!(query_of(&FIXED, 104), Ok((4, 104)));
+    assert_eq!(query_of(&FIXED, 32_768), Ok((5, 12_288)));
+    assert_eq!(query_of(&FIXED, 0), Err(7));
+    assert_eq!(query_of(&FIXED[..7_263], 104), Err(3));
+    let mut text = [0; LONGEST];
+    let told = "runs 1\n11 1\ndirect 1\n8 3 5\nzones 1\n0 12 1\n";
+    assert_eq!(listing_of(&FIXED, &mut text), Ok(told.len()));
+    assert_eq!(&text[..told.len()], told.as_bytes());
+    assert_eq!(listing_of(&FIXED, &mut text[..told.len() - 1]), Err(12));
+    assert_eq!(listing_of(&FIXED[1..], &mut text), Err(3));
 }
 
 #[test]

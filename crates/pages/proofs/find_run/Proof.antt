@@ -1,9 +1,10 @@
--- `find_run` meets its contract. Assumes nothing.
-use Rattle.pages.proofs.Search.{Searching, search-start, search-past, search-hit}
-use Rattle.pages.proofs.Walk.{next, walk-end}
-use mathlib.Core.Logic.{⊎-elim}
+-- `find_run` meets its contract: run by run, up to one that is long enough. Assumes nothing.
 use Prim.Native.Nat.{_-_}
+use mathlib.Core.Path.{_≡_}
 use native.Mathlib.Omega.{arith}
+use borrow.Author.Needs.{needs}
+use Rattle.pages.specs.Places.{found, firstRun}
+use Rattle.pages.proofs.Search.{Searching, search-start, search-none, run-inside, search-hit, search-past}
 use Rattle.pages.proofs.find_run.Statement.{statement}
 use Rattle.pages.proofs.find_run.Tie as tie
 
@@ -13,35 +14,42 @@ Inv-loop words n need p₀ p = Searching words n need p
 abbrev μ-loop : tie.MeasureT-loop
 μ-loop words n need p₀ p = n - p
 
+-- The places: a turn, its next run asked for, and the run bound.
+abbrev turn : tie.After-next-run Inv-loop μ-loop → tie.At-loop Inv-loop μ-loop
+turn c = c .before
+
+abbrev asked : tie.After-known-told Inv-loop μ-loop → tie.After-next-run Inv-loop μ-loop
+asked c = c .before .before .before
+
+next-is : (c : tie.After-next-run Inv-loop μ-loop) → c .next-run .result ≡ found (firstRun (turn c .loop .p) (turn c .loop .inv .1 .left))
+next-is c = c .next-run .ensures _ _ (turn c .loop .inv .1 .passed)
+
 loop-holds : tie.Need-loop-holds Inv-loop μ-loop
 loop-holds c = search-start _ _ _ (c .before .pre)
 
-size-requires : tie.Need-size-requires Inv-loop μ-loop
-size-requires c κs = let k = next (c .before .loop .inv .1) (c .if1 .left) in (c .before .before .before .pre, (c .before .loop .inv .0, k .x, k .stands))
+next-run-requires : tie.Need-next-run-requires Inv-loop μ-loop
+next-run-requires c κs = let i = c .loop .inv in (c .before .before .pre, (i .0, i .1 .left, i .1 .passed))
 
-mul-at : tie.Need-mul-at Inv-loop μ-loop
-mul-at c = let k = next (c .before .before .loop .inv .1) (c .before .if1 .left) in let r = k .read in omega arith
+enum-known-at : tie.Need-enum-known-at Inv-loop μ-loop
+enum-known-at c = search needs
 
-mul-if2 : tie.Need-mul-if2 Inv-loop μ-loop
-mul-if2 c = let k = next (c .before .before .loop .inv .1) (c .before .if1 .left) in let r = k .read in omega arith
-
-shared-slice-read-if2 : tie.Need-shared-slice-read-if2 Inv-loop μ-loop
-shared-slice-read-if2 c = let k = next (c .before .before .before .loop .inv .1) (c .before .before .if1 .left) in let r = k .read in omega (arith, r .ok .0)
+enum-told : tie.Need-enum-told Inv-loop μ-loop
+enum-told c = search needs
 
 add-p : tie.Need-add-p Inv-loop μ-loop
-add-p c = let k = next (c .before .before .before .before .loop .inv .1) (c .before .before .before .if1 .left) in let r = k .read in let z = c .before .before .size .ensures _ _ (k .stands) in omega arith
+add-p c = let a = asked (c .before) in let r = run-inside (turn a .loop .inv) (next-is a) (c .before .before .at .given .1) in omega arith
 
 loop-less : tie.Need-loop-less Inv-loop μ-loop
-loop-less c = let k = next (c .before .before .before .before .loop .inv .1) (c .before .before .before .if1 .left) in let r = k .read in let z = c .before .before .size .ensures _ _ (k .stands) in omega (arith, r .ok .0)
+loop-less c = let a = asked (c .before) in let r = run-inside (turn a .loop .inv) (next-is a) (c .before .before .at .given .1) in omega arith
 
 loop-again : tie.Need-loop-again Inv-loop μ-loop
-loop-again c = let k = next (c .before .before .before .before .loop .inv .1) (c .before .before .before .if1 .left) in search-past (c .before .before .before .before .loop .inv) (c .before .before .before .if1 .left) (c .before .before .size .ensures _ _ (k .stands)) (⊎-elim (λ w e. w .1 .left) (λ w e. absurd (w .left e)) (c .if2 .came))
+loop-again c = let a = asked (c .before) in search-past (turn a .loop .inv) (next-is a) (c .before .before .at .given .1) (c .if1 .left)
 
 returns : tie.Need-returns Inv-loop μ-loop
-returns c = walk-end (c .before .loop .inv .1) (c .if1 .taken)
+returns c = let a : tie.After-next-run Inv-loop μ-loop = c .before .before in search-none (turn a .loop .inv) (next-is a) (c .enum-told .given .1)
 
 returns-2 : tie.Need-returns-2 Inv-loop μ-loop
-returns-2 c = let k = next (c .before .before .before .before .before .loop .inv .1) (c .before .before .before .before .if1 .left) in search-hit (c .before .before .before .before .before .loop .inv) (c .before .before .before .before .if1 .left) (c .before .before .before .size .ensures _ _ (k .stands)) (c .before .if2 .taken) (c .if3 .taken)
+returns-2 c = let a = asked (c .before) in search-hit (turn a .loop .inv) (next-is a) (c .before .before .at .given .1) (c .if1 .taken)
 
 pub find-run-spec : {M : Type 1} → statement M
 find-run-spec =
@@ -50,10 +58,9 @@ find-run-spec =
     Inv-loop
     μ-loop
     loop-holds
-    size-requires
-    mul-at
-    mul-if2
-    shared-slice-read-if2
+    next-run-requires
+    enum-known-at
+    enum-told
     add-p
     loop-less
     loop-again
