@@ -9,7 +9,7 @@ use mathlib.Core.Option.{none, some}
 use native.Mathlib.Omega.{arith}
 use lib.ListN.{length, take, drop}
 use Rattle.model.specs.declared.Refusal.the-variants.{NoState, ShortBuffer}
-use Rattle.model.specs.declared.Answer.the-variants.{Refused, Done, Granted, Counted}
+use Rattle.model.specs.declared.Answer.the-variants.{Refused, Done, Counted}
 use mathlib.Core.Bool.{false}
 use Rattle.model.specs.declared.Operation.the-variants.{Allocate}
 use borrow.Author.Tests.{le-leb}
@@ -22,9 +22,9 @@ use Rattle.model.specs.Calls.{Action, query, listing, Command, init, act, readi
 use Rattle.model.specs.Perform.{serve, wordsFor, onState}
 use Rattle.model.specs.Listing.{listingText}
 use Rattle.model.proofs.Disjoint as model
-use Rattle.history.specs.Answers.{RefusedBy}
+use Rattle.history.specs.Answers.{RefusedBy, GrantedAt}
 use Rattle.history.specs.Demand.{Demand3, LedgerAgrees}
-use Rattle.history.proofs.Answers.{refused-number}
+use Rattle.history.proofs.Answers.{refused-number, refusal-told, grant-told}
 use Rattle.history.proofs.Theorem.{demand-3, ledger-agrees}
 use Rattle.metadata.specs.Encoding.{encode, BeginsWith}
 use Rattle.metadata.specs.Decoding.{stateOf}
@@ -123,8 +123,10 @@ pub block-aligned : (w : List ℕ) (s : State) → stateOf w ≡ some s → (o :
 block-aligned w s e o b f d p h = aligned.block-aligned (pageMap s) o b f d p h
 
 -- .. so an offset that is granted is a multiple of 8, of the step of its size, and from 8,192 bytes up of a page's bytes (`Aligned`).
-pub grant-aligned : (w : List ℕ) (g n o : ℕ) → answerOf w (act (request g n)) ≡ Granted o → Aligned n o
-grant-aligned w g n o e = by-state (λ _. Aligned n o) w
+pub grant-aligned : (w : List ℕ) (g n o : ℕ) → GrantedAt o (answerOf w (act (request g n))) → Aligned n o
+grant-aligned w g n o h =
+    let e = grant-told o (answerOf w (act (request g n))) .0 h in
+    by-state (λ _. Aligned n o) w
     (λ f. absurd (let u = sym (unserved-answer w f (request g n)) ∙ e in let z : _≡_ {A = ℕ} 0 1 = cc in omega arith))
     (λ s _ h. aligned.grant-aligned s (h .valid) g n o (sym (served-answer w s (h .valid) (h .begins) (request g n)) ∙ e))
 
@@ -149,13 +151,15 @@ listing-answered w s e n h =
     ∙ rw (le-leb (length (listingText (pageMap s))) n (omega (arith, listing-longest w s e)))
 
 -- .. so 2,220 bytes are never too few, whatever the words, nor are 207 where there are no more words than 24 pages need.
-enough : (w : List ℕ) (n : ℕ) → ((s : State) → stateOf w ≡ some s → longest (total (s .segments)) ≤ n) → answerOf w (act (listing n)) ≡ Refused ShortBuffer → ⊥
-enough w n h r = by-state (λ _. ⊥) w
+enough : (w : List ℕ) (n : ℕ) → ((s : State) → stateOf w ≡ some s → longest (total (s .segments)) ≤ n) → RefusedBy 12 (answerOf w (act (listing n))) → ⊥
+enough w n h k =
+    let r = refusal-told ShortBuffer (answerOf w (act (listing n))) .0 k in
+    by-state (λ _. ⊥) w
     (λ e. let u = sym (unserved-answer w e (listing n)) ∙ r in let z : _≡_ {A = ℕ} 0 1 = cc in omega arith)
     (λ s e _. let u = sym (listing-answered w s e n (h s e)) ∙ r in let z : _≡_ {A = ℕ} 0 1 = cc in omega arith)
 
-pub never-short : (w : List ℕ) (n : ℕ) → 2220 ≤ n → answerOf w (act (listing n)) ≡ Refused ShortBuffer → ⊥
+pub never-short : (w : List ℕ) (n : ℕ) → 2220 ≤ n → RefusedBy 12 (answerOf w (act (listing n))) → ⊥
 never-short w n h = enough w n (λ s e. omega (arith, longest-any w s e))
 
-pub never-short-few : (w : List ℕ) (n : ℕ) → length w ≤ wordsFor 24 → 207 ≤ n → answerOf w (act (listing n)) ≡ Refused ShortBuffer → ⊥
+pub never-short-few : (w : List ℕ) (n : ℕ) → length w ≤ wordsFor 24 → 207 ≤ n → RefusedBy 12 (answerOf w (act (listing n))) → ⊥
 never-short-few w n few h = enough w n (λ s e. omega (arith, longest-few w s e few))
