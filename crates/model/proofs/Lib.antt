@@ -1,4 +1,4 @@
-pub mod Examples
+pub mod Acceptance
 pub mod Sizes
 pub mod Arena
 pub mod Claim

@@ -1,5 +1,6 @@
 -- Document 01's worked examples, computed: the table of "Both sides of each edge" that is marked to be proved, the whole session
--- with its two listings, the nine-request case and the thirteen-request case. Assumes nothing.
+-- with its two listings, the nine-request case and the thirteen-request case. Modules are checked by their names, and this is the
+-- first of them: a wrong rule is refused for an answer of document 01 and not for a law about it. Assumes nothing.
 use Prim.Native.Nat.{ℕ, zero, suc, _+_}
 use mathlib.Core.Path.{_≡_, refl}
 use mathlib.Core.List.{List, [], _∷_, _++_, map}
