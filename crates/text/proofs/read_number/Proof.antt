@@ -55,7 +55,7 @@ returns-3 : tie.Need-returns-3 Inv-loop μ-loop
 returns-3 c = on-stop _ _ _ (c .before .before .before .loop-test .taken) (sym (c .before .is-digit2 .ensures) ∙ not-true _ (c .if3 .taken)) (c .before .before .before .before .loop .inv .1) ∙ c .before .before .before .before .loop .inv .2
 
 returns-4 : tie.Need-returns-4 Inv-loop μ-loop
-returns-4 c = on-zero _ _ _ (c .before .before .before .before .loop-test .taken) (sym (c .before .before .is-digit2 .ensures) ∙ not-false _ (c .before .if3 .left)) (c .if4 .taken) ∙ c .before .before .before .before .before .loop .inv .2
+returns-4 c = on-zero _ (c .before .before .before .before .before .loop .v) _ (c .before .before .before .before .loop-test .taken) (sym (c .before .before .is-digit2 .ensures) ∙ not-false _ (c .before .if3 .left)) (omega (arith, c .if4 .taken)) ∙ c .before .before .before .before .before .loop .inv .2
 
 mul-v : tie.Need-mul-v Inv-loop μ-loop
 mul-v c = omega arith
@@ -70,7 +70,7 @@ add-v : tie.Need-add-v Inv-loop μ-loop
 add-v c = omega (arith, c .wide2 .ensures, digit-range (getD (c .before .before .before .before .before .before .before .before .before .before .before .before .before .args .s .now) (c .before .before .before .before .before .before .loop .i) 0) (sym (c .before .before .before .is-digit2 .ensures) ∙ not-false _ (c .before .before .if3 .left)) .1)
 
 returns-5 : tie.Need-returns-5 Inv-loop μ-loop
-returns-5 c = on-large _ _ _ (c .before .before .before .before .before .before .loop-test .taken) (sym (c .before .before .before .before .is-digit2 .ensures) ∙ not-false _ (c .before .before .before .if3 .left)) (c .before .wide2 .ensures) (c .if5 .taken) ∙ c .before .before .before .before .before .before .before .loop .inv .2
+returns-5 c = on-large _ (c .before .before .before .before .before .before .before .loop .v) _ (c .before .before .before .before .before .before .loop-test .taken) (sym (c .before .before .before .before .is-digit2 .ensures) ∙ not-false _ (c .before .before .before .if3 .left)) (c .before .wide2 .ensures) (omega (arith, c .if5 .taken)) ∙ c .before .before .before .before .before .before .before .loop .inv .2
 
 add-i-2 : tie.Need-add-i-2 Inv-loop μ-loop
 add-i-2 c = search needs

@@ -1,5 +1,6 @@
 -- `uplink::finish` meets its contract. Assumes nothing.
 use mathlib.Core.Path.{_≡_, sym, ap, _∙_}
+use native.Mathlib.Omega.{arith}
 use lib.ListN.{length}
 use borrow.Author.Needs.{needs}
 use Rattle.uplink.specs.declared.Got.the-variants.{Whole}
@@ -14,7 +15,7 @@ returns : tie.Need-returns
 returns c = (c .before .new-reader .ensures .0, c .before .new-reader .ensures .1, last-over _ (c .if1 .taken))
 
 returns-2 : tie.Need-returns-2
-returns-2 c = (c .before .before .new-reader .ensures .0, c .before .before .new-reader .ensures .1, last-none _ (c .before .if1 .left) (c .if2 .taken))
+returns-2 c = (c .before .before .new-reader .ensures .0, c .before .before .new-reader .ensures .1, last-none (c .before .before .before .args .reader) (c .before .if1 .left) (omega (arith, c .if2 .taken)))
 
 held-line-requires : tie.Need-held-line-requires
 held-line-requires c κs = search needs
