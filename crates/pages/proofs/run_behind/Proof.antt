@@ -35,10 +35,10 @@ wide-requires : tie.Need-wide-requires
 wide-requires c κs = search needs
 
 returns-2 : tie.Need-returns-2
-returns-2 c = λ b x s e. c .wide .ensures ∙ rw (← e) (run-behind (c .before .before .before .before .before .before .pre .0) s (omega arith) (rw (← e) at (c .before .before .if2 .taken)))
+returns-2 c = λ b x s e. c .wide .ensures ∙ rw (← e) (run-behind (c .before .before .before .before .before .before .pre .0) s (omega arith) (let k = rw (← e) at (c .before .before .if2 .taken) in omega arith))
 
 returns-3 : tie.Need-returns-3
-returns-3 c = λ b x s e. other-behind (c .before .before .before .before .pre .0) s (omega arith) (λ k. c .if2 .left (rw e at k))
+returns-3 c = λ b x s e. other-behind (c .before .before .before .before .pre .0) s (omega arith) (λ k. let q = rw e at k in omega (arith, c .if2 .left))
 
 pub run-behind-spec : {M : Type 1} → statement M
 run-behind-spec =

@@ -58,7 +58,7 @@ returns-6 : tie.Need-returns-6
 returns-6 c = size-group _ _ (λ e. c .before .before .before .before .before .if2 .left (c .before .before .before .before .before .before .wide .ensures ∙ e)) (omega (arith, c .before .before .before .before .if3 .left, c .before .before .before .before .before .before .wide .ensures)) (c .before .before .if5 .left) (group-none (c .before .before .before .before .before .before .before .before .before .before .before .args .words .now) (c .if6 .taken))
 
 returns-7 : tie.Need-returns-7
-returns-7 c = size-group _ _ (λ e. c .before .before .before .before .before .before .if2 .left (c .before .before .before .before .before .before .before .wide .ensures ∙ e)) (omega (arith, c .before .before .before .before .before .if3 .left, c .before .before .before .before .before .before .before .wide .ensures)) (c .before .before .before .if5 .left) (group-large (c .before .before .before .before .before .before .before .before .before .before .before .before .args .words .now) (c .if7 .taken))
+returns-7 c = size-group _ _ (λ e. c .before .before .before .before .before .before .if2 .left (c .before .before .before .before .before .before .before .wide .ensures ∙ e)) (omega (arith, c .before .before .before .before .before .if3 .left, c .before .before .before .before .before .before .before .wide .ensures)) (c .before .before .before .if5 .left) (group-large (c .before .before .before .before .before .before .before .before .before .before .before .before .args .words .now) (omega (arith, c .if7 .taken)))
 
 sub-is-zero-2 : tie.Need-sub-is-zero-2
 sub-is-zero-2 c = search needs
