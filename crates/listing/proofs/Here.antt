@@ -20,10 +20,10 @@ use Rattle.text.specs.Writing.{Bounded, Wrote}
 use Rattle.listing.specs.Rows.{rowOf, rowsAt}
 use Rattle.listing.proofs.Rows.{rows-here, rows-none, lines-one}
 
-pub run-row : {w : List ℕ} {n p : ℕ} {x : Segment Zone} → Read w n p x → kindOf x ≡ 1 → p ∷ getD w (520 * p + 1) 0 ∷ [] ≡ rowOf p x
-run-row {w} {n} {p} {x} r e = ap (λ (k : ℕ). p ∷ k ∷ []) (r .size (λ f. omega arith)) ∙ go x e
+pub run-row : {w : List ℕ} {n p : ℕ} {x : Segment Zone} → Read w n p x → kindOf x ≡ 1 → rowOf p (run (getD w (520 * p + 1) 0)) ≡ rowOf p x
+run-row {w} {n} {p} {x} r e = ap (λ (k : ℕ). rowOf p (run k)) (r .size (λ f. omega arith)) ∙ go x e
   where
-    go : (y : Segment Zone) → kindOf y ≡ 1 → p ∷ pages y ∷ [] ≡ rowOf p y
+    go : (y : Segment Zone) → kindOf y ≡ 1 → rowOf p (run (pages y)) ≡ rowOf p y
     go (run m) q = refl
     go (direct m g) q = absurd (omega arith)
     go (zone z) q = absurd (omega arith)
@@ -75,8 +75,8 @@ module _ {w : List ℕ} {n p : ℕ} {x : Segment Zone} {k : ℕ} (r : Read w n p
     pub text-zone : k ≡ 3 → line (p ∷ zoneOf (lentZone p w) .class ∷ liveChunks (zoneOf (lentZone p w)) ∷ []) ≡ lines (rowsAt k p x)
     text-zone q = text-row (zone-here r (is-kind ∙ q) .row)
 
-    pub text-run : {len : ℕ} → len ≡ getD w (520 * p + 1) 0 → k ≡ 1 → line (p ∷ len ∷ []) ≡ lines (rowsAt k p x)
-    text-run s q = text-row (ap (λ (j : ℕ). p ∷ j ∷ []) s ∙ run-row r (is-kind ∙ q))
+    pub text-run : {len : ℕ} → len ≡ getD w (520 * p + 1) 0 → k ≡ 1 → line (rowOf p (run len)) ≡ lines (rowsAt k p x)
+    text-run s q = text-row (ap (λ (j : ℕ). rowOf p (run j)) s ∙ run-row r (is-kind ∙ q))
 
     pub text-direct : {len group : ℕ} → len ≡ getD w (520 * p + 1) 0 → group ≡ getD w (520 * p + 2) 0 → (k ≡ 3 → ⊥) → (k ≡ 1 → ⊥) → line (p ∷ len ∷ group ∷ []) ≡ lines (rowsAt k p x)
     text-direct s t a b = text-row ((λ i. p ∷ s i ∷ t i ∷ []) ∙ direct-row r (λ q. a (sym is-kind ∙ q)) (λ q. b (sym is-kind ∙ q)))
