@@ -5,9 +5,9 @@ use mathlib.Core.List.{List}
 use mathlib.Core.Option.{none, some}
 use native.Mathlib.Omega.{arith}
 use native.Mathlib.Nat.{div-add-mod'}
-use lib.Dec.{ltb}
+use lib.Dec.{ltb, eqb}
 use lib.ListN.{length, getD}
-use borrow.Author.Tests.{ltb-true, ltb-false, eq-eqb, ne-eqb}
+use borrow.Author.Tests.{ltb-true, ltb-false, eqb-true, eqb-false, eq-eqb, ne-eqb}
 use Rattle.lemmas.proofs.Cases.{bool}
 use Rattle.model.specs.Sizes.{room, chunks}
 use Rattle.model.specs.Arena.{Segment, run, direct, zone, bytes, total, retold}
@@ -85,22 +85,25 @@ module _ (s : State) (v : Valid s) {p b : ℕ} (z : Zone) (t : Stands (s .segmen
   pub found-off : (d % r ≡ 0 → ⊥) → Tells s (p * 4096 + d) Nothing
   found-off f = chunk-off s v z t d h (λ e. f (ap (λ k. d % k) room-is ∙ e))
 
-  module _ (e : d % r ≡ 0) (g : ℕ) (eg : g ≡ getD (zoneAt p (s .segments) .owners) (d / r) 0) where
-    whole-is : d % room (z .class) ≡ 0
-    whole-is = ap (λ k. d % k) (sym room-is) ∙ e
+  whole-is : d % r ≡ 0 → d % room (z .class) ≡ 0
+  whole-is e = ap (λ k. d % k) (sym room-is) ∙ e
 
+  module _ (g : ℕ) (eg : g ≡ getD (zoneAt p (s .segments) .owners) (d / r) 0) where
     group-is : getD (z .owners) (d / room (z .class)) 0 ≡ g
     group-is = (λ i. getD ((sym (zone-is s p b z t)) i .owners) (d / (sym room-is) i) 0) ∙ sym eg
 
+    -- The chunk that holds the byte is not live: no block begins there, whether or not the chunk does.
     pub found-dead : g ≡ 0 → Tells s (p * 4096 + d) Nothing
-    found-dead f = chunk-dead s v z t d h whole-is (group-is ∙ f)
+    found-dead f = bool (eqb (d % r) 0)
+        (λ u. chunk-dead s v z t d h (whole-is (eqb-true (d % r) 0 u)) (group-is ∙ f))
+        (λ u. found-off (eqb-false (d % r) 0 u))
 
-    pub found-live : (g ≡ 0 → ⊥) → Tells s (p * 4096 + d) (Chunk p b c (d / r) g)
-    found-live f =
+    pub found-live : d % r ≡ 0 → (g ≡ 0 → ⊥) → Tells s (p * 4096 + d) (Chunk p b c (d / r) g)
+    found-live e f =
         let live : 0 < getD (z .owners) (d / room (z .class)) 0 = omega (arith, group-is, bool (ltb 0 g) (λ u. ltb-true 0 g u) (λ u. absurd (f (omega (arith, ltb-false 0 g u))))) in (
-          chunk-live s v z t d h whole-is live ∙ (λ i. some (chunk ((sym class-is) i) (d / (sym room-is) i) (group-is i))),
+          chunk-live s v z t d h (whole-is e) live ∙ (λ i. some (chunk ((sym class-is) i) (d / (sym room-is) i) (group-is i))),
           (z, t, sym class-is, ap (λ k. getD (z .owners) (d / k) 0) room-is ∙ group-is),
-          ap (λ k. p * 4096 + k) ((λ i. d / room-is i * room (class-is i)) ∙ chunk-starts s v z t d h whole-is),
+          ap (λ k. p * 4096 + k) ((λ i. d / room-is i * room (class-is i)) ∙ chunk-starts s v z t d h (whole-is e)),
         )
 
 -- A direct block begins at its segment's first byte.

@@ -53,7 +53,7 @@ returns-3 : tie.Need-returns-3
 returns-3 c = let h = held (c .before .before .before .before .before .before .before .before .pre) _ _ (c .before .before .before .before .before .find-segment .ensures) _ _ _ _ (c .before .before .before .at .given .1) in held-run h (c .before .if1 .left) (c .if2 .taken)
 
 returns-4 : tie.Need-returns-4
-returns-4 c = let h = held (c .before .before .before .before .before .before .before .before .before .pre) _ _ (c .before .before .before .before .before .before .find-segment .ensures) _ _ _ _ (c .before .before .before .before .at .given .1) in held-inside h (c .before .if2 .left) (c .if3 .taken)
+returns-4 c = let h = held (c .before .before .before .before .before .before .before .before .before .pre) _ _ (c .before .before .before .before .before .before .find-segment .ensures) _ _ _ _ (c .before .before .before .before .at .given .1) in held-inside h (c .before .if2 .left) (omega (arith, c .if3 .taken))
 
 sub-group : tie.Need-sub-group
 sub-group c = has-header (c .before .before .before .before .before .before .before .before .before .pre .lent)

@@ -18,7 +18,7 @@ rem-if1 : tie.Need-rem-if1
 rem-if1 c = omega (arith, c .room .ensures, room-pos (c .before .zone-class .result))
 
 returns : tie.Need-returns
-returns c = let h = c .before .before .before .before .pre in found-off _ (h .0 .valid) (h .1 .0 .0) (h .1 .0 .1) _ (h .1 .1) _ _ (c .before .before .zone-class .ensures) (c .before .room .ensures) (c .if1 .taken)
+returns c = let h = c .before .before .before .before .pre in found-off _ (h .0 .valid) (h .1 .0 .0) (h .1 .0 .1) _ (h .1 .1) _ _ (c .before .before .zone-class .ensures) (c .before .room .ensures) (omega (arith, c .if1 .taken))
 
 div-chunk : tie.Need-div-chunk
 div-chunk c = omega (arith, c .before .room .ensures, room-pos (c .before .before .zone-class .result))
@@ -27,10 +27,10 @@ zone-owner-requires : tie.Need-zone-owner-requires
 zone-owner-requires c κs = let h = c .before .before .before .before .pre in (h .0 .lent, zone-stands (decode (c .before .before .before .before .args .words .now)) _ _ (h .1 .0 .0) (h .1 .0 .1))
 
 returns-2 : tie.Need-returns-2
-returns-2 c = let h = c .before .before .before .before .before .before .pre in found-dead _ (h .0 .valid) (h .1 .0 .0) (h .1 .0 .1) _ (h .1 .1) _ _ (c .before .before .before .before .zone-class .ensures) (c .before .before .before .room .ensures) (c .before .before .if1 .left) _ (c .before .zone-owner .ensures) (c .if2 .taken)
+returns-2 c = let h = c .before .before .before .before .before .before .pre in found-dead _ (h .0 .valid) (h .1 .0 .0) (h .1 .0 .1) _ (h .1 .1) _ _ (c .before .before .before .before .zone-class .ensures) (c .before .before .before .room .ensures) _ (c .before .zone-owner .ensures) (omega (arith, c .if2 .taken))
 
 returns-3 : tie.Need-returns-3
-returns-3 c = let h = c .before .before .before .before .before .before .pre in found-live _ (h .0 .valid) (h .1 .0 .0) (h .1 .0 .1) _ (h .1 .1) _ _ (c .before .before .before .before .zone-class .ensures) (c .before .before .before .room .ensures) (c .before .before .if1 .left) _ (c .before .zone-owner .ensures) (c .if2 .left)
+returns-3 c = let h = c .before .before .before .before .before .before .pre in found-live _ (h .0 .valid) (h .1 .0 .0) (h .1 .0 .1) _ (h .1 .1) _ _ (c .before .before .before .before .zone-class .ensures) (c .before .before .before .room .ensures) _ (c .before .zone-owner .ensures) (c .before .before .if1 .left) (c .if2 .left)
 
 pub find-chunk-spec : {M : Type 1} → statement M
 find-chunk-spec =
