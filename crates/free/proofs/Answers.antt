@@ -1,5 +1,5 @@
 -- The answers to a return, by the tests that the code makes. Assumes nothing.
-use Prim.Native.Nat.{ℕ, zero, suc, _-_, _*_, _/_, _<_}
+use Prim.Native.Nat.{ℕ, _-_, _*_, _/_, _<_}
 use mathlib.Core.Path.{_≡_, refl, sym, ap, _∙_}
 use mathlib.Core.Bool.{true, false}
 use mathlib.Core.Option.{none, some}
@@ -56,8 +56,3 @@ module _ (s : State) {o p b g : ℕ} where
 
     pub chunk-lives : 0 < g → LiveChunk s p b i
     chunk-lives h = record { z = t .1 .0; stands = t .1 .1; live = omega (arith, t .1 .3) }
-
--- The owner of a block is a group that was tested.
-pub some-group : (owner g : ℕ) → owner ≡ g → (g ≡ 0 → ⊥) → 0 < owner
-some-group zero g e f = absurd (f (sym e))
-some-group (suc k) g e f = omega arith

@@ -37,7 +37,7 @@ same-length-2 : tie.Need-same-length-2
 same-length-2 c = search needs
 
 returns-2 : tie.Need-returns-2
-returns-2 c = let h = c .before .before .before .before .before .before .before .before .before .before .before .before .before .pre in back-only (h .0) (h .1) (c .before .before .before .before .before .before .before .before .chain-back .ensures) _ (c .before .before .before .before .before .before .before .before .before .before .zone-class .ensures) _ (c .before .count .ensures) (c .if2 .taken)
+returns-2 c = let h = c .before .before .before .before .before .before .before .before .before .before .before .before .before .pre in back-only (h .0) (h .1) (c .before .before .before .before .before .before .before .before .chain-back .ensures) _ (c .before .before .before .before .before .before .before .before .before .before .zone-class .ensures) _ (c .before .count .ensures) (omega (arith, c .if2 .taken))
 
 retire-requires : tie.Need-retire-requires
 retire-requires c κs = let h = c .before .before .before .before .before .before .before .before .before .before .before .before .before .before .pre in let e = c .before .before .before .before .before .before .before .before .before .chain-back .ensures in (chained-good (h .0) (h .1) e, (_, back-stands (h .0) (h .1) e, c .before .before .before .before .before .before .before .before .before .before .before .zone-class .ensures))

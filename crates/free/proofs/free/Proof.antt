@@ -1,11 +1,12 @@
 -- `free` meets its contract. Assumes nothing.
 use mathlib.Core.Path.{sym, _∙_, ap, subst}
+use native.Mathlib.Omega.{arith}
 use Rattle.metadata.specs.Encoding.{encode}
 use Rattle.metadata.specs.Decoding.{decode}
 use Rattle.blocks.specs.Places.{Tells}
 use Rattle.model.proofs.Groups.{group-none, group-high, group-good}
 use Rattle.steps.proofs.Outcomes.{by-rule}
-use Rattle.free.proofs.Answers.{free-bad, free-none, free-other, free-done, whole-freed, whole-stands, chunk-freed, chunk-lives, some-group}
+use Rattle.free.proofs.Answers.{free-bad, free-none, free-other, free-done, whole-freed, whole-stands, chunk-freed, chunk-lives}
 use borrow.Author.Needs.{needs}
 use Rattle.free.proofs.free.Statement.{statement}
 use Rattle.free.proofs.free.Tie as tie
@@ -29,7 +30,7 @@ same-length : tie.Need-same-length
 same-length c = search needs
 
 returns-3 : tie.Need-returns-3
-returns-3 c = let t = subst (Tells (decode (c .before .before .before .before .before .before .before .before .before .args .words .now)) (c .before .before .before .before .before .before .before .before .before .args .offset)) (c .before .before .at .given .1) (c .before .before .before .before .find-block .ensures) in by-rule _ _ _ (free-other (decode (c .before .before .before .before .before .before .before .before .before .args .words .now)) (c .before .before .before .before .before .before .before .before .before .args .group) (c .before .before .before .before .before .before .before .before .before .args .offset) (group-good (c .before .before .before .before .before .before .before .before .before .args .group) (c .before .before .before .before .before .before .before .if1 .left) (c .before .before .before .before .before .before .if2 .left)) _ (t .0) (c .if3 .taken)) (c .before .before .before .before .before .before .before .before .before .pre .lent .words)
+returns-3 c = let t = subst (Tells (decode (c .before .before .before .before .before .before .before .before .before .args .words .now)) (c .before .before .before .before .before .before .before .before .before .args .offset)) (c .before .before .at .given .1) (c .before .before .before .before .find-block .ensures) in by-rule _ _ _ (free-other (decode (c .before .before .before .before .before .before .before .before .before .args .words .now)) (c .before .before .before .before .before .before .before .before .before .args .group) (c .before .before .before .before .before .before .before .before .before .args .offset) (group-good (c .before .before .before .before .before .before .before .before .before .args .group) (c .before .before .before .before .before .before .before .if1 .left) (c .before .before .before .before .before .before .if2 .left)) _ (t .0) (omega (arith, c .if3 .taken, c .before .before .before .before .before .before .before .if1 .left))) (c .before .before .before .before .before .before .before .before .before .pre .lent .words)
 
 give-back-requires : tie.Need-give-back-requires
 give-back-requires c κs = let h = c .before .before .before .before .before .before .before .before .before .before .pre in let s = decode (c .before .before .before .before .before .before .before .before .before .before .args .words .now) in let t = subst (Tells s (c .before .before .before .before .before .before .before .before .before .before .args .offset)) (c .before .before .before .at .given .1) (c .before .before .before .before .before .find-block .ensures) in ((h .lent, h .pages), (h .valid .apart, whole-stands s _ t))
@@ -41,10 +42,10 @@ same-length-2 : tie.Need-same-length-2
 same-length-2 c = search needs
 
 returns-4 : tie.Need-returns-4
-returns-4 c = let t = subst (Tells (decode (c .before .before .before .before .before .before .before .before .before .args .words .now)) (c .before .before .before .before .before .before .before .before .before .args .offset)) (c .before .before .at2 .given .1) (c .before .before .before .before .find-block .ensures) in by-rule _ _ _ (free-other (decode (c .before .before .before .before .before .before .before .before .before .args .words .now)) (c .before .before .before .before .before .before .before .before .before .args .group) (c .before .before .before .before .before .before .before .before .before .args .offset) (group-good (c .before .before .before .before .before .before .before .before .before .args .group) (c .before .before .before .before .before .before .before .if1 .left) (c .before .before .before .before .before .before .if2 .left)) _ (t .0) (c .if4 .taken)) (c .before .before .before .before .before .before .before .before .before .pre .lent .words)
+returns-4 c = let t = subst (Tells (decode (c .before .before .before .before .before .before .before .before .before .args .words .now)) (c .before .before .before .before .before .before .before .before .before .args .offset)) (c .before .before .at2 .given .1) (c .before .before .before .before .find-block .ensures) in by-rule _ _ _ (free-other (decode (c .before .before .before .before .before .before .before .before .before .args .words .now)) (c .before .before .before .before .before .before .before .before .before .args .group) (c .before .before .before .before .before .before .before .before .before .args .offset) (group-good (c .before .before .before .before .before .before .before .before .before .args .group) (c .before .before .before .before .before .before .before .if1 .left) (c .before .before .before .before .before .before .if2 .left)) _ (t .0) (omega (arith, c .if4 .taken, c .before .before .before .before .before .before .before .if1 .left))) (c .before .before .before .before .before .before .before .before .before .pre .lent .words)
 
 chunk-back-requires : tie.Need-chunk-back-requires
-chunk-back-requires c κs = let h = c .before .before .before .before .before .before .before .before .before .before .pre in let s = decode (c .before .before .before .before .before .before .before .before .before .before .args .words .now) in let t = subst (Tells s (c .before .before .before .before .before .before .before .before .before .before .args .offset)) (c .before .before .before .at2 .given .1) (c .before .before .before .before .before .find-block .ensures) in (h, chunk-lives s _ _ t (some-group _ _ (c .before .if4 .left) (c .before .before .before .before .before .before .before .before .if1 .left)))
+chunk-back-requires c κs = let h = c .before .before .before .before .before .before .before .before .before .before .pre in let s = decode (c .before .before .before .before .before .before .before .before .before .before .args .words .now) in let t = subst (Tells s (c .before .before .before .before .before .before .before .before .before .before .args .offset)) (c .before .before .before .at2 .given .1) (c .before .before .before .before .before .find-block .ensures) in (h, chunk-lives s _ _ t (omega (arith, c .before .if4 .left, c .before .before .before .before .before .before .before .before .if1 .left)))
 
 same-length-3 : tie.Need-same-length-3
 same-length-3 c = search needs
