@@ -26,7 +26,7 @@ use Rattle.free.specs.Back.{LiveChunk, Remains}
 use Rattle.reset.specs.Sweep.{offsetsAt, Sweep, InZone}
 use Rattle.reset.proofs.Offsets.{at-run, at-other, at-zone}
 use Rattle.reset.proofs.Behind.{run-stands, sweep-behind, next-on}
-use Rattle.reset.proofs.Sweeps.{Here, here, here-stands, sweep-past, zone-skip, zone-done, zone-live, zone-stays, stays-touched, gone-good, gone-segments, gone-joined, gone-rest, gone-counted, block-good, block-segments, block-joined, block-rest, block-counted}
+use Rattle.reset.proofs.Sweeps.{Here, here, here-stands, sweep-past, zone-skip, zone-done, zone-stays, stays-touched, gone-good, gone-segments, gone-joined, gone-rest, gone-counted, block-good, block-segments, block-joined, block-rest, block-counted}
 
 -- One segment begins at a page.
 pub stands-one : {m : List (Segment Zone)} {p b a : ℕ} {x y : Segment Zone} → Stands m p b x → Stands m p a y → 0 < pages x → 0 < pages y → x ≡ y
@@ -143,12 +143,12 @@ module _ {g c n p b T j i k : ℕ} {t : State} {w₀ w : List ℕ} (h : InZone g
       most = a .most;
     }
 
+    pub walk-live : 0 < r → LiveChunk (decode w) p b i
+    walk-live l = record { z = at .z; stands = at .stands; live = omega (arith, l, owner-of t c (j + k) at r e) }
+
     module _ (pos : 0 < g) (is : r ≡ g) where
       mine : (t : State) (c l : ℕ) (q : InZone g t c w n p b i l) → getD (q .z .owners) i 0 ≡ g
       mine t c l q = sym (owner-of t c l q r e) ∙ is
-
-      pub walk-live : LiveChunk (decode w) p b i
-      walk-live = zone-live at pos (mine t c (j + k) at)
 
       module _ {v : List ℕ} (d : v ≡ encode (chunkBack (zoneAt p (decode w .segments) .class) i p (zoneAt p (decode w .segments)) (decode w))) where
         pub walk-stays : (y : Bool) → y ≡ true → Remains y i p (zoneAt p (decode w .segments)) (decode w) (chunkBack (zoneAt p (decode w .segments) .class) i p (zoneAt p (decode w .segments)) (decode w)) → ZoneWalk g n p b T w₀ v (i + 1) (k + 1)

@@ -160,7 +160,7 @@ module _ {g c n p b i k : ℕ} {t : State} {w : List ℕ} (h : InZone g t c w n 
 
   -- A chunk of the group comes back.
   module _ (pos : 0 < g) (mine : getD (h .z .owners) i 0 ≡ g) where
-    pub zone-live : LiveChunk (decode w) p b i
+    zone-live : LiveChunk (decode w) p b i
     zone-live = record { z = z; stands = h .stands; live = omega (arith, mine) }
 
     is : zoneAt p (s .segments) ≡ z

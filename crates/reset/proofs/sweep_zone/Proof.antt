@@ -30,13 +30,16 @@ loop-less : tie.Need-loop-less Inv-loop μ-loop
 loop-less c = omega (arith, c .before .before .before .loop-test .taken)
 
 loop-again : tie.Need-loop-again Inv-loop μ-loop
-loop-again c = let h = c .before .before .before .before .before .before .before .before .pre in let a = c .before .before .before .before .loop .inv in walk-skip (h .1 .3) a _ (c .before .zone-owner .ensures) (c .before .before .before .loop-test .taken) (c .if1 .taken)
+loop-again c = let h = c .before .before .before .before .before .before .before .before .pre in let a = c .before .before .before .before .loop .inv in walk-skip (h .1 .3) a _ (c .before .zone-owner .ensures) (c .before .before .before .loop-test .taken) (omega (arith, h .0, c .if1 .taken))
 
 add-count : tie.Need-add-count Inv-loop μ-loop
 add-count c = omega (arith, c .before .before .before .before .loop .inv .most, c .before .before .before .before .loop .inv .few, c .before .before .before .loop-test .taken)
 
 chunk-back-requires : tie.Need-chunk-back-requires Inv-loop μ-loop
-chunk-back-requires c κs = let h = c .before .before .before .before .before .before .before .before .before .pre in let a = c .before .before .before .before .before .loop .inv in (walk-good (h .1 .3) a, walk-live (h .1 .3) a _ (c .before .before .zone-owner .ensures) (c .before .before .before .before .loop-test .taken) (h .0) (c .before .if1 .left))
+chunk-back-requires c κs = let h = c .before .before .before .before .before .before .before .before .before .pre in let a = c .before .before .before .before .before .loop .inv in (walk-good (h .1 .3) a, walk-live (h .1 .3) a _ (c .before .before .zone-owner .ensures) (c .before .before .before .before .loop-test .taken) (omega (arith, h .0, c .before .if1 .left)))
+
+loop-again-2 : tie.Need-loop-again-2 Inv-loop μ-loop
+loop-again-2 c = let h = c .before .before .before .before .before .before .before .before .before .before .before .before .before .pre in let a = c .before .before .before .before .before .before .before .before .before .loop .inv in let e = c .before .before .before .before .before .before .zone-owner .ensures in let d = c .before .before .before .chunk-back .ensures in walk-stays (h .1 .3) a _ e (c .before .before .before .before .before .before .before .before .loop-test .taken) (h .0) (c .before .before .before .before .before .if1 .left) (d .0) (c .before .before .before .chunk-back .result) (not-false _ (c .if2 .left)) (d .1)
 
 sub-behind-run : tie.Need-sub-behind-run Inv-loop μ-loop
 sub-behind-run c = let h = c .before .before .before .before .before .before .before .before .before .before .before .before .before .before .pre in walk-low (h .1 .3) (c .before .before .before .before .before .before .before .before .before .before .loop .inv) _ (c .before .before .before .before .before .before .before .zone-owner .ensures) (c .before .before .before .before .before .before .before .before .before .loop-test .taken) (h .0) (c .before .before .before .before .before .before .if1 .left) (c .before .before .before .before .chunk-back .ensures .0) (c .before .before .before .before .chunk-back .result) (not-true _ (c .before .if2 .taken)) (c .before .before .before .before .chunk-back .ensures .1)
@@ -55,9 +58,6 @@ add-i-2 c = search needs
 
 loop-less-2 : tie.Need-loop-less-2 Inv-loop μ-loop
 loop-less-2 c = search needs
-
-loop-again-2 : tie.Need-loop-again-2 Inv-loop μ-loop
-loop-again-2 c = let h = c .before .before .before .before .before .before .before .before .before .before .before .before .before .pre in let a = c .before .before .before .before .before .before .before .before .before .loop .inv in let e = c .before .before .before .before .before .before .zone-owner .ensures in let d = c .before .before .before .chunk-back .ensures in walk-stays (h .1 .3) a _ e (c .before .before .before .before .before .before .before .before .loop-test .taken) (h .0) (c .before .before .before .before .before .if1 .left) (d .0) (c .before .before .before .chunk-back .result) (not-false _ (c .if2 .left)) (d .1)
 
 add-next : tie.Need-add-next Inv-loop μ-loop
 add-next c = let h = c .before .before .before .before .before .pre in omega (arith, walk-few (h .1 .3) (c .before .loop .inv))
