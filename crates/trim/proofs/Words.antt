@@ -21,7 +21,7 @@ use Rattle.metadata.specs.Encoding.{encode}
 use Rattle.metadata.specs.Decoding.{decode}
 use Rattle.steps.specs.Lent.{Encodes, Lent, ZoneHere}
 use Rattle.steps.specs.Moves.{unlisted, released}
-use Rattle.steps.proofs.Lent.{lent, lent-decoded, zone-valid}
+use Rattle.steps.proofs.Lent.{lent, lent-decoded, zone-valid, zone-inside}
 use Rattle.steps.proofs.Body.{stands-begins, release-total}
 use Rattle.steps.proofs.Zones.{zone-at, zone-there as zone-begun}
 use Rattle.trim.specs.Between.{idleSegment, Between}
@@ -65,6 +65,14 @@ module _ {m : List (Segment Zone)} {p b : ℕ} {x : Segment Zone} (s : Stands m 
 
 -- ---- a zone is given back
 
+-- A zone that begins at the page p: its class, and the page as a number for the lists.
+module _ {w : List ℕ} (h : Lent w) (p : ℕ) (b : ZoneHere (decode w) p) where
+  pub class-low : zoneAt p (decode w .segments) .class < 64
+  class-low = (zone-valid h p (zoneAt p (decode w .segments)) b) .class
+
+  pub page-low : p < 256
+  page-low = let r = zone-inside h p (zoneAt p (decode w .segments)) b in omega arith
+
 each-behind : (b : ℕ) (r : List (Segment Zone)) → Each Writable (withRun b r) → Each Writable r
 each-behind zero r h = h
 each-behind (suc b) r h = h .1
@@ -79,18 +87,15 @@ module _ {w : List ℕ} (h : Lent w) (apart : Apart false (decode w .segments)) 
   pub given-here : ZoneHere (decode w) p
   given-here = zone-here stands
 
-  pub given-class : zoneAt p m .class < 64
-  given-class = (zone-valid h p (zoneAt p m) given-here) .class
-
   class-is : zoneAt p m .class ≡ z .class
   class-is = ap (λ y. y .class) (zone-there stands)
 
   listed-fits : Fits (total m) (decode w .spare) (unlisted (z .class) p (decode w) .lists)
-  listed-fits = fits-remove (h .fits) (z .class) p (subst (λ k. k < 64) class-is given-class)
+  listed-fits = fits-remove (h .fits) (z .class) p (subst (λ k. k < 64) class-is (class-low h p given-here))
 
   -- It has left its class's list.
-  pub given-listed : (c : ℕ) → c ≡ zoneAt p m .class → (v : List ℕ) → v ≡ encode (unlisted c p (decode w)) → Encodes v (unlisted (z .class) p (decode w))
-  given-listed c e v f = record { words = f ∙ ap (λ k. encode (unlisted k p (decode w))) (e ∙ class-is); fits = listed-fits; sound = h .sound }
+  pub given-listed : {v : List ℕ} → v ≡ encode (unlisted (zoneAt p m .class) p (decode w)) → Encodes v (unlisted (z .class) p (decode w))
+  given-listed f = record { words = f ∙ ap (λ k. encode (unlisted k p (decode w))) class-is; fits = listed-fits; sound = h .sound }
 
   sound-all : Each Writable (t .before ++ withRun b (zone z ∷ withRun a (t .behind)))
   sound-all = subst (λ l. Each Writable l) (t .whole) (h .sound)

@@ -4,12 +4,13 @@ ghost use mathlib.Core.Bool.{false};
 ghost use Prim.Native.Nat.{ℕ, _+_};
 ghost use Rattle.model.specs.Arena.{Segment, total};
 ghost use Rattle.model.specs.Zone.{Zone};
+ghost use Rattle.model.specs.State.{zoneAt};
 ghost use Rattle.model.specs.Valid.{Apart};
 ghost use Rattle.model.specs.Trim.{idleCount, trimmed};
 ghost use Rattle.pages.specs.Places.{Stands};
 ghost use Rattle.metadata.specs.Encoding.{encode};
 ghost use Rattle.metadata.specs.Decoding.{decode};
-ghost use Rattle.steps.specs.Lent.{Lent, Good};
+ghost use Rattle.steps.specs.Lent.{Lent, ZoneHere, Good};
 ghost use Rattle.steps.specs.Moves.{unlisted, released};
 ghost use Rattle.trim.specs.Between.{idleSegment, Between};
 use pages::ZONE_PAGES;
@@ -27,16 +28,24 @@ fn idle_at(words: &[u32], p: usize) -> bool
     steps::zone_idle(words, p)
 }
 
-// The zone at page p leaves its class's list, if it is there, and its pages come back; a run of `before` pages (0: none) ends where it
-// begins. Answers the pages of the run that they are now part of.
+// The zone at page p leaves its class's list, if it is there.
+fn unlist(words: &mut [u32], p: usize)
+    requires { ⌜ Lent (now words) × ZoneHere (decode (now words)) p ⌝ }
+    ensures { λ _. ⌜ now (words .exit) ≡ encode (unlisted (zoneAt p (decode (now (words .entry)) .segments) .class) p (decode (now (words .entry)))) ⌝ }
+{
+    let class = steps::zone_class(words, p);
+    steps::list_without(words, class, p as u32);
+}
+
+// The zone at page p leaves its class's list, and its pages come back; a run of `before` pages (0: none) ends where it begins. Answers
+// the pages of the run that they are now part of.
 fn give_zone(words: &mut [u32], n: usize, p: usize, before: usize) -> usize
     requires { ⌜ Lent (now words) × (n ≡ total (decode (now words) .segments)) ⌝ }
     requires { ⌜ Apart false (decode (now words) .segments) ⌝ }
     requires { ⌜ ((a : ℕ) × (z : Zone) × Between (decode (now words) .segments) p before a z) ⌝ }
     ensures { λ r. ⌜ ((a : ℕ) (z : Zone) → Between (decode (now (words .entry)) .segments) p before a z → (r ≡ before + 8 + a) × (now (words .exit) ≡ encode (released p (unlisted (z .class) p (decode (now (words .entry))))))) ⌝ }
 {
-    let class = steps::zone_class(words, p);
-    steps::list_without(words, class, p as u32);
+    unlist(words, p);
     steps::give_back(words, n, p, ZONE_PAGES, before);
     steps::size_at(words, n, p - before)
 }
