@@ -111,13 +111,17 @@ module _ {w : List ℕ} {n : ℕ} (h : Arena w n) where
     pub arena-answer : (a : Action) (r : Answer) → r ≡ (serve (decode (take e w)) a) .answer → r ≡ answerOf w (act a)
     arena-answer a r q = q ∙ ap (λ s. (serve s a) .answer) arena-decoded ∙ sym (served-answer w (decode w) valid (state-begins w (h .state)) a)
 
-    pub arena-words : (a : Action) (v : List ℕ) → v ≡ encode ((serve (decode (take e w)) a) .after) → v ++ drop e w ≡ metaAfter w (act a)
+    arena-words : (a : Action) (v : List ℕ) → v ≡ encode ((serve (decode (take e w)) a) .after) → v ++ drop e w ≡ metaAfter w (act a)
     arena-words a v q =
         let s = (serve (decode w) a) .after in
         let k : e ≡ length (encode s) = at ∙ sym arena-long ∙ sym (served-long (decode w) valid a) in
         ap (λ l. l ++ drop e w) (q ∙ ap (λ t. encode ((serve t a) .after)) arena-decoded)
         ∙ ap (λ j. encode s ++ drop j w) k
         ∙ sym (served-words w (decode w) valid (state-begins w (h .state)) a)
+
+    -- Both, the words first: a call that answers and leaves other words is refused for its words.
+    pub arena-served : (a : Action) (r : Answer) (v : List ℕ) → v ≡ encode ((serve (decode (take e w)) a) .after) → r ≡ (serve (decode (take e w)) a) .answer → (r ≡ answerOf w (act a)) × (v ++ drop e w ≡ metaAfter w (act a))
+    arena-served a r v q p = (arena-answer a r p, arena-words a v q)
 
     -- The pages' words, for the listing.
     part-is : mid headerWords (e - headerWords) w ≡ pagesPart w

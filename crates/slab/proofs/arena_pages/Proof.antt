@@ -10,9 +10,6 @@ use Rattle.slab.proofs.arena_pages.Tie as tie
 check-requires : tie.Need-check-requires
 check-requires c κs = search needs
 
-returns : tie.Need-returns
-returns c = pages-none _ (sym (c .before .check .ensures) ∙ not-true _ (c .if1 .taken))
-
 slice-aggregate-pages : tie.Need-slice-aggregate-pages
 slice-aggregate-pages c = header-there _ (sym (c .before .before .check .ensures) ∙ not-false _ (c .before .if1 .left)) 1024 refl
 
@@ -24,6 +21,9 @@ cast-result c = search needs
 
 returns-2 : tie.Need-returns-2
 returns-2 c = pages-some _ (sym (c .before .before .before .check .ensures) ∙ not-false _ (c .before .before .if1 .left)) _ (c .pages .ensures)
+
+returns : tie.Need-returns
+returns c = pages-none _ (sym (c .before .check .ensures) ∙ not-true _ (c .if1 .taken))
 
 pub arena-pages-spec : {M : Type 1} → statement M
 arena-pages-spec =

@@ -1,5 +1,5 @@
 -- `reset_in` meets its contract. Assumes nothing.
-use Rattle.slab.proofs.Acting.{arena-few, arena-inside, arena-part, arena-good, arena-answer, arena-words}
+use Rattle.slab.proofs.Acting.{arena-few, arena-inside, arena-part, arena-good, arena-served}
 use borrow.Author.Needs.{needs}
 use Rattle.slab.proofs.reset_in.Statement.{statement}
 use Rattle.slab.proofs.reset_in.Tie as tie
@@ -20,7 +20,7 @@ same-length : tie.Need-same-length
 same-length c = search needs
 
 returns : tie.Need-returns
-returns c = let h = c .before .before .before .before .before .before .pre in let e = c .before .before .before .before .words-for .ensures in let r = c .before .before .reset .ensures in (arena-answer h _ e _ _ (r .0), arena-words h _ e _ _ (r .1))
+returns c = let h = c .before .before .before .before .before .before .pre in let e = c .before .before .before .before .words-for .ensures in let r = c .before .before .reset .ensures in arena-served h _ e _ _ _ (r .1) (r .0)
 
 pub reset-in-spec : {M : Type 1} → statement M
 reset-in-spec =

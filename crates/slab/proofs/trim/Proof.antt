@@ -1,5 +1,5 @@
 -- `trim` meets its contract. Assumes nothing.
-use Rattle.slab.proofs.Acting.{refused-answer, refused-words, arena-of, arena-few, arena-inside, arena-part, arena-good, arena-answer, arena-words}
+use Rattle.slab.proofs.Acting.{refused-answer, refused-words, arena-of, arena-few, arena-inside, arena-part, arena-good, arena-served}
 use Rattle.model.specs.declared.Answer.the-variants.{Counted}
 use mathlib.Core.Path.{ap}
 use borrow.Author.Needs.{needs}
@@ -31,7 +31,7 @@ same-length-2 : tie.Need-same-length-2
 same-length-2 c = search needs
 
 returns-2 : tie.Need-returns-2
-returns-2 c = let h = arena-of _ _ (c .before .before .before .before .before .before .arena-pages .ensures) (c .before .before .before .before .before .if1 .left) in let e = c .before .before .before .before .words-for .ensures in let r = c .before .before .trim-all .ensures in (arena-answer h _ e _ _ (ap Counted (r .0)), arena-words h _ e _ _ (r .1))
+returns-2 c = let h = arena-of _ _ (c .before .before .before .before .before .before .arena-pages .ensures) (c .before .before .before .before .before .if1 .left) in let e = c .before .before .before .before .words-for .ensures in let r = c .before .before .trim-all .ensures in arena-served h _ e _ _ _ (r .1) (ap Counted (r .0))
 
 pub trim-spec : {M : Type 1} → statement M
 trim-spec =
