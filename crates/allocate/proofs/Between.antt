@@ -6,9 +6,10 @@ use mathlib.Core.Bool.{false}
 use mathlib.Core.List.{List, [], _∷_}
 use native.Mathlib.Omega.{arith}
 use lib.ListN.{length, set}
+use Rattle.model.specs.Numbers.{classCount}
 use Rattle.model.specs.State.{State, listOf}
 use Rattle.model.specs.Valid.{Valid}
-use Rattle.header.specs.Keys.{keysOf, classes}
+use Rattle.header.specs.Keys.{keysOf}
 use Rattle.header.specs.Encoding.{Fits, listSlots}
 use Rattle.header.proofs.Kept.{length-keys-set}
 use Rattle.metadata.specs.Encoding.{encode}
@@ -31,7 +32,7 @@ between s t f v e = record {
 }
 
 -- A header has room for one more key where a valid state has it: page p on the list of class c, which is empty.
-pub room-for : (s t : State) (c p : ℕ) → Valid t → length (s .lists) ≡ classes → c < classes → listOf s c ≡ [] → t .lists ≡ set (s .lists) c (p ∷ []) → length (keysOf (s .lists)) < listSlots
+pub room-for : (s t : State) (c p : ℕ) → Valid t → length (s .lists) ≡ classCount → c < classCount → listOf s c ≡ [] → t .lists ≡ set (s .lists) c (p ∷ []) → length (keysOf (s .lists)) < listSlots
 room-for s t c p v l k none e = omega (
   arith,
   valid-fits t v .room,

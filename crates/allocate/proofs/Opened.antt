@@ -6,6 +6,7 @@ use mathlib.Core.List.{List, [], _∷_, List·Memᴰ, List·Memᴰ·head}
 use mathlib.Core.Option.{none, some}
 use native.Mathlib.Omega.{arith}
 use lib.ListN.{length, getD, set, drop}
+use Rattle.model.specs.Numbers.{zonePages, mostPages}
 use Rattle.model.specs.declared.Answer.the-variants.{Granted, Refused}
 use Rattle.model.specs.declared.Refusal.the-variants.{NoRoom}
 use Rattle.model.specs.Arena.{Segment, zone}
@@ -72,7 +73,7 @@ module _ {w : List ℕ} {n c g : ℕ} (h : Asked w n c g) (empty : frontOf (list
     on-spare : List·Memᴰ p (s .spare)
     on-spare = subst (List·Memᴰ p) (sym spare-is) (List·Memᴰ·head refl)
 
-    pub renew-page : p < 256
+    pub renew-page : p < mostPages
     renew-page = h .good .lent .fits .spare-pages p on-spare
 
     pub renew-answer : Granted (p * 4096) ≡ chunkFrom c g s (listOf s c) .answer
@@ -116,7 +117,7 @@ module _ {w : List ℕ} {n c g : ℕ} (h : Asked w n c g) (empty : frontOf (list
 
     module _ {p k : ℕ} (run-found : found (claim 8 m) ≡ search.Run p k) where
       abbrev m′ : List (Segment Zone)
-      m′ = carve (record { page = p; size = k }) 8 (zone new) m
+      m′ = carve (record { page = p; size = k }) zonePages (zone new) m
 
       claimed : claim 8 m ≡ some (record { page = p; size = k })
       claimed = found-run (claim 8 m) p k run-found
@@ -127,18 +128,18 @@ module _ {w : List ℕ} {n c g : ℕ} (h : Asked w n c g) (empty : frontOf (list
       pub open-free : Free m 8 p k
       open-free = free m 8 p k (omega arith) claimed
 
-      pub open-page : p < 256
+      pub open-page : p < mostPages
       open-page = omega (arith, open-free .inside, open-free .enough, h .good .lent .fits .most)
 
       pub open-answer : Granted (p * 4096) ≡ chunkFrom c g s (listOf s c) .answer
       open-answer = ap (λ o. o .answer) (sym open-rule)
 
-      module _ {w₁ : List ℕ} (e : w₁ ≡ encode (carved (record { page = p; size = k }) 8 (zone new) s)) where
-        pub open-words : Encodes w₁ (carved (record { page = p; size = k }) 8 (zone new) s)
+      module _ {w₁ : List ℕ} (e : w₁ ≡ encode (carved (record { page = p; size = k }) zonePages (zone new) s)) where
+        pub open-words : Encodes w₁ (carved (record { page = p; size = k }) zonePages (zone new) s)
         open-words = between s (opened c s m′ p (s .spare) .after) (h .good .lent .fits) (result-valid (opened c s m′ p (s .spare)) open-rule) e
 
         pub open-room : length (keysOf (decode w₁ .lists)) < 32
-        open-room = list-room p m′ (s .spare) open-rule (carved (record { page = p; size = k }) 8 (zone new) s) refl open-words
+        open-room = list-room p m′ (s .spare) open-rule (carved (record { page = p; size = k }) zonePages (zone new) s) refl open-words
 
         pub opened-words : {w₂ : List ℕ} → w₂ ≡ encode (fronted c p (decode w₁)) → w₂ ≡ encode (chunkFrom c g s (listOf s c) .after)
-        opened-words e₂ = list-put p m′ (s .spare) open-rule (carved (record { page = p; size = k }) 8 (zone new) s) refl open-words refl refl e₂
+        opened-words e₂ = list-put p m′ (s .spare) open-rule (carved (record { page = p; size = k }) zonePages (zone new) s) refl open-words refl refl e₂

@@ -8,6 +8,7 @@ use native.Mathlib.Omega.{arith}
 use lib.Dec.{leb}
 use borrow.Author.Tests.{leb-true, le-leb, lt-leb, lt-ltb, le-ltb}
 use Rattle.lemmas.proofs.Cases.{and-right}
+use Rattle.model.specs.Numbers.{mostPages, mostBytes}
 use Rattle.model.specs.declared.Answer.{Answer}
 use Rattle.model.specs.declared.Answer.the-variants.{Granted, Refused}
 use Rattle.model.specs.declared.Refusal.the-variants.{BadGroup, BadSize, NoRoom}
@@ -38,8 +39,8 @@ range-below n most h = ap (λ b. b && leb n most) (sym (lt-leb 1 n h))
 pub range-from : (n most : ℕ) → 1 ≤ n → leb n most ≡ (leb 1 n && leb n most)
 range-from n most h = ap (λ b. b && leb n most) (sym (le-leb 1 n h))
 
-pub size-most : (n : ℕ) → sizeOk n ≡ true → n ≤ 1048576
-size-most n t = leb-true n 1048576 (and-right (leb 1 n) (leb n 1048576) t)
+pub size-most : (n : ℕ) → sizeOk n ≡ true → n ≤ mostBytes
+size-most n t = leb-true n mostBytes (and-right (leb 1 n) (leb n mostBytes) t)
 
 module _ (s : State) (g n : ℕ) where
   pub bad-group : groupOk g ≡ false → refuses s BadGroup ≡ allocate g n s
@@ -72,7 +73,7 @@ module _ {w : List ℕ} {n need : ℕ} (h : Good w n) (pos : 0 < need) (g : ℕ)
     pub pages-free : Free (s .segments) need p k
     pages-free = free (s .segments) need p k pos claimed
 
-    pub pages-page : p < 256
+    pub pages-page : p < mostPages
     pages-page = omega (arith, pages-free .inside, pages-free .enough, h .lent .fits .most)
 
     pub pages-taken : {w₁ : List ℕ} → w₁ ≡ encode (carved (record { page = p; size = k }) need (direct need g) s) → Makes (directFrom need g s (claim need (s .segments))) (Granted (p * 4096)) w₁

@@ -9,6 +9,7 @@ use lib.ListN.{set}
 use Rattle.lemmas.specs.Times.{Distinct, remove}
 use Rattle.lemmas.proofs.Sets.{set-same}
 use Rattle.lemmas.proofs.Distinct.{remove-here, remove-absent}
+use Rattle.model.specs.Numbers.{mostPages}
 use Rattle.model.specs.declared.Answer.the-variants.{Granted}
 use Rattle.model.specs.Sizes.{room, chunks}
 use Rattle.model.specs.Arena.{Segment, zone}
@@ -61,7 +62,7 @@ module _ {w : List ℕ} {n c g : ℕ} (h : Asked w n c g) {p : ℕ} (front : fro
   opens : OpenAt m c p
   opens = h .good .valid .listed c p on-list
 
-  pub serve-page : p < 256
+  pub serve-page : p < mostPages
   serve-page = h .good .lent .fits .list-pages c p on-list
 
   pub serve-zone : ZoneHere s p

@@ -13,6 +13,7 @@ ghost use Rattle.metadata.specs.Decoding.{decode};
 ghost use Rattle.steps.specs.Lent.{Lent, Good};
 ghost use Rattle.allocate.specs.Asked.{Asked};
 ghost use Rattle.steps.specs.Outcomes.{Makes};
+ghost use Rattle.model.specs.Numbers.{mostGroup, classCount, mostBytes};
 use header::Front;
 use header::WORDS as HEADER;
 use model::Answer;
@@ -36,7 +37,7 @@ const MOST_BYTES: u32 = 1048576;
 
 // The front of the class's list.
 fn list_first(words: &[u32], class: u32) -> Front
-    requires { ⌜ Lent (now words) × (class < 64) ⌝ }
+    requires { ⌜ Lent (now words) × (class < classCount) ⌝ }
     ensures { λ r. ⌜ r ≡ frontOf (listOf (decode (now (words .entry))) class) ⌝ }
 {
     header::first(&words[..HEADER], class)
@@ -137,7 +138,7 @@ fn supply_chunk(words: &mut [u32], n: usize, class: u32, group: u32) -> Answer
 // tested.)
 fn supply(words: &mut [u32], n: usize, group: u32, size: u32) -> Answer
     requires { ⌜ Good (now words) n ⌝ }
-    requires { ⌜ (0 < group) × (group ≤ 12) × (0 < size) × (size ≤ 1048576) ⌝ }
+    requires { ⌜ (0 < group) × (group ≤ mostGroup) × (0 < size) × (size ≤ mostBytes) ⌝ }
     ensures { λ r. ⌜ Makes (supplied group size (decode (now (words .entry)))) r (now (words .exit)) ⌝ }
 {
     if size < LARGE {

@@ -4,6 +4,7 @@ use mathlib.Core.Path.{_≡_, sym, subst}
 use mathlib.Core.List.{List}
 use mathlib.Core.Option.{none}
 use native.Mathlib.Omega.{arith}
+use Rattle.model.specs.Numbers.{classCount, mostPages}
 use Rattle.model.specs.Arena.{Segment, run, direct, zone, pages, total}
 use Rattle.model.specs.Zone.{Zone}
 use Rattle.model.specs.State.{State}
@@ -33,7 +34,7 @@ pub record Held (s : State) (o a k len b : ℕ) : Type 0 where
   pub size : pages x ≡ len
   pub low : a * 4096 ≤ o
   pub high : o < (a + len) * 4096
-  pub few : a + len ≤ 256
+  pub few : a + len ≤ mostPages
 
 module _ {w : List ℕ} {n : ℕ} (good : Good w n) (o : ℕ) (r : Spot) (is : r ≡ spotFrom (o / 4096) 0 0 (segmentsOf (bodyIn w))) where
   told : Spotted (decode w .segments) (o / 4096) r
@@ -89,8 +90,8 @@ module _ {s : State} {o a k len b : ℕ} (h : Held s o a k len b) where
 
 -- What is told of a direct block or a chunk, for the answer to a query.
 module _ {s : State} (v : Valid s) {o : ℕ} where
-  pub whole-few : (p k b g : ℕ) → Tells s o (Whole p k b g) → k ≤ 256
+  pub whole-few : (p k b g : ℕ) → Tells s o (Whole p k b g) → k ≤ mostPages
   whole-few p k b g t = omega (arith, pages-most (direct k g) (t .1 .before) (t .1 .behind) (s .segments) (t .1 .whole), v .most)
 
-  pub class-few : (p b c i g : ℕ) → Tells s o (Chunk p b c i g) → c < 64
+  pub class-few : (p b c i g : ℕ) → Tells s o (Chunk p b c i g) → c < classCount
   class-few p b c i g t = omega (arith, t .1 .2, zone-valid s p b (t .1 .0) (t .1 .1) v .class)

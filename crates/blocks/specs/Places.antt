@@ -3,7 +3,8 @@ use Prim.Native.Nat.{ℕ, _+_, _*_}
 use mathlib.Core.Path.{_≡_}
 use mathlib.Core.Option.{none, some}
 use lib.ListN.{getD}
-use Rattle.model.specs.Sizes.{room, pageBytes}
+use Rattle.model.specs.Numbers.{pageBytes}
+use Rattle.model.specs.Sizes.{room}
 use Rattle.model.specs.Arena.{direct, zone}
 use Rattle.model.specs.Zone.{Zone}
 use Rattle.model.specs.State.{State}

@@ -5,9 +5,10 @@ use mathlib.Core.Bool.{true, false}
 use mathlib.Core.Option.{none, some}
 use native.Mathlib.Omega.{arith}
 use borrow.Author.Tests.{eq-eqb, ne-eqb}
+use Rattle.model.specs.Numbers.{pageBytes}
 use Rattle.model.specs.declared.Refusal.the-variants.{BadGroup, NoBlock, OtherGroup}
 use Rattle.model.specs.declared.Answer.the-variants.{Done}
-use Rattle.model.specs.Sizes.{room, pageBytes}
+use Rattle.model.specs.Sizes.{room}
 use Rattle.model.specs.Arena.{Segment, direct, pages}
 use Rattle.model.specs.Zone.{Zone}
 use Rattle.model.specs.State.{State, arranged, zoneAt}

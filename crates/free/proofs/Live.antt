@@ -6,6 +6,7 @@ use mathlib.Core.Bool.{true, false, cond}
 use native.Mathlib.Omega.{arith}
 use lib.ListN.{length, getD, set}
 use lib.Seq.{set-getD}
+use Rattle.model.specs.Numbers.{classCount, mostPages}
 use Rattle.model.specs.Sizes.{room}
 use Rattle.model.specs.Arena.{zone, pages, total}
 use Rattle.model.specs.Zone.{Zone, full, putBack}
@@ -69,10 +70,10 @@ module _ {w : List ℕ} {n p b i : ℕ} (good : Good w n) (live : LiveChunk (dec
   valid : ValidZone z
   valid = zone-valid s p b z live-stands (good .valid)
 
-  pub live-class : zoneAt p (decode w .segments) .class < 64
+  pub live-class : zoneAt p (decode w .segments) .class < classCount
   live-class = valid .class
 
-  pub live-page : p < 256
+  pub live-page : p < mostPages
   live-page = omega (arith, pages-most (zone z) (live-stands .before) (live-stands .behind) (s .segments) (live-stands .whole), live-stands .starts, good .valid .most)
 
   abbrev chunk : ChunkAt s (p * 4096 + i * room (z .class)) (z .class) i (getD (z .owners) i 0)

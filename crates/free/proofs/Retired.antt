@@ -7,7 +7,7 @@ use native.Mathlib.Omega.{arith}
 use lib.Dec.{ltb}
 use lib.ListN.{length, take}
 use borrow.Author.Tests.{lt-ltb, le-ltb}
-use Rattle.model.specs.Perform.{headerWords}
+use Rattle.model.specs.Numbers.{classCount, mostPages, mostSpare, headerWords}
 use Rattle.model.specs.Arena.{Segment, zone, pages, total}
 use Rattle.model.specs.Zone.{Zone}
 use Rattle.model.specs.State.{State, listOf}
@@ -28,10 +28,10 @@ module _ {w : List ℕ} {n p b c : ℕ} (good : Good w n) (z : Zone) (t : Stands
   abbrev s : State
   s = decode w
 
-  pub zone-page : p < 256
+  pub zone-page : p < mostPages
   zone-page = omega (arith, pages-most (zone z) (t .before) (t .behind) (s .segments) (t .whole), t .starts, good .valid .most)
 
-  pub zone-class : c < 64
+  pub zone-class : c < classCount
   zone-class = omega (arith, zone-valid s p b z t (good .valid) .class)
 
   -- Off its list.
@@ -58,7 +58,7 @@ module _ {w : List ℕ} {n p b c : ℕ} (good : Good w n) (z : Zone) (t : Stands
 
     pub off-spared : length (decode w .spare) < 2 → (u : List ℕ) → u ≡ encode (spared (p ∷ decode v .spare) (decode v)) → (u ≡ encode (retired c p (listOf (decode w) c) (decode w))) × (true ≡ ltb (length (decode w .spare)) 2)
     off-spared h u f =
-        (f ∙ ap (λ x. encode (spared (p ∷ x .spare) x)) off-decoded ∙ ap encode (sym (rw (lt-ltb (length (s .spare)) 2 h))), sym (lt-ltb (length (s .spare)) 2 h))
+        (f ∙ ap (λ x. encode (spared (p ∷ x .spare) x)) off-decoded ∙ ap encode (sym (rw (lt-ltb (length (s .spare)) mostSpare h))), sym (lt-ltb (length (s .spare)) mostSpare h))
 
     pub off-stands : ((x : Segment Zone) × Stands (decode v .segments) p b x × (pages x ≡ 8) × (runPages x ≡ 0))
     off-stands = (zone z, subst (λ x. Stands (x .segments) p b (zone z)) (sym off-decoded) t, refl, refl)
@@ -71,4 +71,4 @@ module _ {w : List ℕ} {n p b c : ℕ} (good : Good w n) (z : Zone) (t : Stands
 
     pub off-released : 2 ≤ length (decode w .spare) → (u : List ℕ) → u ≡ encode (released p (decode v)) → (u ≡ encode (retired c p (listOf (decode w) c) (decode w))) × (false ≡ ltb (length (decode w .spare)) 2)
     off-released h u f =
-        (f ∙ ap (λ x. encode (released p x)) off-decoded ∙ ap encode (sym (rw (le-ltb (length (s .spare)) 2 h))), sym (le-ltb (length (s .spare)) 2 h))
+        (f ∙ ap (λ x. encode (released p x)) off-decoded ∙ ap encode (sym (rw (le-ltb (length (s .spare)) mostSpare h))), sym (le-ltb (length (s .spare)) mostSpare h))

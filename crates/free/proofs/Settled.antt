@@ -10,8 +10,7 @@ use lib.Seq.{getD-set-same, set-set}
 use borrow.Author.Tests.{lt-ltb, le-ltb}
 use Rattle.lemmas.specs.Times.{remove}
 use Rattle.lemmas.proofs.Cases.{and-both, and-false}
-use Rattle.model.specs.Perform.{headerWords}
-use Rattle.model.specs.Sizes.{pageBytes}
+use Rattle.model.specs.Numbers.{pageBytes, mostSpare, headerWords}
 use Rattle.model.specs.Zone.{Zone, putBack}
 use Rattle.model.specs.State.{State, listOf, arranged, zoneAt, putZone}
 use Rattle.model.specs.PageMap.{idleZone}
@@ -50,7 +49,7 @@ module _ (s : State) (c i p : ℕ) (z : Zone) where
 
     -- Retiring from the state in which the chunk is on the chain already.
     retired-same : retired c p (listOf (chained c i p z s) c) (chained c i p z s) ≡ retired c p l s₁
-    retired-same = λ j. cond (ltb (length (s .spare)) 2)
+    retired-same = λ j. cond (ltb (length (s .spare)) mostSpare)
         (arranged s (putZone p (putBack i z) (s .segments)) (lists j) (p ∷ s .spare))
         (arranged s (release (p * pageBytes) (putZone p (putBack i z) (s .segments))) (lists j) (s .spare))
       where
@@ -64,7 +63,7 @@ module _ (s : State) (c i p : ℕ) (z : Zone) where
   pub stays-remains : chunkBack c i p z s ≡ chained c i p z s → Remains true i p z s (chunkBack c i p z s)
   stays-remains e = ap (λ k. k .segments) e
 
-  pub retired-remains : idleZone (putBack i z) ≡ true → 2 ≤ length l → (r : Bool) → r ≡ ltb (length (s .spare)) 2 → Remains r i p z s (chunkBack c i p z s)
+  pub retired-remains : idleZone (putBack i z) ≡ true → 2 ≤ length l → (r : Bool) → r ≡ ltb (length (s .spare)) mostSpare → Remains r i p z s (chunkBack c i p z s)
   retired-remains t h true e = ap (λ k. k .segments) (settled-retires (and-both (idleZone (putBack i z)) (ltb 1 (length l)) t (lt-ltb 1 (length l) (omega arith)))) ∙ rw (sym e)
   retired-remains t h false e = (ap (λ k. k .segments) (settled-retires (and-both (idleZone (putBack i z)) (ltb 1 (length l)) t (lt-ltb 1 (length l) (omega arith)))) ∙ rw (sym e), t)
 

@@ -4,7 +4,7 @@ use mathlib.Core.Path.{_≡_}
 use mathlib.Core.List.{List, _∷_}
 use mathlib.Core.Bool.{Bool, true, false, cond}
 use lib.ListN.{getD, set}
-use Rattle.model.specs.Sizes.{pageBytes}
+use Rattle.model.specs.Numbers.{pageBytes}
 use Rattle.model.specs.Arena.{zone}
 use Rattle.model.specs.Zone.{Zone, full, putBack}
 use Rattle.model.specs.State.{State, listOf, arranged, putZone}

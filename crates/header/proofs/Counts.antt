@@ -14,7 +14,8 @@ use Rattle.lemmas.proofs.Cases.{by-eqb, by-ltb, by-leb, and-both}
 use Rattle.lemmas.proofs.Every.{every-of-members, count-all}
 use Rattle.lemmas.proofs.Keep.{length-keep}
 use Rattle.lemmas.proofs.Times.{times-append, times-absent}
-use Rattle.header.specs.Keys.{key, classIn, pageIn, keysOf, ofClass, belowClass, listIn, placeOf, mostPages}
+use Rattle.model.specs.Numbers.{mostPages}
+use Rattle.header.specs.Keys.{key, classIn, pageIn, keysOf, ofClass, belowClass, listIn, placeOf}
 use Rattle.header.proofs.Keys.{Below, Pages, class-list, keysBefore, keysBehind, keys-parts, before-below, behind-above}
 use Rattle.header.proofs.Entries.{between}
 

@@ -4,11 +4,11 @@ use mathlib.Core.Path.{_≡_, refl, sym, ap, _∙_}
 use mathlib.Core.List.{List, [], _∷_, _++_, append-assoc, append-nil}
 use native.Mathlib.Omega.{arith}
 use lib.ListN.{length, getD, length-append}
-use Rattle.model.specs.Perform.{headerWords}
 use Rattle.lemmas.specs.Parts.{mid, putMid}
 use Rattle.lemmas.specs.Zeros.{zeros}
 use Rattle.lemmas.proofs.Parts.{mid-at, put-at}
 use Rattle.lemmas.proofs.Zeros.{length-zeros}
+use Rattle.model.specs.Numbers.{headerWords}
 use Rattle.header.specs.Keys.{keysOf, listsOf}
 use Rattle.header.specs.Slots.{slots, entriesIn}
 use Rattle.header.specs.Encoding.{magic, headerEncoding, Fits, pagesIn, spareIn, listsIn, spareSlots, listSlots, restWords, atSpare, atLists, atRest}

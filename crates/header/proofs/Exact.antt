@@ -13,7 +13,8 @@ use Rattle.lemmas.specs.Parts.{mid}
 use Rattle.lemmas.specs.Zeros.{zeros}
 use Rattle.lemmas.proofs.Parts.{mid-split, length-mid}
 use Rattle.lemmas.proofs.Zeros.{every-zeros, zeros-every}
-use Rattle.header.specs.Keys.{keysOf, listsOf, mostPages, keyLimit}
+use Rattle.model.specs.Numbers.{mostPages}
+use Rattle.header.specs.Keys.{keysOf, listsOf, keyLimit}
 use Rattle.header.specs.Slots.{slots, entriesIn}
 use Rattle.header.specs.Encoding.{magic, headerEncoding, Fits, pagesIn, spareIn, listsIn, Encodes, Header, isHeader, spareSlots, listSlots, restWords, atSpare, atLists, atRest}
 use Rattle.header.proofs.Keys.{keys-rising, keys-below, rising-pages, keys-lists, length-lists, lists-pages}

@@ -7,15 +7,15 @@ use native.Mathlib.Omega.{arith}
 use lib.Dec.{leb, eqb}
 use lib.ListN.{length, getD}
 use borrow.Author.Tests.{eq-eqb, eqb-true, le-leb, leb-true}
-use Rattle.model.specs.Perform.{headerWords}
 use Rattle.lemmas.specs.Every.{every}
 use Rattle.lemmas.specs.Parts.{mid}
 use Rattle.lemmas.specs.Zeros.{zeros, isZero}
 use Rattle.lemmas.proofs.Cases.{and-left, and-right, refuted}
 use Rattle.lemmas.proofs.Zeros.{getD-zeros}
+use Rattle.model.specs.Numbers.{mostPages, headerWords}
 use Rattle.header.specs.Slots.{legalSlots}
 use Rattle.header.specs.Encoding.{magic, isHeader, spareSlots, listSlots, restWords, atSpare, atLists, atRest}
-use Rattle.header.specs.Keys.{mostPages, keyLimit}
+use Rattle.header.specs.Keys.{keyLimit}
 
 pub record Facts (w : List ℕ) : Type 0 where
   pub size : length w ≡ headerWords

@@ -9,7 +9,8 @@ use Rattle.lemmas.specs.Times.{remove}
 use Rattle.lemmas.proofs.Cases.{by-eqb}
 use Rattle.lemmas.proofs.Distinct.{remove-in, length-remove}
 use Rattle.lemmas.proofs.Sets.{getD-set}
-use Rattle.header.specs.Keys.{key, keysOf, classes, mostPages}
+use Rattle.model.specs.Numbers.{classCount, mostPages}
+use Rattle.header.specs.Keys.{key, keysOf}
 use Rattle.header.specs.Encoding.{Fits, spareSlots, listSlots}
 use Rattle.header.proofs.Keys.{Below, below-cons, keysBefore, keysBehind, keys-set, keys-parts}
 use Rattle.header.proofs.Steps.{fresh-keys}
@@ -34,7 +35,7 @@ length-keys-set c ls l h =
 module _ {n : ℕ} {spare : List ℕ} {lists : List (List ℕ)} (h : Fits n spare lists) where
   -- ---- the class lists
 
-  pub fits-set : (c : ℕ) (l : List ℕ) → c < classes → Below mostPages l → length (keysOf (set lists c l)) ≤ listSlots → Fits n spare (set lists c l)
+  pub fits-set : (c : ℕ) (l : List ℕ) → c < classCount → Below mostPages l → length (keysOf (set lists c l)) ≤ listSlots → Fits n spare (set lists c l)
   fits-set c l b g r =
       record {
         least = h .least;
@@ -47,12 +48,12 @@ module _ {n : ℕ} {spare : List ℕ} {lists : List (List ℕ)} (h : Fits n spar
             (subst (List·Memᴰ p) (getD-set lists c d l [] (let a = h .classes in omega arith)) m);
       }
 
-  pub fits-push : (c p : ℕ) → c < classes → p < mostPages → length (keysOf lists) < listSlots → Fits n spare (set lists c (p ∷ getD lists c []))
+  pub fits-push : (c p : ℕ) → c < classCount → p < mostPages → length (keysOf lists) < listSlots → Fits n spare (set lists c (p ∷ getD lists c []))
   fits-push c p b k r =
       fits-set c (p ∷ getD lists c []) b (below-cons (getD lists c []) k (h .list-pages c))
       (let a = h .classes in let e = length-keys-set c lists (p ∷ getD lists c []) (omega arith) in omega arith)
 
-  pub fits-remove : (c p : ℕ) → c < classes → Fits n spare (set lists c (remove p (getD lists c [])))
+  pub fits-remove : (c p : ℕ) → c < classCount → Fits n spare (set lists c (remove p (getD lists c [])))
   fits-remove c p b =
       fits-set c (remove p (getD lists c [])) b (λ q m. h .list-pages c q (remove-in p (getD lists c []) m .1))
       (let a = h .classes in
@@ -95,14 +96,14 @@ none-listed zero c = refl
 none-listed (suc m) zero = refl
 none-listed (suc m) (suc c) = none-listed m c
 
-pub fits-fresh : (n : ℕ) → 1 ≤ n → n ≤ mostPages → Fits n [] (replicate classes [])
+pub fits-fresh : (n : ℕ) → 1 ≤ n → n ≤ mostPages → Fits n [] (replicate classCount [])
 fits-fresh n a b =
     record {
       least = a;
       most = b;
       few = omega arith;
-      classes = length-replicate {A = List ℕ} classes [];
+      classes = length-replicate {A = List ℕ} classCount [];
       room = rw fresh-keys (omega arith);
       spare-pages = λ p m. absurd (List·Memᴰ·not-nil m);
-      list-pages = λ c p m. absurd (List·Memᴰ·not-nil (subst (List·Memᴰ p) (none-listed classes c) m));
+      list-pages = λ c p m. absurd (List·Memᴰ·not-nil (subst (List·Memᴰ p) (none-listed classCount c) m));
     }

@@ -20,7 +20,8 @@ use Rattle.lemmas.proofs.Every.{every-of-members, count-append, count-all, coun
 use Rattle.lemmas.proofs.Keep.{keep-append, keep-in, keep-all, keep-none}
 use Rattle.lemmas.proofs.ListFrom.{is-listFrom, length-listFrom, getD-listFrom}
 use Rattle.lemmas.proofs.Distinct.{remove-here, remove-there, remove-append, remove-absent}
-use Rattle.header.specs.Keys.{key, classIn, pageIn, keysFrom, keysOf, ofClass, belowClass, listIn, listsOf, putAt, placeOf, classes, mostPages, keyLimit}
+use Rattle.model.specs.Numbers.{classCount, mostPages}
+use Rattle.header.specs.Keys.{key, classIn, pageIn, keysFrom, keysOf, ofClass, belowClass, listIn, listsOf, putAt, placeOf, keyLimit}
 
 -- Every number of a list is below n.
 abbrev pub Below : ℕ → List ℕ → Type 0
@@ -92,10 +93,10 @@ pub keys-rising : (ls : List (List ℕ)) → Pages ls → Rising 0 (keysOf ls)
 unfolding keysOf
 keys-rising ls h = rising-keys 0 ls h
 
-pub keys-below : (ls : List (List ℕ)) → length ls ≡ classes → Pages ls → (q : ℕ) → List·Memᴰ q (keysOf ls) → q < keyLimit
+pub keys-below : (ls : List (List ℕ)) → length ls ≡ classCount → Pages ls → (q : ℕ) → List·Memᴰ q (keysOf ls) → q < keyLimit
 unfolding keysOf
 keys-below ls e h q m =
-    let a = keys-most 0 classes ls h (subst (λ (t : List (List ℕ)). List·Memᴰ q (keysFrom 0 t)) (sym (take-all classes ls (omega arith))) m) in
+    let a = keys-most 0 classCount ls h (subst (λ (t : List (List ℕ)). List·Memᴰ q (keysFrom 0 t)) (sym (take-all classCount ls (omega arith))) m) in
     omega arith
 
 -- Pages by themselves are keys of class 0.
@@ -152,9 +153,9 @@ unfolding keysOf
 class-list c ls h k = ap (λ (n : ℕ). listIn n (keysFrom 0 ls)) (let e : c ≡ 0 + c = omega arith in e) ∙ list-from 0 c ls h k
 
 -- The lists of their keys.
-pub lists-keys : (ls : List (List ℕ)) → length ls ≡ classes → Pages ls → listsOf (keysOf ls) ≡ ls
+pub lists-keys : (ls : List (List ℕ)) → length ls ≡ classCount → Pages ls → listsOf (keysOf ls) ≡ ls
 unfolding listsOf keysOf
-lists-keys ls e h = sym (is-listFrom (λ c. listIn c (keysFrom 0 ls)) 0 classes ls [] e (λ i k. sym (list-from 0 i ls h (omega arith))))
+lists-keys ls e h = sym (is-listFrom (λ c. listIn c (keysFrom 0 ls)) 0 classCount ls [] e (λ i k. sym (list-from 0 i ls h (omega arith))))
 
 -- ---- the keys of the lists of keys
 
@@ -210,20 +211,20 @@ keys-from b (suc n) c ks r h =
 pub keys-lists : (ks : List ℕ) → Rising 0 ks → Below keyLimit ks → keysOf (listsOf ks) ≡ ks
 unfolding keysOf listsOf fromClass
 keys-lists ks r h =
-    keys-from 0 classes 0 ks r (λ q m. let a = h q m in omega arith)
+    keys-from 0 classCount 0 ks r (λ q m. let a = h q m in omega arith)
     ∙ keep-all (fromClass 0) ks (every-of-members (fromClass 0) ks (λ q m. le-leb 0 (classIn q) (omega arith)))
 
 -- Whatever the keys, there are 64 lists, and their pages are below 256.
-pub length-lists : (ks : List ℕ) → length (listsOf ks) ≡ classes
+pub length-lists : (ks : List ℕ) → length (listsOf ks) ≡ classCount
 unfolding listsOf
-length-lists ks = length-listFrom (λ c. listIn c ks) 0 classes
+length-lists ks = length-listFrom (λ c. listIn c ks) 0 classCount
 
 pub lists-pages : (ks : List ℕ) → Pages (listsOf ks)
 unfolding listsOf listIn
 lists-pages ks c p m =
-    by-ltb (λ t. p < mostPages) c classes
+    by-ltb (λ t. p < mostPages) c classCount
     (λ l.
-    let r = Memᴰ·of-map pageIn (keep (ofClass c) ks) (subst (List·Memᴰ p) (getD-listFrom (λ c. listIn c ks) 0 classes c [] l ∙ ap (λ (n : ℕ). listIn n ks) (zero-add c)) m) in
+    let r = Memᴰ·of-map pageIn (keep (ofClass c) ks) (subst (List·Memᴰ p) (getD-listFrom (λ c. listIn c ks) 0 classCount c [] l ∙ ap (λ (n : ℕ). listIn n ks) (zero-add c)) m) in
     let e : pageIn (r .0) ≡ p = r .2 in omega arith)
     (λ l. absurd (List·Memᴰ·not-nil (subst (List·Memᴰ p) (List·getD-eq-default (listsOf ks) [] (omega (arith, length-lists ks))) m)))
 

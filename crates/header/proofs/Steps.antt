@@ -6,7 +6,6 @@ use native.Mathlib.Nat.{not-suc-le-zero, le-of-suc-le-suc}
 use native.Mathlib.Numerals.{add-one}
 use native.Mathlib.Omega.{arith}
 use lib.ListN.{length, getD, set, drop, replicate, length-append, drop-of-length-le, List·getD-eq-default}
-use Rattle.model.specs.Perform.{headerWords}
 use Rattle.lemmas.specs.Every.{count}
 use Rattle.lemmas.specs.Times.{times, remove}
 use Rattle.lemmas.specs.Parts.{mid, putMid}
@@ -15,8 +14,9 @@ use Rattle.lemmas.proofs.Cases.{by-ltb}
 use Rattle.lemmas.proofs.Every.{count-le-length}
 use Rattle.lemmas.proofs.Parts.{length-mid, getD-mid}
 use Rattle.lemmas.proofs.Zeros.{zeros-add, getD-zeros}
+use Rattle.model.specs.Numbers.{classCount, mostPages, headerWords}
 use Rattle.header.specs.declared.Front.the-variants.{Page, Nothing}
-use Rattle.header.specs.Keys.{key, classIn, keysFrom, keysOf, belowClass, putAt, placeOf, classes, mostPages, keyLimit}
+use Rattle.header.specs.Keys.{key, classIn, keysFrom, keysOf, belowClass, putAt, placeOf, keyLimit}
 use Rattle.header.specs.Slots.{slots, holds, shiftedIn, closedUp}
 use Rattle.header.specs.Encoding.{magic, headerEncoding, Encodes, spareSlots, listSlots, restWords, atSpare, atLists, atRest}
 use Rattle.header.specs.Front.{frontOf}
@@ -121,7 +121,7 @@ module _ {w : List ℕ} {n : ℕ} {spare : List ℕ} {lists : List (List ℕ)} (
   pub spare-times : (p : ℕ) → count (holds p (p + 1)) (mid atSpare spareSlots w) ≡ times p spare
   spare-times p = spare-count p (p + 1) ∙ count-one p spare
 
-  module _ (c : ℕ) (b : c < classes) where
+  module _ (c : ℕ) (b : c < classCount) where
     there : c < length lists
     there = let a = h .fits .classes in omega arith
 
@@ -196,7 +196,7 @@ module _ {w : List ℕ} {n : ℕ} {spare : List ℕ} {lists : List (List ℕ)} (
       ∙ put-spare n spare lists v
       ∙ ap (λ (t : List ℕ). (magic ∷ n ∷ []) ++ (t ++ (slots listSlots (keysOf lists) ++ zeros restWords))) e
 
-  module _ (c p : ℕ) (b : c < classes) where
+  module _ (c p : ℕ) (b : c < classCount) where
     pub step-push : (low q k : ℕ) (v : List ℕ) → low ≡ key c 0 → q ≡ key c p → k ≡ count (holds 0 low) (mid atLists listSlots w) → v ≡ shiftedIn k (q + 1) (mid atLists listSlots w)
         → putMid atLists listSlots w v ≡ headerEncoding n spare (set lists c (p ∷ getD lists c []))
     step-push low q k v is own e f =
@@ -239,9 +239,9 @@ unfolding keysFrom
 keys-none c zero = refl
 keys-none c (suc m) = keys-none (suc c) m
 
-pub fresh-keys : keysOf (replicate classes []) ≡ []
+pub fresh-keys : keysOf (replicate classCount []) ≡ []
 unfolding keysOf
-fresh-keys = keys-none 0 classes
+fresh-keys = keys-none 0 classCount
 
 overwritten : (w z : List ℕ) (k m n : ℕ) → length w ≡ 2 + k → set (set (putMid 2 k w z) 0 m) 1 n ≡ m ∷ n ∷ z
 overwritten [] z k m n e = absurd (omega arith)
@@ -251,7 +251,7 @@ overwritten (a ∷ b ∷ w) z k m n e =
     ap (λ (t : List ℕ). m ∷ n ∷ t) (ap (λ (t : List ℕ). z ++ t) (drop-of-length-le w l) ∙ append-nil z)
 
 pub step-fresh : (w z : List ℕ) (n : ℕ) → length w ≡ headerWords → z ≡ zeros (length (mid atSpare (headerWords - atSpare) w))
-    → set (set (putMid atSpare (headerWords - atSpare) w z) 0 magic) 1 n ≡ headerEncoding n [] (replicate classes [])
+    → set (set (putMid atSpare (headerWords - atSpare) w z) 0 magic) 1 n ≡ headerEncoding n [] (replicate classCount [])
 unfolding headerEncoding
 step-fresh w z n e q =
     overwritten w z (headerWords - atSpare) magic n e

@@ -12,11 +12,11 @@ use mathlib.Core.Bool.{Bool, _&&_}
 use mathlib.Core.List.{List, [], _∷_, _++_, List·Memᴰ}
 use lib.Dec.{leb, eqb}
 use lib.ListN.{length, getD}
-use Rattle.model.specs.Perform.{headerWords}
 use Rattle.lemmas.specs.Every.{every}
 use Rattle.lemmas.specs.Parts.{mid}
 use Rattle.lemmas.specs.Zeros.{zeros, isZero}
-use Rattle.header.specs.Keys.{classes, mostPages, keyLimit, keysOf, listsOf}
+use Rattle.model.specs.Numbers.{classCount, mostPages, headerWords}
+use Rattle.header.specs.Keys.{keyLimit, keysOf, listsOf}
 use Rattle.header.specs.Slots.{slots, entriesIn, legalSlots}
 
 -- "NOST"
@@ -51,7 +51,7 @@ pub record Fits (n : ℕ) (spare : List ℕ) (lists : List (List ℕ)) : Type 0 
   pub least : 1 ≤ n
   pub most : n ≤ mostPages
   pub few : length spare ≤ spareSlots
-  pub classes : length lists ≡ classes
+  pub classes : length lists ≡ classCount
   pub room : length (keysOf lists) ≤ listSlots
   pub spare-pages : (p : ℕ) → List·Memᴰ p spare → p < mostPages
   pub list-pages : (c p : ℕ) → List·Memᴰ p (getD lists c []) → p < mostPages

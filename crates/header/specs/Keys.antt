@@ -8,17 +8,11 @@ use lib.ListN.{take, drop}
 use Rattle.lemmas.specs.Every.{count}
 use Rattle.lemmas.specs.Keep.{keep}
 use Rattle.lemmas.specs.ListFrom.{listFrom}
-
-abbrev pub classes : ℕ
-classes = 64
-
--- The most pages of an arena.
-abbrev pub mostPages : ℕ
-mostPages = 256
+use Rattle.model.specs.Numbers.{mostPages, classCount}
 
 -- Every key of a class is below.
 abbrev pub keyLimit : ℕ
-keyLimit = 16384
+keyLimit = mostPages * classCount
 
 -- The key of the zone of class c that starts at page p.
 abbrev pub key : ℕ → ℕ → ℕ
@@ -53,7 +47,7 @@ listIn c ks = map pageIn (keep (ofClass c) ks)
 
 -- One list for each class, of any keys.
 unfoldable pub listsOf : List ℕ → List (List ℕ)
-listsOf ks = listFrom (λ c. listIn c ks) 0 classes
+listsOf ks = listFrom (λ c. listIn c ks) 0 classCount
 
 -- A list with q at index k.
 abbrev pub putAt : ℕ → ℕ → List ℕ → List ℕ

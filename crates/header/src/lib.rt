@@ -5,11 +5,11 @@ ghost use mathlib.Core.Path.{_≡_};
 ghost use mathlib.Core.List.{[], _∷_};
 ghost use Prim.Native.Nat.{_≤_, _<_};
 ghost use lib.ListN.{length, getD, set, drop, replicate};
-ghost use Rattle.model.specs.Perform.{headerWords};
 ghost use Rattle.lemmas.specs.Times.{remove};
-ghost use Rattle.header.specs.Keys.{classes, mostPages, key, keysOf};
+ghost use Rattle.header.specs.Keys.{key, keysOf};
 ghost use Rattle.header.specs.Encoding.{spareSlots, listSlots, headerEncoding, pagesIn, spareIn, listsIn, Header, isHeader};
 ghost use Rattle.header.specs.Front.{frontOf, stands};
+ghost use Rattle.model.specs.Numbers.{classCount, mostPages, headerWords};
 
 mod layout;
 mod slots;
@@ -63,7 +63,7 @@ pub fn check(words: &[u32]) -> bool
 // Sets the words up as the header of n pages with empty lists, whatever they held.
 pub fn set_up(words: &mut [u32], n: u32)
     requires { ⌜ length (now words) ≡ headerWords ⌝ }
-    ensures { λ _. ⌜ now (words .exit) ≡ headerEncoding n [] (replicate classes []) ⌝ }
+    ensures { λ _. ⌜ now (words .exit) ≡ headerEncoding n [] (replicate classCount []) ⌝ }
 {
     scan::clear(&mut words[AT_SPARE..WORDS]);
     words[AT_MAGIC] = MAGIC;
@@ -82,7 +82,7 @@ pub fn pages(words: &[u32]) -> u32
 
 // The key of a page and a class. At page 0 it is the class's lowest, at 256 the next class's.
 fn key(class: u32, page: u32) -> u32
-    requires { ⌜ (class < classes) × (page ≤ mostPages) ⌝ }
+    requires { ⌜ (class < classCount) × (page ≤ mostPages) ⌝ }
     ensures { λ r. ⌜ r ≡ key class page ⌝ }
 {
     MOST_PAGES * class + page
@@ -90,7 +90,7 @@ fn key(class: u32, page: u32) -> u32
 
 // The front of the class's list. Its keys begin behind those of the lower classes; behind the last slot stands a zero.
 pub fn first(words: &[u32], class: u32) -> Front
-    requires { ⌜ Header (now words) × (class < classes) ⌝ }
+    requires { ⌜ Header (now words) × (class < classCount) ⌝ }
     ensures { λ r. ⌜ r ≡ frontOf (getD (listsIn (now (words .entry))) class []) ⌝ }
 {
     let low = key(class, 0);
@@ -107,7 +107,7 @@ pub fn first(words: &[u32], class: u32) -> Front
 
 // How many zones the class's list has.
 pub fn count(words: &[u32], class: u32) -> u32
-    requires { ⌜ Header (now words) × (class < classes) ⌝ }
+    requires { ⌜ Header (now words) × (class < classCount) ⌝ }
     ensures { λ r. ⌜ r ≡ length (getD (listsIn (now (words .entry))) class []) ⌝ }
 {
     let n = slots::count_between(
@@ -120,7 +120,7 @@ pub fn count(words: &[u32], class: u32) -> u32
 
 // Whether the zone that starts at the page stands on the class's list.
 pub fn contains(words: &[u32], class: u32, page: u32) -> bool
-    requires { ⌜ Header (now words) × (class < classes) × (page < mostPages) ⌝ }
+    requires { ⌜ Header (now words) × (class < classCount) × (page < mostPages) ⌝ }
     ensures { λ r. ⌜ r ≡ stands page (getD (listsIn (now (words .entry))) class []) ⌝ }
 {
     let low = key(class, page);
@@ -139,7 +139,7 @@ pub fn listed(words: &[u32]) -> u32
 
 // Puts the page at the front of the class's list. There is room for one more.
 pub fn push(words: &mut [u32], class: u32, page: u32)
-    requires { ⌜ Header (now words) × (class < classes) × (page < mostPages) × (length (keysOf (listsIn (now words))) < listSlots) ⌝ }
+    requires { ⌜ Header (now words) × (class < classCount) × (page < mostPages) × (length (keysOf (listsIn (now words))) < listSlots) ⌝ }
     ensures { λ _. ⌜ now (words .exit) ≡ headerEncoding (pagesIn (now (words .entry))) (spareIn (now (words .entry))) (set (listsIn (now (words .entry))) class (page ∷ getD (listsIn (now (words .entry))) class [])) ⌝ }
 {
     let at = slots::count_between(&words[AT_LISTS..AT_REST], 0, key(class, 0));
@@ -148,7 +148,7 @@ pub fn push(words: &mut [u32], class: u32, page: u32)
 
 // Takes the page off the class's list, if it stands there.
 pub fn remove(words: &mut [u32], class: u32, page: u32)
-    requires { ⌜ Header (now words) × (class < classes) × (page < mostPages) ⌝ }
+    requires { ⌜ Header (now words) × (class < classCount) × (page < mostPages) ⌝ }
     ensures { λ _. ⌜ now (words .exit) ≡ headerEncoding (pagesIn (now (words .entry))) (spareIn (now (words .entry))) (set (listsIn (now (words .entry))) class (remove page (getD (listsIn (now (words .entry))) class []))) ⌝ }
 {
     slots::take_out(&mut words[AT_LISTS..AT_REST], key(class, page) + 1);

@@ -12,6 +12,7 @@ use lib.Seq.{ext-getD}
 use borrow.Author.Tests.{leb-true, leb-false, ltb-true, ltb-false, lt-ltb, le-ltb, eqb-true, eqb-false, eq-eqb, ne-eqb}
 use Rattle.lemmas.specs.Keep.{keep}
 use Rattle.lemmas.proofs.Cases.{bool, either, true-false, some-inj}
+use Rattle.model.specs.Numbers.{zonePages}
 use Rattle.model.specs.Sizes.{room, chunks, pagesFor, roomFor}
 use Rattle.model.specs.Arena.{Segment, run, direct, zone, pages, bytes, total, retold, Place, locate, edit, Each}
 use Rattle.model.specs.PageMap.{Occupancy, occupancy, PageMap, pageMap, allZero, idle, idleZone, Block, whole, chunk, groupOf, roomOf, chunkOf, blockIn, blockThere, blockAt}
@@ -91,7 +92,7 @@ lead g [] h = free (run-none g) (runs-eq g (g + 0) (omega arith))
 lead g (run n ∷ r) h = lead-free g (run n) r (λ d. refl) refl (lead (g + n) r (h .1))
 lead g (direct n x ∷ r) h = item g (direct n x) r (holds-direct n x (h .0)) (h .0) (h .1) (λ o. refl) refl refl (omega arith)
 lead g (zone l ∷ r) h = bool (idle l)
-    (λ t. lead-free g (zone l) r (λ d. idle-blockIn d l t) (rw t) (lead (g + 8) r (h .1)))
+    (λ t. lead-free g (zone l) r (λ d. idle-blockIn d l t) (rw t) (lead (g + zonePages) r (h .1)))
     (λ t. item g (zone l) r (holds-zone l (h .0) t) (h .0) (h .1) (λ o. refl) (rw t) refl (omega arith))
 
 -- Where the same blocks are seen, the gaps are the same.

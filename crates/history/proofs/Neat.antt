@@ -13,6 +13,7 @@ use lib.Seq.{ext-getD}
 use borrow.Author.Tests.{leb-true, leb-false, ltb-true, ltb-false, lt-ltb, le-ltb, eqb-true, eqb-false, eq-eqb, ne-eqb}
 use Rattle.lemmas.specs.Keep.{keep}
 use Rattle.lemmas.proofs.Cases.{bool, either, true-false, some-inj}
+use Rattle.model.specs.Numbers.{zonePages}
 use Rattle.model.specs.Sizes.{room, chunks, pagesFor, roomFor}
 use Rattle.model.specs.Arena.{Segment, run, direct, zone, pages, bytes, total, retold, Place, locate, edit, Each}
 use Rattle.model.specs.PageMap.{Occupancy, occupancy, PageMap, pageMap, allZero, idle, idleZone, Block, whole, chunk, groupOf, roomOf, chunkOf, blockIn, blockThere, blockAt}
@@ -49,7 +50,7 @@ pub joined-neat : (f : Occupancy → Bool) (n : ℕ) (m : PageMap) → Each (Fit
 joined-neat f n [] h = neat-run n [] tt
 joined-neat f n (run k ∷ r) h = joined-neat f (n + k) r (h .1)
 joined-neat f n (direct k g ∷ r) h = neat-run n (direct k g ∷ joined f 0 r) (h .0, joined-neat f 0 r (h .1))
-joined-neat f n (zone l ∷ r) h = bool (f l) (λ t. rw t (joined-neat f (n + 8) r (h .1))) (λ t. rw t (neat-run n (zone l ∷ joined f 0 r) (h .0 t, joined-neat f 0 r (h .1))))
+joined-neat f n (zone l ∷ r) h = bool (f l) (λ t. rw t (joined-neat f (n + zonePages) r (h .1))) (λ t. rw t (neat-run n (zone l ∷ joined f 0 r) (h .0 t, joined-neat f 0 r (h .1))))
 
 neat-fit : (b : Bool) (m : PageMap) → Neat b m → Each (Fit (λ _. false)) m
 neat-fit b [] h = tt

@@ -10,6 +10,7 @@ use native.Mathlib.Omega.{arith}
 use lib.Dec.{ltb, leb}
 use borrow.Author.Tests.{leb-true}
 use Rattle.lemmas.proofs.Cases.{bool, true-false, and-left, and-right}
+use Rattle.model.specs.Numbers.{mostPages}
 use Rattle.model.specs.declared.Call.{Call}
 use Rattle.model.specs.declared.Operation.{Operation}
 use Rattle.model.specs.declared.Operation.the-variants.{Allocate, Free, Reset}
@@ -52,13 +53,13 @@ trimmed-neat s v = subst (Neat false) (sym (trimmed-map s)) (joined-neat idle 0 
 -- A start that is not refused.
 record Started (m : Metadata) (n : ℕ) : Type 0 where
   least : 0 < n
-  most : n ≤ 256
+  most : n ≤ mostPages
   leaves : (perform m (init n)) .after ≡ holding m (freshState n)
 
 started : (m : Metadata) (n : ℕ) → isRefused ((perform m (init n)) .answer) ≡ false → Started m n
-started m n h = bool (leb 1 n && leb n 256)
+started m n h = bool (leb 1 n && leb n mostPages)
     (λ t. bool (leb (wordsFor n) (m .words))
-    (λ u. record { least = leb-true 1 n (and-left (leb 1 n) (leb n 256) t); most = leb-true n 256 (and-right (leb 1 n) (leb n 256) t); leaves = rw (t, u) })
+    (λ u. record { least = leb-true 1 n (and-left (leb 1 n) (leb n mostPages) t); most = leb-true n mostPages (and-right (leb 1 n) (leb n mostPages) t); leaves = rw (t, u) })
     (λ u. absurd (true-false refl (rw (t, u) at h))))
     (λ t. absurd (true-false refl (rw t at h)))
 

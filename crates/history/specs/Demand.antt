@@ -8,11 +8,12 @@ use mathlib.Core.Logic.{_⊎_}
 use mathlib.Core.List.{List, [], _∷_, _++_, List·Memᴰ}
 use mathlib.Core.Option.{Option, none, some}
 use mathlib.Core.Bool.{true, false}
+use Rattle.model.specs.Numbers.{largeSize}
 use Rattle.model.specs.declared.Call.{Call}
 use Rattle.model.specs.declared.Operation.{Operation}
 use Rattle.model.specs.declared.Operation.the-variants.{Allocate, Free, Reset}
 use Rattle.model.specs.declared.Answer.{Answer}
-use Rattle.model.specs.Sizes.{largeSize, pagesFor}
+use Rattle.model.specs.Sizes.{pagesFor}
 use Rattle.model.specs.State.{State}
 use Rattle.model.specs.PageMap.{PageMap, pageMap, chunk, blockAt}
 use Rattle.model.specs.Calls.{group, trim, Command, init, act, isRefused, groupOk, sizeOk}

@@ -3,7 +3,7 @@ use Prim.Native.Nat.{ℕ, _+_, _*_, _≤_, _<_}
 use mathlib.Core.Path.{_≡_}
 use mathlib.Core.Option.{Option, none, some}
 use mathlib.Core.Bool.{Bool, true, false}
-use Rattle.model.specs.Sizes.{pageBytes}
+use Rattle.model.specs.Numbers.{pageBytes}
 use Rattle.model.specs.Arena.{Segment, run, direct, zone, Place, locate}
 use Rattle.model.specs.PageMap.{Occupancy, PageMap, idle}
 

@@ -10,6 +10,7 @@ use lib.ListN.{length, length-append}
 use Rattle.lemmas.specs.Below.{sumBelow}
 use Rattle.lemmas.proofs.Below.{sum-none, sum-more, sum-split}
 use Rattle.lemmas.proofs.Every.{count-le-length}
+use Rattle.model.specs.Numbers.{zonePages, mostGroup, classCount, mostPages}
 use Rattle.model.specs.Sizes.{chunks}
 use Rattle.model.specs.Arena.{Segment, run, direct, zone, total, Each}
 use Rattle.model.specs.Zone.{Zone}
@@ -85,7 +86,7 @@ pages-from p (suc (suc n)) h =
     let e : p + suc (suc n) ≡ p + suc n + 1 = omega arith in
     omega (arith, pages-from p (suc n) (omega arith), sum-more pageRow (p + suc n), ap pageRows e, decimal-some (p + suc n))
 
-widths : (width 0 ≡ 1) × (width 1 ≡ 1) × (width 12 ≡ 2)
+widths : (width 0 ≡ 1) × (width 1 ≡ 1) × (width mostGroup ≡ 2)
 unfolding decimal digits
 widths = (refl, refl, refl)
 
@@ -102,12 +103,12 @@ single-rows p zero = record { runs = refl; zones = refl; blocks = refl; rows = l
 single-rows p (suc n) =
     let i = single-rows (p + 1) n in
     let e : p + suc n ≡ p + 1 + n = omega arith in
-    let all = length-append (line (p ∷ 1 ∷ 12 ∷ [])) (lines (directLines (p + 1) (singles n))) in
+    let all = length-append (line (p ∷ 1 ∷ mostGroup ∷ [])) (lines (directLines (p + 1) (singles n))) in
     record {
       runs = i .runs;
       zones = i .zones;
       blocks = ap suc (i .blocks);
-      rows = omega (arith, i .rows, all, line-three p 1 12, widths .1, widths .2, sum-more pageRow p, ap pageRows e);
+      rows = omega (arith, i .rows, all, line-three p 1 mostGroup, widths .1, widths .2, sum-more pageRow p, ap pageRows e);
     }
 
 longest-is : (n : ℕ) → longest n ≡ 23 + width n + pageRows n
@@ -125,7 +126,7 @@ unfolding liveChunks
 live-most z v = omega (arith, live-shown z v, count-le-length isGroup (z .owners), touched-most z v)
 
 -- A direct block's row is not longer than the rows of its pages would be; a run's and a zone's are shorter.
-direct-row : (p n g : ℕ) → 0 < n → g ≤ 12 → length (line (p ∷ n ∷ g ∷ [])) < width p + 7 * n
+direct-row : (p n g : ℕ) → 0 < n → g ≤ mostGroup → length (line (p ∷ n ∷ g ∷ [])) < width p + 7 * n
 direct-row p n g h k = omega (arith, line-three p n g, decimal-tens n, decimal-length 1 g (omega arith))
 
 run-row : (p n : ℕ) → 0 < n → length (line (p ∷ n ∷ [])) + 1 < width p + 7 * n
@@ -134,7 +135,7 @@ run-row p n h = omega (arith, line-two p n, decimal-tens n)
 zone-row : (p : ℕ) (z : Zone) → ValidZone z → length (line (p ∷ z .class ∷ liveCount (padded (chunks (z .class)) (z .owners)) ∷ [])) + 1 < width p + 7 * 8
 zone-row p z v =
     let live = liveCount (padded (chunks (z .class)) (z .owners)) in
-    let few : z .class < 64 = v .class in
+    let few : z .class < classCount = v .class in
     omega (arith, line-three p (z .class) live, decimal-length 1 (z .class) (omega arith), decimal-length 3 live (omega (arith, live-most z v)))
 
 -- The bytes of the rows of segments from page p on, and one for each run and each zone.
@@ -168,8 +169,8 @@ all-spent p (zone z ∷ r) w =
     let row = line (p ∷ z .class ∷ liveCount (padded (chunks (z .class)) (z .owners)) ∷ []) in
     omega (
       arith,
-      length-append row (lines (zoneLines (p + 8) (shown r))),
-      spent-more p 8 (total r) (length row + 1) (spent (p + 8) (shown r)) (omega arith) (zone-row p z (w .0 .1)) (all-spent (p + 8) r (w .1)),
+      length-append row (lines (zoneLines (p + zonePages) (shown r))),
+      spent-more p 8 (total r) (length row + 1) (spent (p + zonePages) (shown r)) (omega arith) (zone-row p z (w .0 .1)) (all-spent (p + zonePages) r (w .1)),
     )
 
 -- Direct blocks are at most as many as the pages.
@@ -177,7 +178,7 @@ blocks-most : (p : ℕ) (m : List (Segment Zone)) → Each Writable m → length
 blocks-most p [] w = omega arith
 blocks-most p (run n ∷ r) w = omega (arith, blocks-most (p + n) r (w .1))
 blocks-most p (direct n g ∷ r) w = omega (arith, w .0 .0, blocks-most (p + n) r (w .1))
-blocks-most p (zone z ∷ r) w = omega (arith, blocks-most (p + 8) r (w .1))
+blocks-most p (zone z ∷ r) w = omega (arith, blocks-most (p + zonePages) r (w .1))
 
 -- No segments have a longer listing than as many blocks of one page as they have pages.
 pub listing-longest : (m : List (Segment Zone)) → Each Writable m → length (listingText (shown m)) ≤ longest (total m)
@@ -209,7 +210,7 @@ longest-figures = (refl, refl)
 -- For the words of segments: the length is a number of 32 bits.
 pub listing-length : {w : List ℕ} {m : List (Segment Zone)} {n : ℕ} → Encodes w m n → length (listingText (shown m)) < 2 ^ 32
 listing-length {w} {m} {n} e =
-    omega (arith, listing-longest m (e .sound), longest-grows (total m) 256 (omega (arith, e .covers, e .most)), longest-figures .1)
+    omega (arith, listing-longest m (e .sound), longest-grows (total m) mostPages (omega (arith, e .covers, e .most)), longest-figures .1)
 
 pub listing-bounded : {w : List ℕ} {m : List (Segment Zone)} {n : ℕ} → Encodes w m n → Bounded 0 (listingText (shown m))
 listing-bounded e = omega (arith, listing-length e)

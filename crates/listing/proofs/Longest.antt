@@ -5,6 +5,7 @@ use mathlib.Core.Bool.{false}
 use mathlib.Core.List.{[], _∷_}
 use native.Mathlib.Omega.{arith}
 use lib.ListN.{length, replicate}
+use Rattle.model.specs.Numbers.{mostGroup, classCount, mostPages}
 use Rattle.model.specs.Arena.{Segment, run, direct, zone, total, Each}
 use Rattle.model.specs.Zone.{Zone}
 use Rattle.model.specs.State.{State, ZoneAt}
@@ -25,9 +26,9 @@ singles-apart (suc n) = singles-apart n
 
 singles-shown : (n : ℕ) → shown (singles n) ≡ singles n
 singles-shown zero = refl
-singles-shown (suc n) = ap (λ m. direct 1 12 ∷ m) (singles-shown n)
+singles-shown (suc n) = ap (λ m. direct 1 mostGroup ∷ m) (singles-shown n)
 
-singles-each : (P : Segment Zone → Type 0) → P (direct 1 12) → (n : ℕ) → Each P (singles n)
+singles-each : (P : Segment Zone → Type 0) → P (direct 1 mostGroup) → (n : ℕ) → Each P (singles n)
 singles-each P h zero = tt
 singles-each P h (suc n) = (h, singles-each P h n)
 
@@ -41,12 +42,12 @@ singles-bare : (n p : ℕ) (z : Zone) → ZoneAt (singles n) p z → ⊥
 singles-bare n p z e = each-locate NoZone (singles n) (p * 4096) (record { away = 0; segment = zone z }) (singles-each NoZone tt n) e
 
 -- A valid state of n pages has a listing of `longest n` bytes.
-pub longest-met : (n : ℕ) → 0 < n → n ≤ 256 → (s : State) × Valid s × (total (s .segments) ≡ n) × (length (listingText (pageMap s)) ≡ longest n)
+pub longest-met : (n : ℕ) → 0 < n → n ≤ mostPages → (s : State) × Valid s × (total (s .segments) ≡ n) × (length (listingText (pageMap s)) ≡ longest n)
 unfolding longest
 longest-met n least most =
     let all = singles-total n in
     let sound = singles-each ValidSegment (omega arith, omega arith, omega arith) n in (
-      record { segments = singles n; lists = replicate 64 []; spare = [] },
+      record { segments = singles n; lists = replicate classCount []; spare = [] },
       bare-valid (singles n) (omega (arith, all)) (omega (arith, all)) (singles-apart n) sound (singles-bare n),
       all,
       ap (λ m. length (listingText m)) (singles-shown n),

@@ -8,6 +8,7 @@ use lib.Dec.{eqb}
 use lib.ListN.{length}
 use borrow.Author.Tests.{lt-ltb, eq-eqb, ne-eqb}
 use Rattle.lemmas.specs.Every.{count}
+use Rattle.model.specs.Numbers.{zonePages}
 use Rattle.model.specs.Sizes.{chunks}
 use Rattle.model.specs.Arena.{Segment, run, direct, zone, Each}
 use Rattle.model.specs.Zone.{Zone}
@@ -73,21 +74,21 @@ unfolding rowsOf rowsAt
 run-rows p [] = refl
 run-rows p (run n ∷ r) = ap (λ (l : List (List ℕ)). (p ∷ n ∷ []) ∷ l) (run-rows (p + n) r)
 run-rows p (direct n g ∷ r) = run-rows (p + n) r
-run-rows p (zone z ∷ r) = run-rows (p + 8) r
+run-rows p (zone z ∷ r) = run-rows (p + zonePages) r
 
 pub direct-rows : (p : ℕ) (m : List (Segment Zone)) → rowsOf 2 p m ≡ directLines p (shown m)
 unfolding rowsOf rowsAt
 direct-rows p [] = refl
 direct-rows p (run n ∷ r) = direct-rows (p + n) r
 direct-rows p (direct n g ∷ r) = ap (λ (l : List (List ℕ)). (p ∷ n ∷ g ∷ []) ∷ l) (direct-rows (p + n) r)
-direct-rows p (zone z ∷ r) = direct-rows (p + 8) r
+direct-rows p (zone z ∷ r) = direct-rows (p + zonePages) r
 
 pub zone-rows : (p : ℕ) (m : List (Segment Zone)) → Each Writable m → rowsOf 3 p m ≡ zoneLines p (shown m)
 unfolding rowsOf rowsAt
 zone-rows p [] h = refl
 zone-rows p (run n ∷ r) h = zone-rows (p + n) r (h .1)
 zone-rows p (direct n g ∷ r) h = zone-rows (p + n) r (h .1)
-zone-rows p (zone z ∷ r) h = λ i. (p ∷ z .class ∷ live-shown z (h .0 .1) i ∷ []) ∷ zone-rows (p + 8) r (h .1) i
+zone-rows p (zone z ∷ r) h = λ i. (p ∷ z .class ∷ live-shown z (h .0 .1) i ∷ []) ∷ zone-rows (p + zonePages) r (h .1) i
 
 -- ---- the listing
 

@@ -7,6 +7,7 @@ use native.Mathlib.Omega.{arith}
 use lib.Dec.{eqb}
 use lib.ListN.{length, getD, length-append}
 use lib.Seq.{length-sets}
+use Rattle.model.specs.Numbers.{mostPages, pageWords}
 use Rattle.model.specs.Arena.{Segment, pages}
 use Rattle.model.specs.Zone.{Zone}
 use Rattle.model.specs.Text.{lines}
@@ -28,7 +29,7 @@ pub record Counting (k : ℕ) (w : List ℕ) (n a p : ℕ) : Type 0 where
   pub b : ℕ
   pub walk : Walk (counting k) w n (0 + length (rowsOf k 0 (segmentsOf w))) a b p
   pub few : a ≤ p
-  pub most : n ≤ 256
+  pub most : n ≤ mostPages
 
 pub count-start : {k : ℕ} {w : List ℕ} {n : ℕ} → Holds w n → Counting k w n 0 0
 count-start h = record { b = 0; walk = walk-start 0 h; few = omega arith; most = h .most }
@@ -41,12 +42,12 @@ module _ {k : ℕ} {w : List ℕ} {n a p : ℕ} (i : Counting k w n a p) where
   pub count-next : p < n → Next (i .walk)
   count-next h = next (i .walk) h
 
-  module _ (h : p < n) (o : ℕ) (same : o ≡ cond (eqb (getD w (520 * p) 0) k) 1 0) where
+  module _ (h : p < n) (o : ℕ) (same : o ≡ cond (eqb (getD w (pageWords * p) 0) k) 1 0) where
     one : o ≡ length (rowsAt k p (count-next h .x))
     one = same ∙ ap (λ (j : ℕ). cond (eqb j k) 1 0) (count-next h .read .kind) ∙ sym (count-at k p (count-next h .x))
 
     pub count-few : o ≤ 1
-    count-few = omega (arith, same, one-most (eqb (getD w (520 * p) 0) k))
+    count-few = omega (arith, same, one-most (eqb (getD w (pageWords * p) 0) k))
 
     pub count-more : (len : ℕ) → len ≡ pages (count-next h .x) → Counting k w n (a + o) (p + len)
     unfolding rowsOf

@@ -3,12 +3,13 @@
 use Prim.Native.Nat.{ℕ}
 use mathlib.Core.List.{List}
 use lib.ListN.{length, replicate}
+use Rattle.model.specs.Numbers.{mostGroup}
 use Rattle.model.specs.Arena.{Segment, direct}
 use Rattle.model.specs.Listing.{listingText}
 
 -- n such blocks.
 abbrev pub singles : {Z : Type 0} → ℕ → List (Segment Z)
-singles n = replicate n (direct 1 12)
+singles n = replicate n (direct 1 mostGroup)
 
 -- The bytes of their listing.
 unfoldable pub longest : ℕ → ℕ

@@ -5,9 +5,9 @@ use mathlib.Core.List.{List}
 use mathlib.Core.Bool.{Bool, true, false}
 use native.Mathlib.Omega.{arith}
 use lib.ListN.{length, take, drop}
-use Rattle.model.specs.Perform.{headerWords, pageWords}
 use Rattle.lemmas.proofs.Cases.{bool, refuted, true-false}
 use Rattle.lemmas.proofs.Parts.{length-mid}
+use Rattle.model.specs.Numbers.{mostPages, headerWords, pageWords}
 use Rattle.header.specs.Keys.{keysOf}
 use Rattle.header.specs.Encoding.{pagesIn, spareIn, listsIn, Header, isHeader}
 use Rattle.header.proofs.Exact.{check-header}
@@ -49,7 +49,7 @@ module _ (w : List ℕ) where
     pub no-segments : legalSegments n (lentPages n w) ≡ false → false ≡ isState w
     no-segments f = sym (refuted (isState w) (λ t. true-false (passed w t .segments) (sym legal-is ∙ f)))
 
-    pub segments-hold : headerWords + pageWords * n ≤ length w → n ≤ 256 → legalSegments n (lentPages n w) ≡ true → Holds (lentPages n w) n
+    pub segments-hold : headerWords + pageWords * n ≤ length w → n ≤ mostPages → legalSegments n (lentPages n w) ≡ true → Holds (lentPages n w) n
     segments-hold h m t = legal-iff n (lentPages n w) (part-long h) m .0 t .0
 
     -- The lists decide.

@@ -5,6 +5,7 @@ use mathlib.Core.List.{List, [], _∷_}
 use mathlib.Core.Bool.{Bool, true, false, _&&_}
 use native.Mathlib.Omega.{arith}
 use lib.Dec.{eqb}
+use Rattle.model.specs.Numbers.{mostPages}
 use Rattle.model.specs.Arena.{Segment, pages}
 use Rattle.model.specs.Zone.{Zone}
 use Rattle.pages.specs.Decoding.{segmentsOf, Holds}
@@ -21,7 +22,7 @@ pub record Fitting (spare : List ℕ) (lists : List (List ℕ)) (k : ℕ) (w : L
   pub b : ℕ
   pub walk : Walk (fitting spare lists k) w n (fitFrom spare lists k 0 0 (segmentsOf w)) a b p
   pub few : a ≤ p
-  pub most : n ≤ 256
+  pub most : n ≤ mostPages
 
 module _ {spare : List ℕ} {lists : List (List ℕ)} {k : ℕ} {w : List ℕ} {n : ℕ} where
   pub fit-start : Holds w n → Fitting spare lists k w n 0 0

@@ -6,11 +6,12 @@ use mathlib.Core.Bool.{Bool, true, false, cond}
 use native.Mathlib.Omega.{arith}
 use lib.ListN.{length, getD, take, drop}
 use lib.Seq.{take-at}
+use Rattle.model.specs.Numbers.{zonePages, classCount, pageWords}
 use Rattle.model.specs.Arena.{Segment, run, direct, zone, pages}
 use Rattle.model.specs.Zone.{Zone, full}
 use Rattle.model.specs.PageMap.{idleZone}
 use Rattle.header.specs.Front.{stands}
-use Rattle.zone.specs.Encoding.{zoneEncoding}
+use Rattle.zone.specs.Encoding.{zoneEncoding, zoneWords}
 use Rattle.zone.specs.Decoding.{isZone, zoneOf}
 use Rattle.zone.proofs.Encoded.{zone-iff, zone-decoded, encoding-zone}
 use Rattle.zone.proofs.Words.{length-encoding}
@@ -68,12 +69,12 @@ module _ (spare : List ℕ) (lists : List (List ℕ)) (p : ℕ) (z : Zone) where
   fits-listed t u = no-case (stands p spare) (idleZone z) listed u ∙ no-case (full z) true open-fits t
 
 -- The class of a zone's words.
-pub class-low : (w : List ℕ) → isZone w ≡ true → zoneOf w .class < 64
+pub class-low : (w : List ℕ) → isZone w ≡ true → zoneOf w .class < classCount
 class-low w t = let f = zone-iff w .0 t in omega (arith, f .1 .class, ap (λ u. zoneOf u .class) (f .2), ap (λ z. z .class) (zone-decoded (f .0) (f .1)))
 
 -- The words of the zone at page p, as the code lends them.
 abbrev pub lentZone : ℕ → List ℕ → List ℕ
-lentZone p w = take (520 * p + 4160 - 520 * p) (drop (520 * p) w)
+lentZone p w = take (pageWords * p + zoneWords - pageWords * p) (drop (pageWords * p) w)
 
 pub record ZoneHere (w : List ℕ) (p : ℕ) (x : Segment Zone) : Type 0 where
   pub z : Zone
@@ -90,7 +91,7 @@ zone-here {w} {n} {p} {x} r k = go x r k
     go (run m) q e = absurd (omega arith)
     go (direct m g) q e = absurd (omega arith)
     go (zone z) q e =
-        let part : lentZone p w ≡ zoneEncoding z = ap (λ k. take k (drop (520 * p) w)) (let u : 520 * p + 4160 - 520 * p ≡ 4160 = omega arith in u) ∙ ap (take 4160) (q .words) ∙ take-at (zoneEncoding z) (drop (520 * (p + 8)) w) 4160 (length-encoding z) in
+        let part : lentZone p w ≡ zoneEncoding z = ap (λ k. take k (drop (pageWords * p) w)) (let u : pageWords * p + zoneWords - pageWords * p ≡ zoneWords = omega arith in u) ∙ ap (take zoneWords) (q .words) ∙ take-at (zoneEncoding z) (drop (pageWords * (p + zonePages)) w) zoneWords (length-encoding z) in
         record { z = z; is = refl; good = ap isZone part ∙ encoding-zone z (q .ok .1); decoded = ap zoneOf part ∙ zone-decoded z (q .ok .1); eight = refl }
 
 pub fits-zone : {w : List ℕ} {p : ℕ} {x : Segment Zone} (spare : List ℕ) (lists : List (List ℕ)) (h : ZoneHere w p x) → zoneFits spare lists p (zoneOf (lentZone p w)) ≡ segmentFits spare lists p x

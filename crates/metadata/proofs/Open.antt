@@ -11,6 +11,7 @@ use lib.ListN.{length, getD}
 use borrow.Author.Tests.{ltb-true, ltb-false, lt-ltb, le-ltb}
 use Rattle.lemmas.specs.Times.{Distinct}
 use Rattle.lemmas.proofs.Cases.{bool, true-false, some-inj}
+use Rattle.model.specs.Numbers.{zonePages}
 use Rattle.model.specs.Arena.{Segment, run, direct, zone, pages, bytes, total, Place, locate, Each}
 use Rattle.model.specs.Zone.{Zone, full}
 use Rattle.model.specs.State.{Begins, ZoneAt}
@@ -26,7 +27,7 @@ pub openFrom : ℕ → List (Segment Zone) → List ℕ
 openFrom p [] = []
 openFrom p (run n ∷ r) = openFrom (p + n) r
 openFrom p (direct n g ∷ r) = openFrom (p + n) r
-openFrom p (zone z ∷ r) = putOpen (full z) p (openFrom (p + 8) r)
+openFrom p (zone z ∷ r) = putOpen (full z) p (openFrom (p + zonePages) r)
 
 unfoldable pub sumOpen : List (Segment Zone) → ℕ
 sumOpen [] = 0
@@ -37,7 +38,7 @@ unfolding openFrom sumOpen putOpen
 length-open p [] = refl
 length-open p (run n ∷ r) = length-open (p + n) r ∙ omega arith
 length-open p (direct n g ∷ r) = length-open (p + n) r ∙ omega arith
-length-open p (zone z ∷ r) = bool (full z) (λ t. rw t (length-open (p + 8) r ∙ omega arith)) (λ t. rw t (omega (arith, length-open (p + 8) r)))
+length-open p (zone z ∷ r) = bool (full z) (λ t. rw t (length-open (p + zonePages) r ∙ omega arith)) (λ t. rw t (omega (arith, length-open (p + zonePages) r)))
 
 pub few-open : (m : List (Segment Zone)) → sumOpen m * 8 ≤ total m
 unfolding sumOpen
@@ -67,10 +68,10 @@ open-zone p [] q i = absurd (List·Memᴰ·not-nil i)
 open-zone p (run n ∷ r) q i = past (run n) r p q (open-zone (p + n) r q i)
 open-zone p (direct n g ∷ r) q i = past (direct n g) r p q (open-zone (p + n) r q i)
 open-zone p (zone z ∷ r) q i = bool (full z)
-    (λ t. past (zone z) r p q (open-zone (p + 8) r q (rw t at i)))
-    (λ t. go t (List·Memᴰ·cases-cons (rw t at i)) (open-zone (p + 8) r q))
+    (λ t. past (zone z) r p q (open-zone (p + zonePages) r q (rw t at i)))
+    (λ t. go t (List·Memᴰ·cases-cons (rw t at i)) (open-zone (p + zonePages) r q))
   where
-    go : full z ≡ false → (q ≡ p) ⊎ List·Memᴰ q (openFrom (p + 8) r) → (List·Memᴰ q (openFrom (p + 8) r) → OpenZone r (p + 8) q) → OpenZone (zone z ∷ r) p q
+    go : full z ≡ false → (q ≡ p) ⊎ List·Memᴰ q (openFrom (p + zonePages) r) → (List·Memᴰ q (openFrom (p + zonePages) r) → OpenZone r (p + zonePages) q) → OpenZone (zone z ∷ r) p q
     go t (inl e) k = record { here = z; at = rw (lt-ltb ((q - p) * 4096) 32768 (omega arith)) (ap (λ a. some (record { away = a; segment = zone z })) (omega arith)); not-full = t; behind = omega arith }
     go t (inr e) k = past (zone z) r p q (k e)
 
@@ -85,12 +86,12 @@ zone-open p (direct n j ∷ r) q z h e f = bool (ltb ((q - p) * 4096) (n * 4096)
     (λ t. zone-open (p + n) r q z (omega (arith, ltb-false ((q - p) * 4096) (n * 4096) t)) (ap (λ k. locate k r) (let g : (q - (p + n)) * 4096 ≡ (q - p) * 4096 - n * 4096 = omega (arith, ltb-false ((q - p) * 4096) (n * 4096) t) in g) ∙ rw t at e) f)
 zone-open p (zone y ∷ r) q z h e f = bool (ltb ((q - p) * 4096) 32768)
     (λ t. here (some-inj (rw t at e)))
-    (λ t. later (zone-open (p + 8) r q z (omega (arith, ltb-false ((q - p) * 4096) 32768 t)) (ap (λ k. locate k r) (let g : (q - (p + 8)) * 4096 ≡ (q - p) * 4096 - 32768 = omega (arith, ltb-false ((q - p) * 4096) 32768 t) in g) ∙ rw t at e) f))
+    (λ t. later (zone-open (p + zonePages) r q z (omega (arith, ltb-false ((q - p) * 4096) 32768 t)) (ap (λ k. locate k r) (let g : (q - (p + zonePages)) * 4096 ≡ (q - p) * 4096 - 32768 = omega (arith, ltb-false ((q - p) * 4096) 32768 t) in g) ∙ rw t at e) f))
   where
-    later : List·Memᴰ q (openFrom (p + 8) r) → List·Memᴰ q (putOpen (full y) p (openFrom (p + 8) r))
+    later : List·Memᴰ q (openFrom (p + zonePages) r) → List·Memᴰ q (putOpen (full y) p (openFrom (p + zonePages) r))
     later i = bool (full y) (λ t. rw t i) (λ t. rw t (List·Memᴰ·tail i))
 
-    here : _≡_ {A = Place Zone} (record { away = (q - p) * 4096; segment = zone y }) (record { away = 0; segment = zone z }) → List·Memᴰ q (putOpen (full y) p (openFrom (p + 8) r))
+    here : _≡_ {A = Place Zone} (record { away = (q - p) * 4096; segment = zone y }) (record { away = 0; segment = zone z }) → List·Memᴰ q (putOpen (full y) p (openFrom (p + zonePages) r))
     here u =
         let a : (q - p) * 4096 ≡ 0 = ap (λ x. x .away) u in
         let s : zone y ≡ zone z = ap (λ x. x .segment) u in
@@ -105,7 +106,7 @@ unfolding openFrom putOpen
 open-distinct p [] = tt
 open-distinct p (run n ∷ r) = open-distinct (p + n) r
 open-distinct p (direct n g ∷ r) = open-distinct (p + n) r
-open-distinct p (zone z ∷ r) = bool (full z) (λ t. rw t (open-distinct (p + 8) r)) (λ t. rw t (λ i. let k = open-above (p + 8) r p i in omega arith, open-distinct (p + 8) r))
+open-distinct p (zone z ∷ r) = bool (full z) (λ t. rw t (open-distinct (p + zonePages) r)) (λ t. rw t (λ i. let k = open-above (p + zonePages) r p i in omega arith, open-distinct (p + zonePages) r))
 
 -- Of the whole arena.
 abbrev pub openPages : List (Segment Zone) → List ℕ

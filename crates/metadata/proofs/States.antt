@@ -11,7 +11,6 @@ use lib.Dec.{ltb, leb, eqb}
 use lib.ListN.{length, getD, take, drop, length-append, length-drop, length-take}
 use lib.Seq.{getD-take, take-add, take-take, take-at, drop-at, take-all, length-take-le, drop-append-le}
 use borrow.Author.Tests.{leb-true, leb-false, le-leb, ltb-true, ltb-false}
-use Rattle.model.specs.Perform.{headerWords, pageWords}
 use Rattle.lemmas.specs.Parts.{mid}
 use Rattle.lemmas.specs.Zeros.{zeros}
 use Rattle.lemmas.specs.Times.{times}
@@ -19,6 +18,7 @@ use Rattle.lemmas.proofs.Cases.{bool, refuted, true-false, and-left, and-right,
 use Rattle.lemmas.proofs.Times.{times-nil}
 use Rattle.lemmas.proofs.Parts.{length-mid}
 use Rattle.lemmas.proofs.Zeros.{getD-zeros, is-zeros}
+use Rattle.model.specs.Numbers.{headerWords, pageWords}
 use Rattle.model.specs.Sizes.{chunks}
 use Rattle.model.specs.Arena.{Segment, run, direct, zone, pages, total, locate, Each}
 use Rattle.model.specs.Zone.{Zone, touched, full, isNil}

@@ -6,8 +6,9 @@ use mathlib.Core.Option.{Option, none, some}
 use lib.Dec.{leb}
 use lib.ListN.{length, getD, take}
 use Rattle.lemmas.specs.Parts.{mid}
+use Rattle.model.specs.Numbers.{headerWords, pageWords}
 use Rattle.model.specs.State.{State}
-use Rattle.model.specs.Perform.{headerWords, wordsFor, pageWords}
+use Rattle.model.specs.Perform.{wordsFor}
 use Rattle.header.specs.Encoding.{pagesIn, spareIn, listsIn, isHeader}
 use Rattle.pages.specs.Decoding.{segmentsOf}
 use Rattle.pages.specs.Legal.{legalSegments}

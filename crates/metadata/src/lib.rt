@@ -12,6 +12,7 @@ ghost use Rattle.header.specs.Keys.{keysOf};
 ghost use Rattle.header.specs.Encoding.{spareIn, listsIn, Header};
 ghost use Rattle.metadata.specs.Lists.{zoneFits, segmentFits, isOpen, fitFrom};
 ghost use Rattle.metadata.specs.Decoding.{isState};
+ghost use Rattle.model.specs.Numbers.{mostPages};
 use header::WORDS as HEADER;
 use pages::PAGE;
 use zone::layout::KIND_ZONE;
@@ -20,7 +21,7 @@ use zone::layout::WORDS as ZONE_WORDS;
 // Whether the zone at the page stands where it should: a zone with a chunk not live is on its class's list, or on the empty list
 // and idle.
 fn zone_fits(head: &[u32], part: &[u32], page: u32) -> bool
-    requires { ⌜ Header (now head) × (isZone (now part) ≡ true) × (page < 256) ⌝ }
+    requires { ⌜ Header (now head) × (isZone (now part) ≡ true) × (page < mostPages) ⌝ }
     ensures { λ r. ⌜ r ≡ zoneFits (spareIn (now (head .entry))) (listsIn (now (head .entry))) page (zoneOf (now (part .entry))) ⌝ }
 {
     if zone::is_full(part) {

@@ -9,8 +9,9 @@ use native.Mathlib.Nat.{mul-mod-left, mod-self, dvd-zero, dvd-mul-left-of-dvd, d
 use lib.Dec.{ltb}
 use borrow.Author.Tests.{ltb-false, lt-ltb, le-ltb}
 use Rattle.lemmas.proofs.Cases.{bool, either}
+use Rattle.model.specs.Numbers.{pageBytes, largeSize}
 use Rattle.model.specs.declared.Answer.the-variants.{Granted}
-use Rattle.model.specs.Sizes.{pageBytes, largeSize, step, rounded, classOf, room, pagesFor, roomFor}
+use Rattle.model.specs.Sizes.{step, rounded, classOf, room, pagesFor, roomFor}
 use Rattle.model.specs.Arena.{Segment, pages, bytes}
 use Rattle.model.specs.State.{State}
 use Rattle.model.specs.PageMap.{Occupancy, PageMap, pageMap, Block, whole, chunk, roomOf, blockIn, blockAt}

@@ -11,6 +11,7 @@ use lib.Dec.{ltb, leb, eqb}
 use lib.ListN.{length, getD, set}
 use borrow.Author.Tests.{ltb-true, ltb-false, leb-true, ne-eqb}
 use Rattle.lemmas.proofs.Cases.{bool, either, and-left, and-right}
+use Rattle.model.specs.Numbers.{mostGroup, classCount, mostBytes}
 use Rattle.model.specs.declared.Refusal.{Refusal}
 use Rattle.model.specs.declared.Refusal.the-variants.{BadGroup, BadSize, NoRoom}
 use Rattle.model.specs.declared.Answer.{Answer}
@@ -39,13 +40,13 @@ pub data Allocated (s : State) (g r : ℕ) (R : Outcome State) : Type 0 where
 
 -- A group that may call.
 pub group-least : (g : ℕ) → groupOk g ≡ true → 0 < g
-group-least g t = leb-true 1 g (and-left (leb 1 g) (leb g 12) t)
+group-least g t = leb-true 1 g (and-left (leb 1 g) (leb g mostGroup) t)
 
-pub group-most : (g : ℕ) → groupOk g ≡ true → g ≤ 12
-group-most g t = leb-true g 12 (and-right (leb 1 g) (leb g 12) t)
+pub group-most : (g : ℕ) → groupOk g ≡ true → g ≤ mostGroup
+group-most g t = leb-true g mostGroup (and-right (leb 1 g) (leb g mostGroup) t)
 
 pub size-least : (n : ℕ) → sizeOk n ≡ true → 0 < n
-size-least n t = leb-true 1 n (and-left (leb 1 n) (leb n 1048576) t)
+size-least n t = leb-true 1 n (and-left (leb 1 n) (leb n mostBytes) t)
 
 live-chunk : (c i g : ℕ) → 0 < g → chunkOf c i g ≡ some (chunk c i g)
 live-chunk c i zero h = absurd (omega arith)
@@ -56,7 +57,7 @@ allZero-padded zero = refl
 allZero-padded (suc n) = allZero-padded n
 
 -- A zone just set up holds one block, its chunk 0.
-new-first : (c g : ℕ) → c < 64 → 0 < g → blockIn 0 (zone (occupancy (newZone c g))) ≡ some (chunk c 0 g)
+new-first : (c g : ℕ) → c < classCount → 0 < g → blockIn 0 (zone (occupancy (newZone c g))) ≡ some (chunk c 0 g)
 new-first c g h p = ap (λ k. blockIn k (zone (occupancy (newZone c g)))) (sym (zero-mul (room c))) ∙ blockIn-at c 0 (padded (chunks c) (g ∷ [])) ∙ ap (chunkOf c 0) (padded-in (chunks c) (g ∷ []) 0 (omega (arith, chunks-least c h))) ∙ live-chunk c 0 g p
 
 one-owner : (g j : ℕ) → (j ≡ 0 → ⊥) → getD (g ∷ []) j 0 ≡ getD [] j 0
@@ -85,7 +86,7 @@ module _ (s : State) where
       gives (h .page * 4096) (whole n g) refl (carve-fresh (pageMap s) h n p found) refl refl
       (rw (carve-retold occupancy h n (direct n g) (s .segments)) (carve-only (pageMap s) h n (direct n g) p found refl (direct-alone n g)))
 
-  module _ (c g : ℕ) (class : c < 64) (least : 0 < g) where
+  module _ (c g : ℕ) (class : c < classCount) (least : 0 < g) where
     zone-law : (h : Option FreeRun) → claim 8 (s .segments) ≡ h → Allocated s g (room c) (zoneFrom c g s h)
     zone-law none e = denies NoRoom refl refl
     zone-law (some h) e =
@@ -113,7 +114,7 @@ module _ (s : State) where
         (rw (edit-retold occupancy (p * 4096) (λ _. zone z′ ∷ []) (λ _. zone (occupancy z′) ∷ []) (λ _. refl) (s .segments), ← new)
         (chunk-only (p * 4096) (λ _. zone (occupancy z′) ∷ []) (pageMap s) 0 c i (padded (chunks c) (z .owners)) (padded (chunks c) (z′ .owners)) there (ap (λ y. zone y ∷ []) (shown-zone c z′ (G .same-class ∙ k))) (chunk-begins c i inside) (padded-other (chunks c) (z .owners) (z′ .owners) i (G .others)) (p * 4096) (omega arith)))
 
-    chunk-law : Valid s → g ≤ 12 → (l : List ℕ) → listOf s c ≡ l → Allocated s g (room c) (chunkFrom c g s l)
+    chunk-law : Valid s → g ≤ mostGroup → (l : List ℕ) → listOf s c ≡ l → Allocated s g (room c) (chunkFrom c g s l)
     chunk-law v most [] e = spare-law v (s .spare) refl
     chunk-law v most (p ∷ ps) e =
         let f = v .listed c p (subst (List·Memᴰ p) (sym e) (List·Memᴰ·head refl)) in

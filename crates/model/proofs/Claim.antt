@@ -10,6 +10,7 @@ use native.Mathlib.Omega.{arith}
 use lib.Dec.{ltb, leb}
 use borrow.Author.Tests.{ltb-true, ltb-false, leb-true, leb-false, lt-ltb, le-ltb}
 use Rattle.lemmas.proofs.Cases.{bool, true-false, some-inj}
+use Rattle.model.specs.Numbers.{zonePages}
 use Rattle.model.specs.Arena.{Segment, run, direct, zone, pages, bytes, total, retold, Place, locate, edit, Each}
 use Rattle.model.specs.State.{Begins}
 use Rattle.model.specs.Pages.{FreeRun, firstFit, claim}
@@ -34,7 +35,7 @@ module _ {Z : Type 0} where
   firstFit-found p n [] h pos e = absurd (Option·none-ne-some h e)
   firstFit-found p n (run k ∷ r) h pos e = bool (leb n k) (λ t. subst (Found p n (run k ∷ r)) (some-inj (rw t at e)) (record { skip = 0; page-is = omega arith; run-there = rw (lt-ltb 0 (k * 4096) (omega (arith, leb-true n k t))); enough = leb-true n k t })) (λ t. found-later p n (run k) r h (firstFit-found (p + k) n r h pos (rw t at e)))
   firstFit-found p n (direct k g ∷ r) h pos e = found-later p n (direct k g) r h (firstFit-found (p + k) n r h pos e)
-  firstFit-found p n (zone z ∷ r) h pos e = found-later p n (zone z) r h (firstFit-found (p + 8) n r h pos e)
+  firstFit-found p n (zone z ∷ r) h pos e = found-later p n (zone z) r h (firstFit-found (p + zonePages) n r h pos e)
 
   -- Found: a run begins there and is long enough.
   pub claim-found : (n : ℕ) (m : List (Segment Z)) (h : FreeRun) → 0 < n → claim n m ≡ some h → (locate (h .page * 4096) m ≡ some (record { away = 0; segment = run (h .size) })) × (n ≤ h .size)
@@ -58,7 +59,7 @@ module _ {Z : Type 0} where
       go : (_≡_ {A = Segment Z} (run k) (direct j g)) ⊎ List·Memᴰ (run k) r → ((q : ℕ) → List·Memᴰ (run q) r → n ≤ q → ⊥) → ⊥
       go (inl q) f = let x : _≡_ {A = ℕ} 0 1 = cc in omega arith
       go (inr q) f = f k q h
-  firstFit-none p n (zone z ∷ r) e k i h = go (List·Memᴰ·cases-cons i) (firstFit-none (p + 8) n r e)
+  firstFit-none p n (zone z ∷ r) e k i h = go (List·Memᴰ·cases-cons i) (firstFit-none (p + zonePages) n r e)
     where
       go : (_≡_ {A = Segment Z} (run k) (zone z)) ⊎ List·Memᴰ (run k) r → ((q : ℕ) → List·Memᴰ (run q) r → n ≤ q → ⊥) → ⊥
       go (inl q) f = let x : _≡_ {A = ℕ} 0 1 = cc in omega arith
@@ -74,7 +75,7 @@ module _ {A B : Type 0} (f : A → B) where
   firstFit-retold p n [] = refl
   firstFit-retold p n (run k ∷ r) = bool (leb n k) (λ t. rw t) (λ t. rw t (firstFit-retold (p + k) n r))
   firstFit-retold p n (direct k g ∷ r) = firstFit-retold (p + k) n r
-  firstFit-retold p n (zone z ∷ r) = firstFit-retold (p + 8) n r
+  firstFit-retold p n (zone z ∷ r) = firstFit-retold (p + zonePages) n r
 
   -- The search does not look inside zones.
   pub claim-retold : (n : ℕ) (m : List (Segment A)) → claim n (map (retold f) m) ≡ claim n m

@@ -11,6 +11,7 @@ use lib.ListN.{length, getD, set, List·getD-eq-default}
 use lib.Seq.{getD-set-other}
 use borrow.Author.Tests.{ltb-true, ltb-false, eqb-true, eqb-false}
 use Rattle.lemmas.proofs.Cases.{bool, either, true-false, and-left, some-inj}
+use Rattle.model.specs.Numbers.{mostSpare}
 use Rattle.model.specs.Sizes.{room, chunks}
 use Rattle.model.specs.Arena.{Segment, run, direct, zone, pages, bytes, total, retold, Place, locate, edit, Each}
 use Rattle.model.specs.Zone.{Zone, full, putBack}
@@ -90,7 +91,7 @@ chunk-at s o c i g e =
 -- What becomes of the zone and the lists does not touch the blocks.
 settled-still : (c p : ℕ) (l : List ℕ) (z : Zone) (s : State) → ZoneAt (s .segments) p z → Still (pageMap s) (pageMap (settled c p l z s))
 settled-still c p l z s there = either P (idleZone z && ltb 1 (length l)) _ _
-    (λ t. either P (ltb (length (s .spare)) 2) _ _ (λ _. same)
+    (λ t. either P (ltb (length (s .spare)) mostSpare) _ _ (λ _. same)
     (λ _. rw (release-retold occupancy (p * 4096) (s .segments)) (release-still (p * 4096) (pageMap s) 0 (occupancy z) (locate-retold occupancy (p * 4096) (s .segments) ∙ ap (retoldPlace occupancy) there) (and-left (idleZone z) (ltb 1 (length l)) t))))
     (λ _. same)
   where

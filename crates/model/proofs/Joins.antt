@@ -10,6 +10,7 @@ use native.Mathlib.Omega.{arith}
 use lib.Dec.{ltb, leb}
 use borrow.Author.Tests.{ltb-true, ltb-false, leb-true, leb-false, lt-ltb, le-ltb}
 use Rattle.lemmas.proofs.Cases.{bool, true-false, some-inj}
+use Rattle.model.specs.Numbers.{zonePages}
 use Rattle.model.specs.Arena.{Segment, run, direct, zone, pages, bytes, total, retold, Place, locate, edit, Each}
 use Rattle.model.specs.State.{Begins}
 use Rattle.model.specs.Valid.{Apart}
@@ -46,7 +47,7 @@ module _ {Z : Type 0} where
       joined-see n (run k ∷ r) o = joined-see (n + k) r o ∙ absorb n (run k) r (λ d. runs d k) o
       joined-see n (direct k g ∷ r) o = withRun-see n (direct k g ∷ joined idle 0 r) o ∙ past n (direct k g) (joined idle 0 r) r (joined-see 0 r) o
       joined-see n (zone z ∷ r) o = bool (idle z)
-          (λ t. rw t (joined-see (n + 8) r o ∙ absorb n (zone z) r (λ d. idles d z t) o))
+          (λ t. rw t (joined-see (n + zonePages) r o ∙ absorb n (zone z) r (λ d. idles d z t) o))
           (λ t. rw t (withRun-see n (zone z ∷ joined idle 0 r) o ∙ past n (zone z) (joined idle 0 r) r (joined-see 0 r) o))
 
   pub total-withRun : (n : ℕ) (r : List (Segment Z)) → total (withRun n r) ≡ n + total r
@@ -57,7 +58,7 @@ module _ {Z : Type 0} where
   total-joined idle n [] = total-withRun n []
   total-joined idle n (run k ∷ r) = omega (arith, total-joined idle (n + k) r)
   total-joined idle n (direct k g ∷ r) = omega (arith, total-withRun n (direct k g ∷ joined idle 0 r), total-joined idle 0 r)
-  total-joined idle n (zone z ∷ r) = bool (idle z) (λ t. rw t (omega (arith, total-joined idle (n + 8) r))) (λ t. rw t (omega (arith, total-withRun n (zone z ∷ joined idle 0 r), total-joined idle 0 r)))
+  total-joined idle n (zone z ∷ r) = bool (idle z) (λ t. rw t (omega (arith, total-joined idle (n + zonePages) r))) (λ t. rw t (omega (arith, total-withRun n (zone z ∷ joined idle 0 r), total-joined idle 0 r)))
 
   -- of a segment and free pages, a zone is only the segment
   pub cut-zone : (x : Segment Z) (k d : ℕ) (z : Z) → locate d (x ∷ withRun k []) ≡ some (record { away = 0; segment = zone z }) → (d ≡ 0) × (x ≡ zone z)
@@ -109,7 +110,7 @@ module _ {Z : Type 0} where
   not-freed f n [] = not-freed-run f n [] tt
   not-freed f n (run k ∷ r) = not-freed f (n + k) r
   not-freed f n (direct k g ∷ r) = not-freed-run f n (direct k g ∷ joined f 0 r) (tt, not-freed f 0 r)
-  not-freed f n (zone z ∷ r) = bool (f z) (λ t. rw t (not-freed f (n + 8) r)) (λ t. rw t (not-freed-run f n (zone z ∷ joined f 0 r) (t, not-freed f 0 r)))
+  not-freed f n (zone z ∷ r) = bool (f z) (λ t. rw t (not-freed f (n + zonePages) r)) (λ t. rw t (not-freed-run f n (zone z ∷ joined f 0 r) (t, not-freed f 0 r)))
 
   apart-weaken : (m : List (Segment Z)) → Apart true m → Apart false m
   apart-weaken [] h = tt
@@ -125,7 +126,7 @@ module _ {Z : Type 0} where
   joined-apart f n [] = apart-run n [] tt
   joined-apart f n (run k ∷ r) = joined-apart f (n + k) r
   joined-apart f n (direct k g ∷ r) = apart-run n (direct k g ∷ joined f 0 r) (joined-apart f 0 r)
-  joined-apart f n (zone z ∷ r) = bool (f z) (λ t. rw t (joined-apart f (n + 8) r)) (λ t. rw t (apart-run n (zone z ∷ joined f 0 r) (joined-apart f 0 r)))
+  joined-apart f n (zone z ∷ r) = bool (f z) (λ t. rw t (joined-apart f (n + zonePages) r)) (λ t. rw t (apart-run n (zone z ∷ joined f 0 r) (joined-apart f 0 r)))
 
   pub edit-apart : (b : Bool) (o : ℕ) (f : Segment Z → List (Segment Z)) (m : List (Segment Z)) (pl : Place Z) → locate o m ≡ some pl → ((c : Bool) (r : List (Segment Z)) → Apart c (pl .segment ∷ r) → Apart c (f (pl .segment) ++ r)) → Apart b m → Apart b (edit o f m)
   edit-apart b o f [] pl e k h = tt
@@ -150,7 +151,7 @@ module _ {Z : Type 0} where
   each-joined P h f n [] k = each-run P h n [] tt
   each-joined P h f n (run j ∷ r) k = each-joined P h f (n + j) r (k .1)
   each-joined P h f n (direct j g ∷ r) k = each-run P h n (direct j g ∷ joined f 0 r) (k .0, each-joined P h f 0 r (k .1))
-  each-joined P h f n (zone z ∷ r) k = bool (f z) (λ t. rw t (each-joined P h f (n + 8) r (k .1))) (λ t. rw t (each-run P h n (zone z ∷ joined f 0 r) (k .0, each-joined P h f 0 r (k .1))))
+  each-joined P h f n (zone z ∷ r) k = bool (f z) (λ t. rw t (each-joined P h f (n + zonePages) r (k .1))) (λ t. rw t (each-run P h n (zone z ∷ joined f 0 r) (k .0, each-joined P h f 0 r (k .1))))
 
 module _ {A B : Type 0} (f : A → B) where
   pub withRun-retold : (n : ℕ) (m : List (Segment A)) → map (retold f) (withRun n m) ≡ withRun n (map (retold f) m)
@@ -161,7 +162,7 @@ module _ {A B : Type 0} (f : A → B) where
   joined-retold ia ib e n [] = withRun-retold n []
   joined-retold ia ib e n (run k ∷ r) = joined-retold ia ib e (n + k) r
   joined-retold ia ib e n (direct k g ∷ r) = withRun-retold n (direct k g ∷ joined ia 0 r) ∙ ap (λ l. withRun n (direct k g ∷ l)) (joined-retold ia ib e 0 r)
-  joined-retold ia ib e n (zone z ∷ r) = rw (e z) (bool (ia z) (λ t. rw t (joined-retold ia ib e (n + 8) r)) (λ t. rw t (withRun-retold n (zone z ∷ joined ia 0 r) ∙ ap (λ l. withRun n (zone (f z) ∷ l)) (joined-retold ia ib e 0 r))))
+  joined-retold ia ib e n (zone z ∷ r) = rw (e z) (bool (ia z) (λ t. rw t (joined-retold ia ib e (n + zonePages) r)) (λ t. rw t (withRun-retold n (zone z ∷ joined ia 0 r) ∙ ap (λ l. withRun n (zone (f z) ∷ l)) (joined-retold ia ib e 0 r))))
 
   pub carve-retold : (h : FreeRun) (n : ℕ) (x : Segment A) (m : List (Segment A)) → map (retold f) (carve h n x m) ≡ carve h n (retold f x) (map (retold f) m)
   carve-retold h n x m = edit-retold f (h .page * 4096) (λ _. x ∷ withRun (h .size - n) []) (λ _. retold f x ∷ withRun (h .size - n) []) (λ _. ap (λ l. retold f x ∷ l) (withRun-retold (h .size - n) [])) m

@@ -13,6 +13,7 @@ use lib.Seq.{getD-set-same, getD-set-other}
 use borrow.Author.Tests.{ltb-true, ltb-false, leb-true, eqb-true, eqb-false}
 use Rattle.lemmas.specs.Times.{Distinct}
 use Rattle.lemmas.proofs.Cases.{bool, either, true-false, and-left, and-right, some-inj}
+use Rattle.model.specs.Numbers.{classCount}
 use Rattle.model.specs.Sizes.{room, classOf, chunks, pagesFor}
 use Rattle.model.specs.Arena.{Segment, run, direct, zone, pages, total, Place, locate, edit, Each}
 use Rattle.model.specs.Zone.{Zone, full, newZone, nextChunk, granted, putBack}
@@ -125,14 +126,14 @@ rearranged s m c p l sp h v = record {
   not-both = λ k q i j. apart-case k q j (in-set (s .lists) c k q l i);
 }
   where
-    class-of : (q : ℕ) (y : Zone) → ZoneAt m q y → y .class < 64
+    class-of : (q : ℕ) (y : Zone) → ZoneAt m q y → y .class < classCount
     class-of q y b = let k : ValidZone y = each-locate ValidSegment m (q * 4096) (record { away = 0; segment = zone y }) (v .sound) b in k .class
 
-    comp-here : (y : Zone) → y .class < 64 → ((y .class ≡ c) × List·Memᴰ p l) ⊎ List·Memᴰ p sp → List·Memᴰ p (getD (set (s .lists) c l) (y .class) []) ⊎ List·Memᴰ p sp
+    comp-here : (y : Zone) → y .class < classCount → ((y .class ≡ c) × List·Memᴰ p l) ⊎ List·Memᴰ p sp → List·Memᴰ p (getD (set (s .lists) c l) (y .class) []) ⊎ List·Memᴰ p sp
     comp-here y u (inl a) = inl (subst (λ k. List·Memᴰ p (getD (set (s .lists) c l) k [])) (sym (a .0)) (in-here (s .lists) c p l (omega (arith, h .classes, a .0)) (a .1)))
     comp-here y u (inr a) = inr a
 
-    comp-old : (q : ℕ) (y : Zone) → (q ≡ p → ⊥) → y .class < 64 → List·Memᴰ q (listOf s (y .class)) ⊎ List·Memᴰ q (s .spare) → List·Memᴰ q (getD (set (s .lists) c l) (y .class) []) ⊎ List·Memᴰ q sp
+    comp-old : (q : ℕ) (y : Zone) → (q ≡ p → ⊥) → y .class < classCount → List·Memᴰ q (listOf s (y .class)) ⊎ List·Memᴰ q (s .spare) → List·Memᴰ q (getD (set (s .lists) c l) (y .class) []) ⊎ List·Memᴰ q sp
     comp-old q y ne u (inl a) = inl (by-eq (y .class) c
         (λ e. subst (λ k. List·Memᴰ q (getD (set (s .lists) c l) k [])) (sym e) (in-here (s .lists) c q l (omega (arith, h .classes, e)) (v .list-kept q ne (subst (λ k. List·Memᴰ q (listOf s k)) e a))))
         (λ nc. in-other (s .lists) c (y .class) q l nc a))

@@ -8,6 +8,7 @@ use native.Mathlib.Nat.{div-add-mod', mod-lt, mul-div-cancel, div-mul-le-self, m
 use lib.Dec.{ltb}
 use borrow.Author.Tests.{ltb-true, ltb-false, lt-ltb, le-ltb}
 use Rattle.lemmas.proofs.Cases.{bool}
+use Rattle.model.specs.Numbers.{classCount}
 use Rattle.model.specs.Sizes.{step, rounded, classOf, room, chunks, pagesFor}
 
 -- A claim about a choice by a test, from its two sides.
@@ -26,7 +27,7 @@ room-rows P c k8 k16 k32 k64 k128 k256 k512 = by-row P c 16 _ _ k8 λ l. by-row 
 pub room-pos : (c : ℕ) → 0 < room c
 room-pos c = room-rows (λ v. 0 < v) c (λ l. omega arith) (λ l u. omega arith) (λ l u. omega arith) (λ l u. omega arith) (λ l u. omega arith) (λ l u. omega arith) (λ l. omega arith)
 
-pub room-most : (c : ℕ) → c < 64 → room c ≤ 8192
+pub room-most : (c : ℕ) → c < classCount → room c ≤ 8192
 room-most c h = room-rows (λ v. v ≤ 8192) c (λ l. omega arith) (λ l u. omega arith) (λ l u. omega arith) (λ l u. omega arith) (λ l u. omega arith) (λ l u. omega arith) (λ l. omega arith)
 
 -- What holds of the seven steps holds of the step of every size.
@@ -63,7 +64,7 @@ steps-between n s a b p l u =
 
 -- The room of a size's class is the rounded size, which is the size or less than a step above it; the class is below 64.
 pub record Classed (n : ℕ) : Type 0 where
-  pub below : classOf n < 64
+  pub below : classOf n < classCount
   pub room-class : room (classOf n) ≡ rounded n
   pub enough : n ≤ rounded n
   pub tight : rounded n < n + step n
@@ -102,6 +103,6 @@ pub chunk-begins : (c i : ℕ) → i < chunks c → i * room c < 32768
 chunk-begins c i h = omega (arith, room-pos c, chunk-inside c i h)
 
 -- A zone has at least four chunks.
-pub chunks-least : (c : ℕ) → c < 64 → 4 ≤ chunks c
+pub chunks-least : (c : ℕ) → c < classCount → 4 ≤ chunks c
 unfolding chunks
 chunks-least c h = (le-div-iff-mul-le (room-pos c)) .1 (omega (arith, room-most c h))

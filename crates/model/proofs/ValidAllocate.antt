@@ -11,6 +11,7 @@ use lib.ListN.{length, getD, set}
 use borrow.Author.Tests.{ltb-true, ltb-false, leb-true}
 use Rattle.lemmas.specs.Times.{Distinct}
 use Rattle.lemmas.proofs.Cases.{bool, either}
+use Rattle.model.specs.Numbers.{mostGroup, classCount}
 use Rattle.model.specs.Sizes.{classOf, pagesFor}
 use Rattle.model.specs.Arena.{Segment, run, direct, zone, pages, total, locate, edit, Each}
 use Rattle.model.specs.Zone.{Zone, full, newZone, nextChunk, granted}
@@ -72,7 +73,7 @@ module _ (m : List (Segment Zone)) (n : ℕ) (x : Segment Zone) (h : FreeRun) (p
   carved-apart k ok = edit-apart false (h .page * 4096) (λ _. x ∷ withRun (h .size - n) []) m (record { away = 0; segment = run (h .size) }) there
       (λ c r a. k c (withRun (h .size - n) [] ++ r) (rw (run-append (h .size - n) r) (apart-run (h .size - n) r (a .2)))) ok
 
-module _ (s : State) (h : Valid s) (g : ℕ) (least : 0 < g) (most : g ≤ 12) where
+module _ (s : State) (h : Valid s) (g : ℕ) (least : 0 < g) (most : g ≤ mostGroup) where
   direct-valid : (n : ℕ) → 0 < n → (o : Option FreeRun) → claim n (s .segments) ≡ o → Valid ((directFrom n g s o) .after)
   direct-valid n pos none e = h
   direct-valid n pos (some o) e = same-zones s (carve o n (direct n g) (s .segments)) h (record {
@@ -87,7 +88,7 @@ module _ (s : State) (h : Valid s) (g : ℕ) (least : 0 < g) (most : g ≤ 12) w
       go q y (inl a) = a
       go q y (inr a) = absurd (let u = a .1 in let w : _≡_ {A = ℕ} 0 1 = cc in omega arith)
 
-  module _ (c : ℕ) (class : c < 64) where
+  module _ (c : ℕ) (class : c < classCount) where
     -- A new zone at page p, where no zone was or an idle one, is the only one on its class's list.
     zone-valid : listOf s c ≡ [] → (o : Option FreeRun) → claim 8 (s .segments) ≡ o → Valid ((zoneFrom c g s o) .after)
     zone-valid el none e = h

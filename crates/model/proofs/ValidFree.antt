@@ -12,6 +12,7 @@ use borrow.Author.Tests.{ltb-true, ltb-false}
 use Rattle.lemmas.specs.Times.{Distinct, remove}
 use Rattle.lemmas.proofs.Cases.{bool, either, true-false, and-left, some-inj}
 use Rattle.lemmas.proofs.Distinct.{remove-in, remove-keeps, remove-gone, remove-distinct}
+use Rattle.model.specs.Numbers.{mostSpare}
 use Rattle.model.specs.Sizes.{room, chunks}
 use Rattle.model.specs.Arena.{Segment, run, direct, zone, pages, total, locate, edit, Each}
 use Rattle.model.specs.Zone.{Zone, full, putBack}
@@ -192,7 +193,7 @@ module _ (s : State) (h : Valid s) (o c i g : ℕ) (C : ChunkAt s o c i g) where
 
   pub chunkBack-valid : Valid (chunkBack c i p z s)
   chunkBack-valid = either Valid (idleZone z′ && ltb 1 (length relisted)) _ _
-      (λ t. either Valid (ltb (length (s .spare)) 2) _ _
+      (λ t. either Valid (ltb (length (s .spare)) mostSpare) _ _
       (λ u. rearranged s chained c p (remove p relisted) (p ∷ s .spare) h (retires (and-left (idleZone z′) (ltb 1 (length relisted)) t) (ltb-true (length (s .spare)) 2 u)))
       (λ _. rearranged s (release (p * 4096) chained) c p (remove p relisted) (s .spare) h returns))
       (λ _. stays-valid)

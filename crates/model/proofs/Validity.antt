@@ -10,6 +10,7 @@ use lib.ListN.{length, getD, replicate, length-replicate, getD-replicate, List·
 use borrow.Author.Tests.{ltb-true, ltb-false, leb-true}
 use Rattle.lemmas.specs.Times.{Distinct}
 use Rattle.lemmas.proofs.Cases.{bool, true-false, and-left, and-right, some-inj}
+use Rattle.model.specs.Numbers.{classCount, mostPages}
 use Rattle.model.specs.declared.Refusal.{Refusal}
 use Rattle.model.specs.declared.Operation.{Operation}
 use Rattle.model.specs.declared.Operation.the-variants.{Allocate, Free, Reset}
@@ -37,24 +38,24 @@ fresh-list : (n c : ℕ) → getD {A = List ℕ} (replicate n []) c [] ≡ []
 fresh-list n c = bool (ltb c n) (λ t. getD-replicate n c [] [] (ltb-true c n t)) (λ t. List·getD-eq-default (replicate n []) [] {n = c} (omega (arith, ltb-false c n t, length-replicate {A = List ℕ} n [])))
 
 -- A state of valid segments with no zone among them and nothing on its lists is valid.
-pub bare-valid : (m : List (Segment Zone)) → 0 < total m → total m ≤ 256 → Apart false m → Each ValidSegment m
-    → ((p : ℕ) (z : Zone) → ZoneAt m p z → ⊥) → Valid (record { segments = m; lists = replicate 64 []; spare = [] })
+pub bare-valid : (m : List (Segment Zone)) → 0 < total m → total m ≤ mostPages → Apart false m → Each ValidSegment m
+    → ((p : ℕ) (z : Zone) → ZoneAt m p z → ⊥) → Valid (record { segments = m; lists = replicate classCount []; spare = [] })
 bare-valid m least most apart sound bare = record {
   least = least;
   most = most;
   apart = apart;
   sound = sound;
-  classes = length-replicate {A = List ℕ} 64 [];
-  listed = λ c p i. absurd (List·Memᴰ·not-nil (subst (List·Memᴰ p) (fresh-list 64 c) i));
+  classes = length-replicate {A = List ℕ} classCount [];
+  listed = λ c p i. absurd (List·Memᴰ·not-nil (subst (List·Memᴰ p) (fresh-list classCount c) i));
   complete = λ p z b f. absurd (bare p z b);
   few = omega arith;
   spared = λ p i. absurd (List·Memᴰ·not-nil i);
-  once = λ c. subst (λ l. Distinct l) (sym (fresh-list 64 c)) tt;
+  once = λ c. subst (λ l. Distinct l) (sym (fresh-list classCount c)) tt;
   once-spare = tt;
   not-both = λ c p i j. List·Memᴰ·not-nil j;
 }
 
-pub fresh-valid : (n : ℕ) → 0 < n → n ≤ 256 → Valid (freshState n)
+pub fresh-valid : (n : ℕ) → 0 < n → n ≤ mostPages → Valid (freshState n)
 fresh-valid n least most = bare-valid (run n ∷ []) (omega arith) (omega arith) (refl, least, tt) (tt, tt)
     (λ p z b. let u : run n ≡ zone z = cut-zone (run n) 0 (p * 4096) z b .1 in let v : _≡_ {A = ℕ} 0 1 = cc in omega arith)
 
@@ -80,8 +81,8 @@ Holds none = Unit {0}
 Holds (some s) = Valid s
 
 init-valid : (m : Metadata) (n : ℕ) → Holds (m .state) → Holds ((initialise m n) .after .state)
-init-valid m n h = bool (leb 1 n && leb n 256)
-    (λ t. rw t (bool (leb (wordsFor n) (m .words)) (λ u. rw u (fresh-valid n (leb-true 1 n (and-left (leb 1 n) (leb n 256) t)) (leb-true n 256 (and-right (leb 1 n) (leb n 256) t)))) (λ u. rw u h)))
+init-valid m n h = bool (leb 1 n && leb n mostPages)
+    (λ t. rw t (bool (leb (wordsFor n) (m .words)) (λ u. rw u (fresh-valid n (leb-true 1 n (and-left (leb 1 n) (leb n mostPages) t)) (leb-true n mostPages (and-right (leb 1 n) (leb n mostPages) t)))) (λ u. rw u h)))
     (λ t. rw t h)
 
 pub perform-valid : (m : Metadata) (c : Command) → Holds (m .state) → Holds ((perform m c) .after .state)
@@ -129,7 +130,7 @@ serve-leaves s h (listing n) = λ _. listing-same n s
 
 -- A refused call leaves the lent words' number and state.
 pub perform-leaves : (m : Metadata) (c : Command) → Holds (m .state) → isRefused ((perform m c) .answer) ≡ true → (perform m c) .after ≡ m
-perform-leaves m (init n) h = guarded (leb 1 n && leb n 256) _ m _ (guarded (leb (wordsFor n) (m .words)) _ m _ (λ t. absurd (true-false t refl)))
+perform-leaves m (init n) h = guarded (leb 1 n && leb n mostPages) _ m _ (guarded (leb (wordsFor n) (m .words)) _ m _ (λ t. absurd (true-false t refl)))
 perform-leaves m (act a) h = go (m .state) refl h
   where
     go : (x : Option State) → m .state ≡ x → Holds x → Leaves m (onState m a x)

@@ -14,6 +14,7 @@ use borrow.Author.Tests.{ltb-true, ltb-false, le-leb, lt-leb, eqb-true, eqb-fals
 use Rattle.lemmas.specs.Times.{times}
 use Rattle.lemmas.proofs.Cases.{bool, true-false, and-false}
 use Rattle.lemmas.proofs.Times.{times-nil, times-here, times-there}
+use Rattle.model.specs.Numbers.{mostGroup, classCount}
 use Rattle.model.specs.Sizes.{chunks}
 use Rattle.model.specs.Zone.{Zone, touched, hasUntouched, isNil, full, newZone, firstOf, nextChunk, unchained, granted, putBack}
 use Rattle.model.specs.Valid.{returnedAt, ValidZone}
@@ -76,10 +77,10 @@ returned-set-other (x ∷ l) (suc i) (suc j) v ne = returned-set-other l i j v (
 
 -- A zone just set up -------------------------------------------------------------------------------------------
 
-pub new-valid : (c g : ℕ) → c < 64 → 0 < g → g ≤ 12 → ValidZone (newZone c g)
+pub new-valid : (c g : ℕ) → c < classCount → 0 < g → g ≤ mostGroup → ValidZone (newZone c g)
 new-valid c g h p q = record { class = h; fits = omega (arith, chunks-least c h); groups = bound; chained = λ i. times-nil i ∙ sym (first g p i) }
   where
-    bound : (i : ℕ) → getD (g ∷ []) i 0 ≤ 12
+    bound : (i : ℕ) → getD (g ∷ []) i 0 ≤ mostGroup
     bound zero = q
     bound (suc i) = omega arith
 
@@ -88,7 +89,7 @@ new-valid c g h p q = record { class = h; fits = omega (arith, chunks-least c h)
     first (suc g) r zero = refl
     first (suc g) r (suc i) = refl
 
-pub new-open : (c g : ℕ) → c < 64 → full (newZone c g) ≡ false
+pub new-open : (c g : ℕ) → c < classCount → full (newZone c g) ≡ false
 new-open c g h = rw (lt-leb (chunks c) 1 (omega (arith, chunks-least c h)))
 
 -- A chunk is granted -------------------------------------------------------------------------------------------
@@ -102,7 +103,7 @@ pub record Grants (g i : ℕ) (z z′ : Zone) : Type 0 where
   pub others : (j : ℕ) → (j ≡ i → ⊥) → getD (z′ .owners) j 0 ≡ getD (z .owners) j 0
   pub stays-valid : ValidZone z′
 
-module _ (g : ℕ) (g-least : 0 < g) (g-most : g ≤ 12) (z : Zone) (v : ValidZone z) where
+module _ (g : ℕ) (g-least : 0 < g) (g-most : g ≤ mostGroup) (z : Zone) (v : ValidZone z) where
   -- An untouched one.
   grants-untouched : touched z < chunks (z .class) → Grants g (touched z) z (record { class = z .class; owners = z .owners ++ (g ∷ []); chain = z .chain })
   grants-untouched h = record {

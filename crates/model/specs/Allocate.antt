@@ -5,9 +5,10 @@ use mathlib.Core.Option.{Option, none, some}
 use mathlib.Core.Bool.{cond}
 use lib.Dec.{ltb}
 use lib.ListN.{set}
+use Rattle.model.specs.Numbers.{pageBytes, zonePages, largeSize}
 use Rattle.model.specs.declared.Refusal.the-variants.{BadGroup, BadSize, NoRoom}
 use Rattle.model.specs.declared.Answer.the-variants.{Granted}
-use Rattle.model.specs.Sizes.{pageBytes, zonePages, largeSize, room, classOf, pagesFor}
+use Rattle.model.specs.Sizes.{room, classOf, pagesFor}
 use Rattle.model.specs.Arena.{Segment, direct, zone}
 use Rattle.model.specs.Zone.{Zone, newZone, full, nextChunk, granted}
 use Rattle.model.specs.State.{State, listOf, arranged, zoneAt, putZone}

@@ -6,7 +6,7 @@ use mathlib.Core.List.{List, [], _∷_, _++_}
 use mathlib.Core.Option.{Option, none, some}
 use mathlib.Core.Bool.{cond}
 use lib.Dec.{ltb}
-use Rattle.model.specs.Sizes.{pageBytes, zonePages}
+use Rattle.model.specs.Numbers.{pageBytes, zonePages}
 
 -- A free run (pages), a direct block (pages, group), or a zone.
 pub data Segment (Z : Type 0) : Type 0 where

@@ -5,6 +5,7 @@ use mathlib.Core.List.{List, [], _∷_}
 use mathlib.Core.Option.{Option, none, some}
 use mathlib.Core.Bool.{Bool, true, false, _&&_}
 use lib.Dec.{leb}
+use Rattle.model.specs.Numbers.{mostGroup, mostBytes}
 use Rattle.model.specs.declared.Call.{Call}
 use Rattle.model.specs.declared.Refusal.{Refusal}
 use Rattle.model.specs.declared.Refusal.the-variants.{BadPages, FewWords, NoState, BadGroup, BadSize, NoRoom, NoBlock, OtherGroup, ShortBuffer}
@@ -66,10 +67,10 @@ grantOf (Block g r) = none
 
 -- Groups 1 to 12, and sizes that may be asked for.
 abbrev pub groupOk : ℕ → Bool
-groupOk g = leb 1 g && leb g 12
+groupOk g = leb 1 g && leb g mostGroup
 
 abbrev pub sizeOk : ℕ → Bool
-sizeOk n = leb 1 n && leb n 1048576
+sizeOk n = leb 1 n && leb n mostBytes
 
 -- What a call leaves, and what it answers.
 pub record Outcome (S : Type 0) : Type 0 where

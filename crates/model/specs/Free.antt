@@ -6,9 +6,10 @@ use mathlib.Core.Bool.{Bool, true, false, cond, _&&_}
 use lib.Dec.{ltb, eqb}
 use lib.ListN.{length, set}
 use Rattle.lemmas.specs.Times.{remove}
+use Rattle.model.specs.Numbers.{pageBytes, mostSpare}
 use Rattle.model.specs.declared.Refusal.the-variants.{BadGroup, NoBlock, OtherGroup}
 use Rattle.model.specs.declared.Answer.the-variants.{Done, Counted}
-use Rattle.model.specs.Sizes.{pageBytes, room}
+use Rattle.model.specs.Sizes.{room}
 use Rattle.model.specs.Arena.{Segment, run, direct, zone, bytes}
 use Rattle.model.specs.Zone.{Zone, full, putBack}
 use Rattle.model.specs.State.{State, listOf, arranged, zoneAt, putZone}
@@ -20,7 +21,7 @@ use Rattle.model.specs.Calls.{Outcome, answers, refuses, provided, group
 -- list; if that makes three, it is the front one that is given back to the runs.
 abbrev pub retired : ℕ → ℕ → List ℕ → State → State
 retired c p l s =
-    cond (ltb (length (s .spare)) 2) (arranged s (s .segments) (set (s .lists) c (remove p l)) (p ∷ s .spare))
+    cond (ltb (length (s .spare)) mostSpare) (arranged s (s .segments) (set (s .lists) c (remove p l)) (p ∷ s .spare))
     (arranged s (release (p * pageBytes) (s .segments)) (set (s .lists) c (remove p l)) (s .spare))
 
 -- A chunk of the zone z at page p came back, and z stands in the segments; l is now the list of its class c.

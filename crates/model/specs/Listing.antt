@@ -5,6 +5,7 @@ use Prim.Native.String.{String}
 use mathlib.Core.List.{List, [], _∷_, _++_}
 use lib.Dec.{leb}
 use lib.ListN.{length}
+use Rattle.model.specs.Numbers.{zonePages}
 use Rattle.model.specs.declared.Refusal.the-variants.{ShortBuffer}
 use Rattle.model.specs.declared.Answer.the-variants.{Counted}
 use Rattle.model.specs.Arena.{Segment, run, direct, zone, pages}
@@ -30,19 +31,19 @@ abbrev pub runLines : ℕ → PageMap → List (List ℕ)
 runLines p [] = []
 runLines p (run n ∷ r) = (p ∷ n ∷ []) ∷ runLines (p + n) r
 runLines p (direct n g ∷ r) = runLines (p + n) r
-runLines p (zone l ∷ r) = runLines (p + 8) r
+runLines p (zone l ∷ r) = runLines (p + zonePages) r
 
 abbrev pub directLines : ℕ → PageMap → List (List ℕ)
 directLines p [] = []
 directLines p (run n ∷ r) = directLines (p + n) r
 directLines p (direct n g ∷ r) = (p ∷ n ∷ g ∷ []) ∷ directLines (p + n) r
-directLines p (zone l ∷ r) = directLines (p + 8) r
+directLines p (zone l ∷ r) = directLines (p + zonePages) r
 
 abbrev pub zoneLines : ℕ → PageMap → List (List ℕ)
 zoneLines p [] = []
 zoneLines p (run n ∷ r) = zoneLines (p + n) r
 zoneLines p (direct n g ∷ r) = zoneLines (p + n) r
-zoneLines p (zone l ∷ r) = (p ∷ l .class ∷ liveCount (l .groups) ∷ []) ∷ zoneLines (p + 8) r
+zoneLines p (zone l ∷ r) = (p ∷ l .class ∷ liveCount (l .groups) ∷ []) ∷ zoneLines (p + zonePages) r
 
 unfoldable pub listingText : PageMap → List ℕ
 listingText m = section "runs" (runLines 0 m) ++ (section "direct" (directLines 0 m) ++ section "zones" (zoneLines 0 m))

@@ -5,7 +5,8 @@ use mathlib.Core.Option.{Option, none, some}
 use mathlib.Core.Bool.{Bool, true, false, cond}
 use lib.Dec.{eqb}
 use lib.ListN.{getD}
-use Rattle.model.specs.Sizes.{room, chunks, pageBytes}
+use Rattle.model.specs.Numbers.{pageBytes}
+use Rattle.model.specs.Sizes.{room, chunks}
 use Rattle.model.specs.Arena.{Segment, run, direct, zone, Place, locate, retold}
 use Rattle.model.specs.Zone.{Zone}
 use Rattle.model.specs.State.{State}

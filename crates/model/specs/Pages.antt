@@ -4,7 +4,7 @@ use mathlib.Core.List.{List, [], _∷_}
 use mathlib.Core.Option.{Option, none, some}
 use mathlib.Core.Bool.{Bool, true, false, cond}
 use lib.Dec.{leb}
-use Rattle.model.specs.Sizes.{pageBytes, zonePages}
+use Rattle.model.specs.Numbers.{pageBytes, zonePages}
 use Rattle.model.specs.Arena.{Segment, run, direct, zone, pages, edit}
 
 -- A free run: its first page and its pages.

@@ -4,6 +4,7 @@ use Prim.Native.Nat.{ℕ, _+_, _*_}
 use mathlib.Core.Option.{Option, none, some}
 use mathlib.Core.Bool.{Bool, true, false, _&&_}
 use lib.Dec.{leb}
+use Rattle.model.specs.Numbers.{mostPages, headerWords, pageWords}
 use Rattle.model.specs.declared.Operation.{Operation}
 use Rattle.model.specs.declared.Operation.the-variants.{Allocate, Free, Reset}
 use Rattle.model.specs.declared.Refusal.the-variants.{BadPages, FewWords, NoState}
@@ -35,12 +36,6 @@ pub record Metadata : Type 0 where
   pub state : Option State
 
 -- The words that an arena of n pages uses.
-abbrev pub headerWords : ℕ
-headerWords = 1024
-
-abbrev pub pageWords : ℕ
-pageWords = 520
-
 abbrev pub wordsFor : ℕ → ℕ
 wordsFor n = headerWords + pageWords * n
 
@@ -50,7 +45,7 @@ holding m s = record { words = m .words; state = some s }
 -- Init forgets what the words held. Refusals in document 01's order: 1, 2.
 abbrev pub initialise : Metadata → ℕ → Outcome Metadata
 initialise m n =
-    provided (leb 1 n && leb n 256) BadPages m
+    provided (leb 1 n && leb n mostPages) BadPages m
     (provided (leb (wordsFor n) (m .words)) FewWords m (answers (holding m (freshState n)) Done))
 
 -- Any other call: refusal 3 comes first.

@@ -3,19 +3,7 @@
 use Prim.Native.Nat.{ℕ, _+_, _-_, _*_, _/_}
 use mathlib.Core.Bool.{cond}
 use lib.Dec.{ltb}
-
--- The bytes of a page, the pages and bytes of a zone, and the size from which a request takes whole pages.
-abbrev pub pageBytes : ℕ
-pageBytes = 4096
-
-abbrev pub zonePages : ℕ
-zonePages = 8
-
-abbrev pub zoneBytes : ℕ
-zoneBytes = 32768
-
-abbrev pub largeSize : ℕ
-largeSize = 8192
+use Rattle.model.specs.Numbers.{pageBytes, zoneBytes, largeSize}
 
 -- The entry in the row of the size n of document 01's table, which has seven rows.
 abbrev pub row {ℓ} : {A : Type ℓ} → ℕ → A → A → A → A → A → A → A → A

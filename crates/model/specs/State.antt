@@ -6,7 +6,7 @@ use mathlib.Core.List.{List, [], _∷_}
 use mathlib.Core.Option.{Option, none, some}
 use mathlib.Core.Bool.{Bool, true, false}
 use lib.ListN.{getD, replicate}
-use Rattle.model.specs.Sizes.{pageBytes}
+use Rattle.model.specs.Numbers.{pageBytes, classCount}
 use Rattle.model.specs.Arena.{Segment, run, direct, zone, Place, locate, edit}
 use Rattle.model.specs.Zone.{Zone}
 
@@ -26,7 +26,7 @@ arranged s m ls sp = record { segments = m; lists = ls; spare = sp }
 
 -- The fresh state of n pages: one run, nothing else.
 abbrev pub freshState : ℕ → State
-freshState n = record { segments = run n ∷ []; lists = replicate 64 []; spare = [] }
+freshState n = record { segments = run n ∷ []; lists = replicate classCount []; spare = [] }
 
 -- The segment x begins at the byte q; the zone z begins at the page p.
 abbrev pub Begins : {Z : Type 0} → ℕ → List (Segment Z) → Segment Z → Type 0

@@ -8,6 +8,7 @@ use mathlib.Core.List.{List, [], _∷_, List·Memᴰ}
 use mathlib.Core.Bool.{Bool, true, false}
 use lib.ListN.{length, getD}
 use Rattle.lemmas.specs.Times.{times, Distinct}
+use Rattle.model.specs.Numbers.{mostGroup, classCount, mostPages, mostSpare}
 use Rattle.model.specs.Sizes.{chunks}
 use Rattle.model.specs.Arena.{Segment, run, direct, zone, total, Each}
 use Rattle.model.specs.Zone.{Zone, touched, full}
@@ -31,16 +32,16 @@ returnedAt (g ∷ r) (suc i) = returnedAt r i
 -- A valid zone.
 pub record ValidZone (z : Zone) : Type 0 where
   -- a class, and a count k of chunks handed out that is at most its chunk count
-  pub class : z .class < 64
+  pub class : z .class < classCount
   pub fits : touched z ≤ chunks (z .class)
   -- chunks below k are each live with a group 1 to 12, or once on the chain; nothing else stands on the chain
-  pub groups : (i : ℕ) → getD (z .owners) i 0 ≤ 12
+  pub groups : (i : ℕ) → getD (z .owners) i 0 ≤ mostGroup
   pub chained : (i : ℕ) → times i (z .chain) ≡ returnedAt (z .owners) i
 
 -- Direct blocks have at least one page and a group 1 to 12; zones are valid.
 abbrev pub ValidSegment : Segment Zone → Type 0
 ValidSegment (run n) = Unit {0}
-ValidSegment (direct n g) = (0 < n) × (0 < g) × (g ≤ 12)
+ValidSegment (direct n g) = (0 < n) × (0 < g) × (g ≤ mostGroup)
 ValidSegment (zone z) = ValidZone z
 
 -- A zone of class c that has a chunk not live begins at page p; an idle zone does.
@@ -54,19 +55,19 @@ IdleAt m p = (z : Zone) × ZoneAt m p z × (idleZone z ≡ true)
 pub record Valid (s : State) : Type 0 where
   -- N from 1 to 256
   pub least : 0 < total (s .segments)
-  pub most : total (s .segments) ≤ 256
+  pub most : total (s .segments) ≤ mostPages
   -- free runs in ascending order, no two overlapping or touching (that all is covered once is in the list's form)
   pub apart : Apart false (s .segments)
   -- direct blocks and zones
   pub sound : Each ValidSegment (s .segments)
   -- one list per class, ..
-  pub classes : length (s .lists) ≡ 64
+  pub classes : length (s .lists) ≡ classCount
   -- .. holding zones of that class that have a chunk not live, ..
   pub listed : (c p : ℕ) → List·Memᴰ p (listOf s c) → OpenAt (s .segments) c p
   -- .. and each of them, unless it is on the empty list
   pub complete : (p : ℕ) (z : Zone) → ZoneAt (s .segments) p z → full z ≡ false → List·Memᴰ p (listOf s (z .class)) ⊎ List·Memᴰ p (s .spare)
   -- the empty list holds at most 2 zones, none with a live chunk
-  pub few : length (s .spare) ≤ 2
+  pub few : length (s .spare) ≤ mostSpare
   pub spared : (p : ℕ) → List·Memᴰ p (s .spare) → IdleAt (s .segments) p
   -- no zone stands twice: not on a class's list, not on the empty list, not on both (two classes' lists differ by `listed`)
   pub once : (c : ℕ) → Distinct (listOf s c)

@@ -10,6 +10,7 @@ use lib.ListN.{length, getD, take, drop, length-append, length-drop}
 use lib.Seq.{take-add, take-at, drop-at, take-all, getD-take, take-take}
 use borrow.Author.Tests.{leb-true, le-leb, lt-leb, eqb-true, eqb-false, eq-eqb, ne-eqb, not-true}
 use Rattle.lemmas.proofs.Cases.{bool, true-false, and-left, and-right, and-both}
+use Rattle.model.specs.Numbers.{mostPages, pageWords}
 use Rattle.model.specs.Arena.{Segment, run, direct, zone, pages, total, Each}
 use Rattle.model.specs.Zone.{Zone}
 use Rattle.model.specs.Valid.{Apart}
@@ -47,14 +48,14 @@ cons-apart false (zone z) m h = (refl, h)
 
 -- The first word of words that begin with a segment.
 leads-kind : {n : ℕ} {w : List ℕ} {x : Segment Zone} → Leads n w x → eqb (getD w 0 0) 1 ≡ isRun x
-leads-kind {n} {w} {x} l = ap (λ k. eqb k 1) (sym (getD-take (520 * pages x) w 0 0 (omega (arith, l .ok .0))) ∙ ap (λ v. getD v 0 0) (l .words ∙ sym (nil (segmentEncoding x))) ∙ kind-is x []) ∙ run-kind x
+leads-kind {n} {w} {x} l = ap (λ k. eqb k 1) (sym (getD-take (pageWords * pages x) w 0 0 (omega (arith, l .ok .0))) ∙ ap (λ v. getD v 0 0) (l .words ∙ sym (nil (segmentEncoding x))) ∙ kind-is x []) ∙ run-kind x
   where
     nil : (v : List ℕ) → v ++ [] ≡ v
     nil [] = refl
     nil (y ∷ v) = ap (λ u. y ∷ u) (nil v)
 
-long-drop : (n k : ℕ) (w : List ℕ) → Long n w → k ≤ n → Long (n - k) (drop (520 * k) w)
-long-drop n k w l h = (omega (arith, l .0, length-drop (520 * k) w), omega (arith, l .1))
+long-drop : (n k : ℕ) (w : List ℕ) → Long n w → k ≤ n → Long (n - k) (drop (pageWords * k) w)
+long-drop n k w l h = (omega (arith, l .0, length-drop (pageWords * k) w), omega (arith, l .1))
 
 -- Words that pass are those of such segments.
 pub record Legal (n : ℕ) (b : Bool) (w : List ℕ) : Type 0 where
@@ -62,14 +63,14 @@ pub record Legal (n : ℕ) (b : Bool) (w : List ℕ) : Type 0 where
   pub sound : Each Writable segments
   pub apart : Apart b segments
   pub covers : total segments ≡ n
-  pub words : take (520 * n) w ≡ segmentsEncoding segments
+  pub words : take (pageWords * n) w ≡ segmentsEncoding segments
 
 pub legal-told : (f n : ℕ) (b : Bool) (w : List ℕ) → n ≤ f → Long n w → legalFrom f n b w ≡ true → Legal n b w
 unfolding legalFrom segmentsEncoding
-legal-told zero n b w h l t = record { segments = []; sound = tt; apart = tt; covers = sym (eqb-true n 0 t); words = ap (λ k. take (520 * k) w) (eqb-true n 0 t) }
+legal-told zero n b w h l t = record { segments = []; sound = tt; apart = tt; covers = sym (eqb-true n 0 t); words = ap (λ k. take (pageWords * k) w) (eqb-true n 0 t) }
 legal-told (suc f) n b w h l t = bool (eqb n 0)
-    (λ e. record { segments = []; sound = tt; apart = tt; covers = sym (eqb-true n 0 e); words = ap (λ k. take (520 * k) w) (eqb-true n 0 e) })
-    (λ e. step (rw e at t) (λ a c u. legal-told f (n - sizeAt n w) a (drop (520 * sizeAt n w) w) c u))
+    (λ e. record { segments = []; sound = tt; apart = tt; covers = sym (eqb-true n 0 e); words = ap (λ k. take (pageWords * k) w) (eqb-true n 0 e) })
+    (λ e. step (rw e at t) (λ a c u. legal-told f (n - sizeAt n w) a (drop (pageWords * sizeAt n w) w) c u))
   where
     k : ℕ
     k = sizeAt n w
@@ -77,49 +78,49 @@ legal-told (suc f) n b w h l t = bool (eqb n 0)
     r : Bool
     r = eqb (getD w 0 0) 1
 
-    step : (leb 1 k && not (b && r) && legalFrom f (n - k) r (drop (520 * k) w)) ≡ true → ((a : Bool) → n - k ≤ f → Long (n - k) (drop (520 * k) w) → legalFrom f (n - k) a (drop (520 * k) w) ≡ true → Legal (n - k) a (drop (520 * k) w)) → Legal n b w
+    step : (leb 1 k && not (b && r) && legalFrom f (n - k) r (drop (pageWords * k) w)) ≡ true → ((a : Bool) → n - k ≤ f → Long (n - k) (drop (pageWords * k) w) → legalFrom f (n - k) a (drop (pageWords * k) w) ≡ true → Legal (n - k) a (drop (pageWords * k) w)) → Legal n b w
     step u rec =
-        let first = and-left (leb 1 k && not (b && r)) (legalFrom f (n - k) r (drop (520 * k) w)) u in
+        let first = and-left (leb 1 k && not (b && r)) (legalFrom f (n - k) r (drop (pageWords * k) w)) u in
         let some = leb-true 1 k (and-left (leb 1 k) (not (b && r)) first) in
         let X = size-leads n w l some in
         let x = X .0 in
         let q : k ≡ pages x = X .2 in
         let kind : r ≡ isRun x = leads-kind (X .1) in
-        let rest = rec r (omega arith) (long-drop n k w l (omega (arith, X .1 .within))) (and-right (leb 1 k && not (b && r)) (legalFrom f (n - k) r (drop (520 * k) w)) u) in
+        let rest = rec r (omega arith) (long-drop n k w l (omega (arith, X .1 .within))) (and-right (leb 1 k && not (b && r)) (legalFrom f (n - k) r (drop (pageWords * k) w)) u) in
         record {
           segments = x ∷ rest .segments;
           sound = (X .1 .ok, rest .sound);
           apart = apart-cons b x (rest .segments) (X .1 .ok .0) (subst (λ y. not (b && y) ≡ true) kind (and-right (leb 1 k) (not (b && r)) first)) (subst (λ y. Apart y (rest .segments)) kind (rest .apart));
           covers = omega (arith, rest .covers, q, X .1 .within);
-          words = ap (λ i. take i w) (let z : 520 * n ≡ 520 * k + 520 * (n - k) = omega (arith, q, X .1 .within) in z) ∙ take-add (520 * k) (520 * (n - k)) w ∙ (λ i. (ap (λ j. take (520 * j) w) q ∙ X .1 .words) i ++ rest .words i);
+          words = ap (λ i. take i w) (let z : pageWords * n ≡ pageWords * k + pageWords * (n - k) = omega (arith, q, X .1 .within) in z) ∙ take-add (pageWords * k) (pageWords * (n - k)) w ∙ (λ i. (ap (λ j. take (pageWords * j) w) q ∙ X .1 .words) i ++ rest .words i);
         }
 
 -- The words of such segments pass.
-pub told-legal : (f n : ℕ) (b : Bool) (w : List ℕ) (m : List (Segment Zone)) → n ≤ f → Long n w → Each Writable m → Apart b m → total m ≡ n → take (520 * n) w ≡ segmentsEncoding m → legalFrom f n b w ≡ true
+pub told-legal : (f n : ℕ) (b : Bool) (w : List ℕ) (m : List (Segment Zone)) → n ≤ f → Long n w → Each Writable m → Apart b m → total m ≡ n → take (pageWords * n) w ≡ segmentsEncoding m → legalFrom f n b w ≡ true
 unfolding legalFrom segmentsEncoding
 told-legal zero n b w m h l s a c e = eq-eqb n 0 (omega arith)
 told-legal (suc f) n b w [] h l s a c e = rw (eq-eqb n 0 (sym c))
 told-legal (suc f) n b w (x ∷ m) h l s a c e =
-    let front : take (520 * pages x) w ≡ segmentEncoding x = sym (take-take (520 * pages x) (520 * n) w (omega arith)) ∙ ap (take (520 * pages x)) e ∙ take-at (segmentEncoding x) (segmentsEncoding m) (520 * pages x) (length-segment x (s .0 .0)) in
+    let front : take (pageWords * pages x) w ≡ segmentEncoding x = sym (take-take (pageWords * pages x) (pageWords * n) w (omega arith)) ∙ ap (take (pageWords * pages x)) e ∙ take-at (segmentEncoding x) (segmentsEncoding m) (pageWords * pages x) (length-segment x (s .0 .0)) in
     let L : Leads n w x = record { ok = s .0; within = omega arith; words = front } in
     let q : sizeAt n w ≡ pages x = leads-size n w l x L in
     let kind = leads-kind L in
     let ca = cons-apart b x m a in
-    let back : take (520 * (n - pages x)) (drop (520 * pages x) w) ≡ segmentsEncoding m = tail front (sym (take-add (520 * pages x) (520 * (n - pages x)) w) ∙ ap (λ i. take i w) (let z : 520 * pages x + 520 * (n - pages x) ≡ 520 * n = omega arith in z) ∙ e) in
-    let rest : legalFrom f (n - pages x) (isRun x) (drop (520 * pages x) w) ≡ true = told-legal f (n - pages x) (isRun x) (drop (520 * pages x) w) m (omega (arith, s .0 .0)) (long-drop n (pages x) w l (omega arith)) (s .1) (ca .1) (omega arith) back in
-    rw (ne-eqb n 0 (λ z. omega (arith, s .0 .0)), q, kind) (and-both (leb 1 (pages x) && not (b && isRun x)) (legalFrom f (n - pages x) (isRun x) (drop (520 * pages x) w)) (and-both (leb 1 (pages x)) (not (b && isRun x)) (le-leb 1 (pages x) (s .0 .0)) (ca .0)) rest)
+    let back : take (pageWords * (n - pages x)) (drop (pageWords * pages x) w) ≡ segmentsEncoding m = tail front (sym (take-add (pageWords * pages x) (pageWords * (n - pages x)) w) ∙ ap (λ i. take i w) (let z : pageWords * pages x + pageWords * (n - pages x) ≡ pageWords * n = omega arith in z) ∙ e) in
+    let rest : legalFrom f (n - pages x) (isRun x) (drop (pageWords * pages x) w) ≡ true = told-legal f (n - pages x) (isRun x) (drop (pageWords * pages x) w) m (omega (arith, s .0 .0)) (long-drop n (pages x) w l (omega arith)) (s .1) (ca .1) (omega arith) back in
+    rw (ne-eqb n 0 (λ z. omega (arith, s .0 .0)), q, kind) (and-both (leb 1 (pages x) && not (b && isRun x)) (legalFrom f (n - pages x) (isRun x) (drop (pageWords * pages x) w)) (and-both (leb 1 (pages x)) (not (b && isRun x)) (le-leb 1 (pages x) (s .0 .0)) (ca .0)) rest)
   where
-    tail : {u : List ℕ} → take (520 * pages x) w ≡ segmentEncoding x → take (520 * pages x) w ++ u ≡ segmentEncoding x ++ segmentsEncoding m → u ≡ segmentsEncoding m
+    tail : {u : List ℕ} → take (pageWords * pages x) w ≡ segmentEncoding x → take (pageWords * pages x) w ++ u ≡ segmentEncoding x ++ segmentsEncoding m → u ≡ segmentsEncoding m
     tail {u} p q =
-        let len : length (take (520 * pages x) w) ≡ 520 * pages x = ap length p ∙ length-segment x (s .0 .0) in
-        sym (drop-at (take (520 * pages x) w) u (520 * pages x) len) ∙ ap (drop (520 * pages x)) q ∙ drop-at (segmentEncoding x) (segmentsEncoding m) (520 * pages x) (length-segment x (s .0 .0))
+        let len : length (take (pageWords * pages x) w) ≡ pageWords * pages x = ap length p ∙ length-segment x (s .0 .0) in
+        sym (drop-at (take (pageWords * pages x) w) u (pageWords * pages x) len) ∙ ap (drop (pageWords * pages x)) q ∙ drop-at (segmentEncoding x) (segmentsEncoding m) (pageWords * pages x) (length-segment x (s .0 .0))
 
 -- The test is exact.
-pub legal-iff : (n : ℕ) (w : List ℕ) → length w ≡ 520 * n → n ≤ 256 → (legalSegments n w ≡ true) ↔ (Holds w n × Apart false (segmentsOf w))
+pub legal-iff : (n : ℕ) (w : List ℕ) → length w ≡ pageWords * n → n ≤ mostPages → (legalSegments n w ≡ true) ↔ (Holds w n × Apart false (segmentsOf w))
 unfolding legalSegments
 legal-iff n w l few = (
   λ t. let L = legal-told n n false w (omega arith) (omega arith, few) t in
-      let E : Encodes w (L .segments) n = record { words = sym (take-all (520 * n) w (omega arith)) ∙ L .words; sound = L .sound; covers = L .covers; most = few } in
+      let E : Encodes w (L .segments) n = record { words = sym (take-all (pageWords * n) w (omega arith)) ∙ L .words; sound = L .sound; covers = L .covers; most = few } in
       (holds E, subst (Apart false) (sym (decodes-to E)) (L .apart)),
-  λ h. told-legal n n false w (segmentsOf w) (omega arith) (omega arith, few) (h .0 .sound) (h .1) (h .0 .covers) (take-all (520 * n) w (omega arith) ∙ h .0 .words),
+  λ h. told-legal n n false w (segmentsOf w) (omega arith) (omega arith, few) (h .0 .sound) (h .1) (h .0 .covers) (take-all (pageWords * n) w (omega arith) ∙ h .0 .words),
 )

@@ -7,6 +7,7 @@ use lib.ListN.{length, take, drop, length-append, length-drop}
 use Rattle.lemmas.specs.Zeros.{zeros}
 use Rattle.lemmas.specs.Parts.{putMid}
 use Rattle.lemmas.proofs.Zeros.{length-zeros}
+use Rattle.model.specs.Numbers.{mostPages, pageWords}
 use Rattle.model.specs.Arena.{Segment, run, direct, zone, pages}
 use Rattle.model.specs.Zone.{Zone}
 use Rattle.model.specs.Pages.{withRun}
@@ -18,24 +19,24 @@ use Rattle.pages.proofs.Words.{cut-low, cut-high}
 use Rattle.pages.proofs.Halves.{behind-part, behind-put}
 
 -- The run's words w; x, the segment of `need` pages that the low part f has become.
-module _ (w f : List ℕ) (len need : ℕ) (x : Segment Zone) (is-run : w ≡ segmentEncoding (run len)) (p : 0 < need) (q : need ≤ len) (few : len ≤ 256)
+module _ (w f : List ℕ) (len need : ℕ) (x : Segment Zone) (is-run : w ≡ segmentEncoding (run len)) (p : 0 < need) (q : need ≤ len) (few : len ≤ mostPages)
     (size : pages x ≡ need) (made : f ≡ segmentEncoding x) where
-  pub front-length : length f ≡ 520 * need
-  front-length = ap length made ∙ length-segment x (omega arith) ∙ ap (λ k. 520 * k) size
+  pub front-length : length f ≡ pageWords * need
+  front-length = ap length made ∙ length-segment x (omega arith) ∙ ap (λ k. pageWords * k) size
 
-  pub whole-length : length (f ++ drop (520 * need) w) ≡ 520 * len
-  whole-length = omega (arith, length-append f (drop (520 * need) w), front-length, length-drop (520 * need) w, ap length is-run, length-segment (run len) (omega arith))
+  pub whole-length : length (f ++ drop (pageWords * need) w) ≡ pageWords * len
+  whole-length = omega (arith, length-append f (drop (pageWords * need) w), front-length, length-drop (pageWords * need) w, ap length is-run, length-segment (run len) (omega arith))
 
-  pub rest-zero : take (length (f ++ drop (520 * need) w) - 520 * need) (drop (520 * need) (f ++ drop (520 * need) w)) ≡ zeros (520 * (len - need))
-  rest-zero = behind-part (f ++ drop (520 * need) w) f (drop (520 * need) w) refl (520 * need) front-length ∙ ap (drop (520 * need)) is-run ∙ cut-high len need p q few
+  pub rest-zero : take (length (f ++ drop (pageWords * need) w) - pageWords * need) (drop (pageWords * need) (f ++ drop (pageWords * need) w)) ≡ zeros (pageWords * (len - need))
+  rest-zero = behind-part (f ++ drop (pageWords * need) w) f (drop (pageWords * need) w) refl (pageWords * need) front-length ∙ ap (drop (pageWords * need)) is-run ∙ cut-high len need p q few
 
-  pub cut-made : (v : List ℕ) → v ≡ segmentsEncoding (withRun (len - need) []) → putMid (520 * need) (length (f ++ drop (520 * need) w) - 520 * need) (f ++ drop (520 * need) w) v ≡ segmentsEncoding (x ∷ withRun (len - need) [])
+  pub cut-made : (v : List ℕ) → v ≡ segmentsEncoding (withRun (len - need) []) → putMid (pageWords * need) (length (f ++ drop (pageWords * need) w) - pageWords * need) (f ++ drop (pageWords * need) w) v ≡ segmentsEncoding (x ∷ withRun (len - need) [])
   unfolding segmentsEncoding
-  cut-made v e = behind-put (f ++ drop (520 * need) w) f (drop (520 * need) w) refl (520 * need) front-length v ∙ (λ i. made i ++ e i)
+  cut-made v e = behind-put (f ++ drop (pageWords * need) w) f (drop (pageWords * need) w) refl (pageWords * need) front-length v ∙ (λ i. made i ++ e i)
 
 -- The low part before it is written.
-pub low-blank : (w : List ℕ) (len need : ℕ) → w ≡ segmentEncoding (run len) → 0 < need → need ≤ len → len ≤ 256 → Blank (take (520 * need) w) 3 need
-low-blank w len need e p q few = subst (λ l. Blank (take (520 * need) l) 3 need) (sym e) (cut-low len need p q few)
+pub low-blank : (w : List ℕ) (len need : ℕ) → w ≡ segmentEncoding (run len) → 0 < need → need ≤ len → len ≤ mostPages → Blank (take (pageWords * need) w) 3 need
+low-blank w len need e p q few = subst (λ l. Blank (take (pageWords * need) l) 3 need) (sym e) (cut-low len need p q few)
 
 -- A zone's words are its segment's.
 pub zone-made : (z : Zone) {f : List ℕ} → f ≡ zoneEncoding z → f ≡ segmentEncoding (zone z)

@@ -6,10 +6,11 @@ use native.Mathlib.Omega.{arith}
 use native.Mathlib.Nat.{le-refl}
 use lib.ListN.{length, getD, take, drop, length-append}
 use lib.Seq.{take-at, drop-at}
+use Rattle.model.specs.Numbers.{pageWords}
 use Rattle.model.specs.Arena.{Segment, run, direct, zone, pages, total, Each}
 use Rattle.model.specs.Zone.{Zone}
 use Rattle.model.specs.Valid.{ValidZone}
-use Rattle.zone.specs.Encoding.{zoneEncoding}
+use Rattle.zone.specs.Encoding.{zoneEncoding, zoneWords}
 use Rattle.zone.specs.Decoding.{zoneOf}
 use Rattle.zone.proofs.Words.{length-encoding}
 use Rattle.zone.proofs.Encoded.{zone-decoded}
@@ -17,20 +18,20 @@ use Rattle.pages.specs.Encoding.{segmentEncoding, segmentsEncoding, Writ
 use Rattle.pages.specs.Decoding.{firstSegment, someSegments, segmentsOf, Encodes, Holds}
 use Rattle.pages.proofs.Laws.{length-segment, drop-segment}
 
-first-zone : (f : ℕ) (l : List ℕ) → getD l 0 0 ≡ 3 → someSegments (suc f) l ≡ zone (zoneOf (take 4160 l)) ∷ someSegments f (drop 4160 l)
+first-zone : (f : ℕ) (l : List ℕ) → getD l 0 0 ≡ 3 → someSegments (suc f) l ≡ zone (zoneOf (take zoneWords l)) ∷ someSegments f (drop zoneWords l)
 unfolding someSegments firstSegment
 first-zone f [] e = absurd (omega arith)
-first-zone f (x ∷ l) e = ap (λ k. firstSegment k (x ∷ l) ∷ someSegments f (drop (520 * pages (firstSegment k (x ∷ l))) (x ∷ l))) e
+first-zone f (x ∷ l) e = ap (λ k. firstSegment k (x ∷ l) ∷ someSegments f (drop (pageWords * pages (firstSegment k (x ∷ l))) (x ∷ l))) e
 
 zone-kind : (z : Zone) (w : List ℕ) → getD (zoneEncoding z ++ w) 0 0 ≡ 3
 unfolding zoneEncoding
 zone-kind z w = refl
 
-zone-first : (f : ℕ) (z : Zone) (w : List ℕ) → ValidZone z → zone (zoneOf (take 4160 (zoneEncoding z ++ w))) ∷ someSegments f (drop 4160 (zoneEncoding z ++ w)) ≡ zone z ∷ someSegments f w
+zone-first : (f : ℕ) (z : Zone) (w : List ℕ) → ValidZone z → zone (zoneOf (take zoneWords (zoneEncoding z ++ w))) ∷ someSegments f (drop zoneWords (zoneEncoding z ++ w)) ≡ zone z ∷ someSegments f w
 zone-first f z w h =
-    ap (λ l. zone (zoneOf l) ∷ someSegments f (drop 4160 (zoneEncoding z ++ w))) (take-at (zoneEncoding z) w 4160 (length-encoding z))
-    ∙ ap (λ y. zone y ∷ someSegments f (drop 4160 (zoneEncoding z ++ w))) (zone-decoded z h)
-    ∙ ap (λ l. zone z ∷ someSegments f l) (drop-at (zoneEncoding z) w 4160 (length-encoding z))
+    ap (λ l. zone (zoneOf l) ∷ someSegments f (drop zoneWords (zoneEncoding z ++ w))) (take-at (zoneEncoding z) w zoneWords (length-encoding z))
+    ∙ ap (λ y. zone y ∷ someSegments f (drop zoneWords (zoneEncoding z ++ w))) (zone-decoded z h)
+    ∙ ap (λ l. zone z ∷ someSegments f l) (drop-at (zoneEncoding z) w zoneWords (length-encoding z))
 
 one-decoded : (f : ℕ) (x : Segment Zone) (w : List ℕ) → Writable x → someSegments (suc f) (segmentEncoding x ++ w) ≡ x ∷ someSegments f w
 unfolding someSegments firstSegment segmentEncoding

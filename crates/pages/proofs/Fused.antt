@@ -12,6 +12,7 @@ use Rattle.lemmas.specs.Parts.{putMid}
 use Rattle.lemmas.proofs.Cases.{bool}
 use Rattle.lemmas.proofs.Zeros.{length-zeros, getD-zeros, is-zeros, zeros-add}
 use Rattle.lemmas.proofs.Parts.{mid-at, put-at}
+use Rattle.model.specs.Numbers.{mostPages, pageWords}
 use Rattle.model.specs.Arena.{Segment, run, direct, zone, pages}
 use Rattle.model.specs.Zone.{Zone}
 use Rattle.model.specs.Pages.{withRun}
@@ -42,7 +43,7 @@ zeroed-three w l z = is-zeros (length w) (set (set (set w 0 0) 1 0) 2 0) (length
     go (suc (suc zero)) h = getD-set-same u 2 0 0 (omega (arith, length-set (set w 0 0) 1 0, length-set w 0 0))
     go (suc (suc (suc i))) h = getD-set-other u 2 (suc (suc (suc i))) 0 0 (λ e. omega arith) ∙ getD-set-other (set w 0 0) 1 (suc (suc (suc i))) 0 0 (λ e. omega arith) ∙ getD-set-other w 0 (suc (suc (suc i))) 0 0 (λ e. omega arith) ∙ z .at (suc (suc (suc i))) (omega arith) h
 
-pub segment-long : (w : List ℕ) (x : Segment Zone) → 0 < pages x → w ≡ segmentEncoding x → 520 ≤ length w
+pub segment-long : (w : List ℕ) (x : Segment Zone) → 0 < pages x → w ≡ segmentEncoding x → pageWords ≤ length w
 segment-long w x p e = omega (arith, ap length e, length-segment x p)
 
 pub erased : (w : List ℕ) (x : Segment Zone) → 0 < pages x → w ≡ segmentEncoding x → (getD w 0 0 ≡ 3 → ⊥) → set (set (set w 0 0) 1 0) 2 0 ≡ zeros (length w)
@@ -51,16 +52,16 @@ erased w (direct n g) p e k = zeroed-three w (omega (arith, segment-long w (dire
 erased w (zone z) p e k = absurd (k (ap (λ l. getD l 0 0) (e ∙ sym (append-nil (segmentEncoding (zone z)))) ∙ kind-is (zone z) []))
 
 -- What is left of a run: its words, their number, their zeros.
-pub rest-length : (k : ℕ) → length (segmentsEncoding (withRun k [])) ≡ 520 * k
+pub rest-length : (k : ℕ) → length (segmentsEncoding (withRun k [])) ≡ pageWords * k
 unfolding segmentsEncoding
 rest-length zero = refl
 rest-length (suc k) = ap length (encoding-one (run (suc k))) ∙ length-segment (run (suc k)) (omega arith)
 
-pub rest-zeros : (k : ℕ) → Zero (segmentsEncoding (withRun k [])) 2 (520 * k)
+pub rest-zeros : (k : ℕ) → Zero (segmentsEncoding (withRun k [])) 2 (pageWords * k)
 rest-zeros zero = record { at = λ i a b. absurd (omega arith) }
 rest-zeros (suc k) = record { at = λ i a b. ap (λ l. getD l i 0) (encoding-one (run (suc k))) ∙ (run-zero (suc k)) .at i a b }
 
-pub rest-long : (w : List ℕ) (k : ℕ) → w ≡ segmentsEncoding (withRun k []) → (length w ≡ 0 → ⊥) → 520 ≤ length w
+pub rest-long : (w : List ℕ) (k : ℕ) → w ≡ segmentsEncoding (withRun k []) → (length w ≡ 0 → ⊥) → pageWords ≤ length w
 rest-long w zero e h = absurd (h (ap length e ∙ rest-length 0))
 rest-long w (suc k) e h = omega (arith, ap length e, rest-length (suc k))
 
@@ -72,7 +73,7 @@ nothing-erased w e = is-zeros (length w) w refl (λ i l. absurd (omega arith))
 
 -- The segment x between runs of `before` and `after` pages --------------------------------------------------------------------------
 
-module _ (w : List ℕ) (before len after : ℕ) (x : Segment Zone) (size : pages x ≡ len) (pos : 0 < len) (few : before + len + after ≤ 256)
+module _ (w : List ℕ) (before len after : ℕ) (x : Segment Zone) (size : pages x ≡ len) (pos : 0 < len) (few : before + len + after ≤ mostPages)
     (is : w ≡ segmentsEncoding (withRun before (x ∷ withRun after []))) where
   abbrev B : List ℕ
   B = segmentsEncoding (withRun before [])
@@ -91,53 +92,53 @@ module _ (w : List ℕ) (before len after : ℕ) (x : Segment Zone) (size : page
   unfolding segmentsEncoding
   three = is ∙ in-front before (x ∷ withRun after [])
 
-  x-length : length X ≡ 520 * len
-  x-length = length-segment x (omega arith) ∙ ap (λ k. 520 * k) size
+  x-length : length X ≡ pageWords * len
+  x-length = length-segment x (omega arith) ∙ ap (λ k. pageWords * k) size
 
-  x-count : length X ≡ 520 * before + 520 * len - 520 * before
+  x-count : length X ≡ pageWords * before + pageWords * len - pageWords * before
   x-count = omega (arith, x-length)
 
-  pub fuse-long : length w ≡ 520 * (before + len + after)
+  pub fuse-long : length w ≡ pageWords * (before + len + after)
   fuse-long = omega (arith, ap length three, length-append B (X ++ C), length-append X C, rest-length before, x-length, rest-length after)
 
-  pub fuse-part : take (520 * before + 520 * len - 520 * before) (drop (520 * before) w) ≡ X
-  fuse-part = ap (λ l. take (520 * before + 520 * len - 520 * before) (drop (520 * before) l)) three ∙ mid-at B X C (520 * before) (520 * before + 520 * len - 520 * before) (rest-length before) x-count
+  pub fuse-part : take (pageWords * before + pageWords * len - pageWords * before) (drop (pageWords * before) w) ≡ X
+  fuse-part = ap (λ l. take (pageWords * before + pageWords * len - pageWords * before) (drop (pageWords * before) l)) three ∙ mid-at B X C (pageWords * before) (pageWords * before + pageWords * len - pageWords * before) (rest-length before) x-count
 
   -- The words once x is erased: z, as many zeros.
-  module _ (z : List ℕ) (made : z ≡ zeros (length (take (520 * before + 520 * len - 520 * before) (drop (520 * before) w)))) where
+  module _ (z : List ℕ) (made : z ≡ zeros (length (take (pageWords * before + pageWords * len - pageWords * before) (drop (pageWords * before) w)))) where
     abbrev u : List ℕ
-    u = putMid (520 * before) (520 * before + 520 * len - 520 * before) w z
+    u = putMid (pageWords * before) (pageWords * before + pageWords * len - pageWords * before) w z
 
-    z-is : z ≡ zeros (520 * len)
+    z-is : z ≡ zeros (pageWords * len)
     z-is = made ∙ ap zeros (ap length fuse-part ∙ x-length)
 
     u-is : u ≡ (B ++ z) ++ C
-    u-is = ap (λ l. putMid (520 * before) (520 * before + 520 * len - 520 * before) l z) three ∙ put-at B X C z (520 * before) (520 * before + 520 * len - 520 * before) (rest-length before) x-count ∙ sym (append-assoc B z C)
+    u-is = ap (λ l. putMid (pageWords * before) (pageWords * before + pageWords * len - pageWords * before) l z) three ∙ put-at B X C z (pageWords * before) (pageWords * before + pageWords * len - pageWords * before) (rest-length before) x-count ∙ sym (append-assoc B z C)
 
-    front-long : length (B ++ z) ≡ 520 * before + 520 * len
-    front-long = omega (arith, length-append B z, rest-length before, ap length z-is, length-zeros (520 * len))
+    front-long : length (B ++ z) ≡ pageWords * before + pageWords * len
+    front-long = omega (arith, length-append B z, rest-length before, ap length z-is, length-zeros (pageWords * len))
 
-    pub erased-long : length u ≡ 520 * (before + len + after)
+    pub erased-long : length u ≡ pageWords * (before + len + after)
     erased-long = omega (arith, ap length u-is, length-append (B ++ z) C, front-long, rest-length after)
 
-    pub rest-part : take (length u - (520 * before + 520 * len)) (drop (520 * before + 520 * len) u) ≡ C
-    rest-part = behind-part u (B ++ z) C u-is (520 * before + 520 * len) front-long
+    pub rest-part : take (length u - (pageWords * before + pageWords * len)) (drop (pageWords * before + pageWords * len) u) ≡ C
+    rest-part = behind-part u (B ++ z) C u-is (pageWords * before + pageWords * len) front-long
 
     -- The words once the run behind is erased too: y, as many zeros.
-    pub fuse-blank : (y : List ℕ) → y ≡ zeros (length (take (length u - (520 * before + 520 * len)) (drop (520 * before + 520 * len) u))) → Blank (putMid (520 * before + 520 * len) (length u - (520 * before + 520 * len)) u y) 2 (before + len + after)
+    pub fuse-blank : (y : List ℕ) → y ≡ zeros (length (take (length u - (pageWords * before + pageWords * len)) (drop (pageWords * before + pageWords * len) u))) → Blank (putMid (pageWords * before + pageWords * len) (length u - (pageWords * before + pageWords * len)) u y) 2 (before + len + after)
     fuse-blank y e = subst (λ l. Blank l 2 (before + len + after)) (sym put) (record {
-      long = omega (arith, length-append B (zeros (520 * len + 520 * after)), rest-length before, length-zeros (520 * len + 520 * after));
+      long = omega (arith, length-append B (zeros (pageWords * len + pageWords * after)), rest-length before, length-zeros (pageWords * len + pageWords * after));
       some = omega arith;
       most = few;
       zero = record {
         at = λ i a b. bool (ltb i (length B))
-            (λ t. List·getD-append B (zeros (520 * len + 520 * after)) 0 i (ltb-true i (length B) t) ∙ (rest-zeros before) .at i a (omega (arith, ltb-true i (length B) t, rest-length before)))
-            (λ t. ap (λ j. getD (B ++ zeros (520 * len + 520 * after)) j 0) (let q : i ≡ length B + (i - length B) = omega (arith, ltb-false i (length B) t) in q) ∙ getD-append-add B (zeros (520 * len + 520 * after)) (i - length B) 0 ∙ getD-zeros (520 * len + 520 * after) (i - length B));
+            (λ t. List·getD-append B (zeros (pageWords * len + pageWords * after)) 0 i (ltb-true i (length B) t) ∙ (rest-zeros before) .at i a (omega (arith, ltb-true i (length B) t, rest-length before)))
+            (λ t. ap (λ j. getD (B ++ zeros (pageWords * len + pageWords * after)) j 0) (let q : i ≡ length B + (i - length B) = omega (arith, ltb-false i (length B) t) in q) ∙ getD-append-add B (zeros (pageWords * len + pageWords * after)) (i - length B) 0 ∙ getD-zeros (pageWords * len + pageWords * after) (i - length B));
       };
     })
       where
-        y-is : y ≡ zeros (520 * after)
+        y-is : y ≡ zeros (pageWords * after)
         y-is = e ∙ ap zeros (ap length rest-part ∙ rest-length after)
 
-        put : putMid (520 * before + 520 * len) (length u - (520 * before + 520 * len)) u y ≡ B ++ zeros (520 * len + 520 * after)
-        put = behind-put u (B ++ z) C u-is (520 * before + 520 * len) front-long y ∙ append-assoc B z y ∙ (λ i. B ++ (z-is i ++ y-is i)) ∙ ap (λ l. B ++ l) (sym (zeros-add (520 * len) (520 * after)))
+        put : putMid (pageWords * before + pageWords * len) (length u - (pageWords * before + pageWords * len)) u y ≡ B ++ zeros (pageWords * len + pageWords * after)
+        put = behind-put u (B ++ z) C u-is (pageWords * before + pageWords * len) front-long y ∙ append-assoc B z y ∙ (λ i. B ++ (z-is i ++ y-is i)) ∙ ap (λ l. B ++ l) (sym (zeros-add (pageWords * len) (pageWords * after)))

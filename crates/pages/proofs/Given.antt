@@ -7,6 +7,7 @@ use native.Mathlib.Omega.{arith}
 use lib.ListN.{length, take, drop}
 use Rattle.lemmas.specs.Parts.{putMid}
 use Rattle.lemmas.proofs.Cases.{true-false}
+use Rattle.model.specs.Numbers.{mostPages, pageWords}
 use Rattle.model.specs.Arena.{Segment, run, direct, zone, pages, total, edit}
 use Rattle.model.specs.Zone.{Zone}
 use Rattle.model.specs.Valid.{Apart}
@@ -166,13 +167,13 @@ module _ {w : List ℕ} {m : List (Segment Zone)} {n p b len : ℕ} {x : Segment
   between-size : total between ≡ b + len + after
   between-size = omega (arith, total-withRun b (x ∷ withRun after []), total-withRun {Z = Zone} after [], size)
 
-  pub given-inside : (b ≤ p) × (p - b + (b + len + after) ≤ n) × (n ≤ 256) × (length w ≡ 520 * n) × (0 < len)
+  pub given-inside : (b ≤ p) × (p - b + (b + len + after) ≤ n) × (n ≤ mostPages) × (length w ≡ pageWords * n) × (0 < len)
   given-inside =
       let q = part-inside h (left .rest) between (right .rest) whole-is (p - b) (b + len + after) starts between-size in
       (omega (arith, s .starts, ap (λ l. total l) left-is, total-append (left .rest) (withRun b []), total-withRun {Z = Zone} b []), q .0, q .1, q .2, omega (arith, pos, size))
 
-  pub given-words : (r : ℕ) → r ≡ after → take (520 * (p - b) + 520 * (b + len + r) - 520 * (p - b)) (drop (520 * (p - b)) w) ≡ segmentsEncoding (withRun b (x ∷ withRun r []))
-  given-words r e = subst (λ k. take (520 * (p - b) + 520 * (b + len + k) - 520 * (p - b)) (drop (520 * (p - b)) w) ≡ segmentsEncoding (withRun b (x ∷ withRun k []))) (sym e) (part-words h (left .rest) between (right .rest) whole-is (p - b) (b + len + after) starts between-size)
+  pub given-words : (r : ℕ) → r ≡ after → take (pageWords * (p - b) + pageWords * (b + len + r) - pageWords * (p - b)) (drop (pageWords * (p - b)) w) ≡ segmentsEncoding (withRun b (x ∷ withRun r []))
+  given-words r e = subst (λ k. take (pageWords * (p - b) + pageWords * (b + len + k) - pageWords * (p - b)) (drop (pageWords * (p - b)) w) ≡ segmentsEncoding (withRun b (x ∷ withRun k []))) (sym e) (part-words h (left .rest) between (right .rest) whole-is (p - b) (b + len + after) starts between-size)
 
   -- The joined segments.
   joined-is : release (p * 4096) m ≡ left .rest ++ (run (b + len + after) ∷ right .rest)
@@ -180,8 +181,8 @@ module _ {w : List ℕ} {m : List (Segment Zone)} {n p b len : ℕ} {x : Segment
       ap (joined (λ _. false) 0) (edit-stands s freePages pos ∙ (λ i. left-is i ++ (run (size i) ∷ right .is i)) ∙ append-assoc (left .rest) (withRun b []) (run len ∷ withRun after (right .rest)) ∙ ap (λ l. left .rest ++ l) (run-append b (run len ∷ withRun after (right .rest))))
       ∙ joined-local (left .rest) (right .rest) b len after (omega (arith, pos, size)) (apart-front false (left .rest) (withRun b []) (subst (Apart false) left-is (apart-front false (s .before) (x ∷ s .behind) all))) (left .no-run) (right .apart)
 
-  pub given-put : (r : ℕ) → r ≡ after → (v : List ℕ) → v ≡ segmentEncoding (run (b + len + r)) → putMid (520 * (p - b)) (520 * (p - b) + 520 * (b + len + r) - 520 * (p - b)) w v ≡ segmentsEncoding (release (p * 4096) m)
-  given-put r e v f = subst (λ k. v ≡ segmentEncoding (run (b + len + k)) → putMid (520 * (p - b)) (520 * (p - b) + 520 * (b + len + k) - 520 * (p - b)) w v ≡ segmentsEncoding (release (p * 4096) m)) (sym e)
+  pub given-put : (r : ℕ) → r ≡ after → (v : List ℕ) → v ≡ segmentEncoding (run (b + len + r)) → putMid (pageWords * (p - b)) (pageWords * (p - b) + pageWords * (b + len + r) - pageWords * (p - b)) w v ≡ segmentsEncoding (release (p * 4096) m)
+  given-put r e v f = subst (λ k. v ≡ segmentEncoding (run (b + len + k)) → putMid (pageWords * (p - b)) (pageWords * (p - b) + pageWords * (b + len + k) - pageWords * (p - b)) w v ≡ segmentsEncoding (release (p * 4096) m)) (sym e)
       (λ g. part-put h (left .rest) between (right .rest) whole-is (p - b) (b + len + after) starts between-size (run (b + len + after) ∷ []) v (g ∙ sym (encoding-one (run (b + len + after)))) ∙ ap segmentsEncoding (sym joined-is)) f
 
   -- The run that the pages are part of afterwards, and what stands before and behind it.

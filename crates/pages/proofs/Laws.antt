@@ -6,6 +6,7 @@ use native.Mathlib.Omega.{arith}
 use lib.ListN.{length, getD, take, drop, length-append}
 use lib.Seq.{drop-at, take-at}
 use Rattle.lemmas.proofs.Zeros.{length-zeros}
+use Rattle.model.specs.Numbers.{pageWords}
 use Rattle.model.specs.Arena.{Segment, run, direct, zone, pages, total, Each}
 use Rattle.model.specs.Zone.{Zone}
 use Rattle.model.specs.Valid.{ValidZone, ValidSegment}
@@ -14,13 +15,13 @@ use Rattle.zone.specs.Encoding.{zoneEncoding}
 use Rattle.zone.proofs.Words.{length-encoding}
 use Rattle.pages.specs.Encoding.{kindOf, segmentEncoding, segmentsEncoding, Writable}
 
-pub length-segment : (x : Segment Zone) → 0 < pages x → length (segmentEncoding x) ≡ 520 * pages x
+pub length-segment : (x : Segment Zone) → 0 < pages x → length (segmentEncoding x) ≡ pageWords * pages x
 unfolding segmentEncoding
-length-segment (run n) h = omega (arith, length-zeros (520 * n - 2))
-length-segment (direct n g) h = omega (arith, length-zeros (520 * n - 3))
+length-segment (run n) h = omega (arith, length-zeros (pageWords * n - 2))
+length-segment (direct n g) h = omega (arith, length-zeros (pageWords * n - 3))
 length-segment (zone z) h = length-encoding z
 
-pub length-segments : (m : List (Segment Zone)) → Each Writable m → length (segmentsEncoding m) ≡ 520 * total m
+pub length-segments : (m : List (Segment Zone)) → Each Writable m → length (segmentsEncoding m) ≡ pageWords * total m
 unfolding segmentsEncoding
 length-segments [] h = refl
 length-segments (x ∷ r) h = omega (arith, length-append (segmentEncoding x) (segmentsEncoding r), length-segment x (h .0 .0), length-segments r (h .1))
@@ -60,8 +61,8 @@ pub pages-most : (x : Segment Zone) (a b : List (Segment Zone)) (m : List (Segme
 pages-most x a b m e = omega (arith, ap (λ l. total l) e, total-append a (x ∷ b))
 
 -- What stands behind a segment.
-pub drop-segment : (x : Segment Zone) (w : List ℕ) → 0 < pages x → drop (520 * pages x) (segmentEncoding x ++ w) ≡ w
-drop-segment x w h = drop-at (segmentEncoding x) w (520 * pages x) (length-segment x h)
+pub drop-segment : (x : Segment Zone) (w : List ℕ) → 0 < pages x → drop (pageWords * pages x) (segmentEncoding x ++ w) ≡ w
+drop-segment x w h = drop-at (segmentEncoding x) w (pageWords * pages x) (length-segment x h)
 
 -- The parts of a sound list.
 pub each-left : (a b : List (Segment Zone)) → Each Writable (a ++ b) → Each Writable a

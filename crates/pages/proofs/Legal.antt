@@ -14,10 +14,11 @@ use Rattle.lemmas.specs.Zeros.{zeros, isZero, Zero}
 use Rattle.lemmas.proofs.Cases.{bool, true-false, and-left, and-right, and-both, and-false}
 use Rattle.lemmas.proofs.Every.{every-at, every-of}
 use Rattle.lemmas.proofs.Parts.{length-mid, getD-mid}
+use Rattle.model.specs.Numbers.{zonePages, mostGroup, mostPages, pageWords}
 use Rattle.model.specs.Arena.{Segment, run, direct, zone, pages}
 use Rattle.model.specs.Zone.{Zone}
 use Rattle.model.specs.Valid.{ValidZone}
-use Rattle.zone.specs.Encoding.{zoneEncoding}
+use Rattle.zone.specs.Encoding.{zoneEncoding, zoneWords}
 use Rattle.zone.specs.Decoding.{isZone}
 use Rattle.zone.proofs.Encoded.{zone-iff, encoding-zone}
 use Rattle.pages.specs.Encoding.{kindOf, segmentEncoding, Writable}
@@ -28,32 +29,32 @@ use Rattle.pages.proofs.Words.{run-zero, direct-zero, run-words, direct
 
 -- Words of at least n pages.
 abbrev pub Long : ℕ → List ℕ → Type 0
-Long n w = (520 * n ≤ length w) × (n ≤ 256)
+Long n w = (pageWords * n ≤ length w) × (n ≤ mostPages)
 
 -- Zero words, tested and told.
-zero-is : (i k : ℕ) (w : List ℕ) → 520 * k ≤ length w → i ≤ 520 * k → zeroFrom i k w ≡ true → Zero (take (520 * k) w) i (520 * k)
+zero-is : (i k : ℕ) (w : List ℕ) → pageWords * k ≤ length w → i ≤ pageWords * k → zeroFrom i k w ≡ true → Zero (take (pageWords * k) w) i (pageWords * k)
 zero-is i k w l h t = record {
   at = λ j a b.
-      let m : j - i < length (mid i (520 * k - i) w) = omega (arith, length-mid i (520 * k - i) w (omega arith)) in
-      getD-take (520 * k) w j 0 b ∙ ap (λ q. getD w q 0) (let e : j ≡ i + (j - i) = omega arith in e) ∙ sym (getD-mid i (520 * k - i) w (j - i) 0 (omega arith)) ∙ eqb-true (getD (mid i (520 * k - i) w) (j - i) 0) 0 (every-at isZero (mid i (520 * k - i) w) (j - i) 0 t m);
+      let m : j - i < length (mid i (pageWords * k - i) w) = omega (arith, length-mid i (pageWords * k - i) w (omega arith)) in
+      getD-take (pageWords * k) w j 0 b ∙ ap (λ q. getD w q 0) (let e : j ≡ i + (j - i) = omega arith in e) ∙ sym (getD-mid i (pageWords * k - i) w (j - i) 0 (omega arith)) ∙ eqb-true (getD (mid i (pageWords * k - i) w) (j - i) 0) 0 (every-at isZero (mid i (pageWords * k - i) w) (j - i) 0 t m);
 }
 
-is-zero : (i k : ℕ) (w : List ℕ) → 520 * k ≤ length w → i ≤ 520 * k → Zero (take (520 * k) w) i (520 * k) → zeroFrom i k w ≡ true
-is-zero i k w l h z = every-of isZero (mid i (520 * k - i) w) 0 (λ j a.
-    let q : j < 520 * k - i = omega (arith, length-mid i (520 * k - i) w (omega arith)) in
-    eq-eqb (getD (mid i (520 * k - i) w) j 0) 0 (getD-mid i (520 * k - i) w j 0 q ∙ sym (getD-take (520 * k) w (i + j) 0 (omega arith)) ∙ z .at (i + j) (omega arith) (omega arith)))
+is-zero : (i k : ℕ) (w : List ℕ) → pageWords * k ≤ length w → i ≤ pageWords * k → Zero (take (pageWords * k) w) i (pageWords * k) → zeroFrom i k w ≡ true
+is-zero i k w l h z = every-of isZero (mid i (pageWords * k - i) w) 0 (λ j a.
+    let q : j < pageWords * k - i = omega (arith, length-mid i (pageWords * k - i) w (omega arith)) in
+    eq-eqb (getD (mid i (pageWords * k - i) w) j 0) 0 (getD-mid i (pageWords * k - i) w j 0 q ∙ sym (getD-take (pageWords * k) w (i + j) 0 (omega arith)) ∙ z .at (i + j) (omega arith) (omega arith)))
 
-front : (k i : ℕ) (w : List ℕ) → i < 520 * k → getD (take (520 * k) w) i 0 ≡ getD w i 0
-front k i w h = getD-take (520 * k) w i 0 h
+front : (k i : ℕ) (w : List ℕ) → i < pageWords * k → getD (take (pageWords * k) w) i 0 ≡ getD w i 0
+front k i w h = getD-take (pageWords * k) w i 0 h
 
-blank : (i k n : ℕ) (w : List ℕ) → Long n w → 1 ≤ k → k ≤ n → Zero (take (520 * k) w) i (520 * k) → Blank (take (520 * k) w) i k
-blank i k n w l a b z = record { long = length-take-le (520 * k) w (omega (arith, l .0)); some = a; most = omega (arith, l .1); zero = z }
+blank : (i k n : ℕ) (w : List ℕ) → Long n w → 1 ≤ k → k ≤ n → Zero (take (pageWords * k) w) i (pageWords * k) → Blank (take (pageWords * k) w) i k
+blank i k n w l a b z = record { long = length-take-le (pageWords * k) w (omega (arith, l .0)); some = a; most = omega (arith, l .1); zero = z }
 
 -- A valid segment of at most n pages with which words begin.
 pub record Leads (n : ℕ) (w : List ℕ) (x : Segment Zone) : Type 0 where
   pub ok : Writable x
   pub within : pages x ≤ n
-  pub words : take (520 * pages x) w ≡ segmentEncoding x
+  pub words : take (pageWords * pages x) w ≡ segmentEncoding x
 
 module _ (n : ℕ) (w : List ℕ) (long : Long n w) where
   size-if : (t : Bool) → 0 < sizeIf n w t → (1 ≤ getD w 1 0) × (getD w 1 0 ≤ n) × (t ≡ true) × (sizeIf n w t ≡ getD w 1 0)
@@ -68,8 +69,8 @@ module _ (n : ℕ) (w : List ℕ) (long : Long n w) where
   pub size-leads : 0 < sizeAt n w → (x : Segment Zone) × Leads n w x × (sizeAt n w ≡ pages x)
   unfolding sizeAt segmentEncoding
   size-leads = bool (eqb (getD w 0 0) 3)
-      (λ t. rw t (bool (leb 8 n && isZone (take 4160 w))
-      (λ u. rw u (λ _. as-zone (leb-true 8 n (and-left (leb 8 n) (isZone (take 4160 w)) u)) (zone-iff (take 4160 w) .0 (and-right (leb 8 n) (isZone (take 4160 w)) u))))
+      (λ t. rw t (bool (leb zonePages n && isZone (take zoneWords w))
+      (λ u. rw u (λ _. as-zone (leb-true 8 n (and-left (leb zonePages n) (isZone (take zoneWords w)) u)) (zone-iff (take zoneWords w) .0 (and-right (leb zonePages n) (isZone (take zoneWords w)) u))))
       (λ u. rw u (λ h. absurd (omega arith)))))
       (λ t. rw t (bool (eqb (getD w 0 0) 1)
       (λ u. rw u (λ h. as-run (eqb-true (getD w 0 0) 1 u) (size-if (zeroFrom 2 (getD w 1 0) w) h)))
@@ -77,47 +78,47 @@ module _ (n : ℕ) (w : List ℕ) (long : Long n w) where
       (λ v. rw v (λ h. as-direct (eqb-true (getD w 0 0) 2 v) (size-if (groupIn w && zeroFrom 3 (getD w 1 0) w) h)))
       (λ v. rw v (λ h. absurd (omega arith)))))))
     where
-      as-zone : 8 ≤ n → (z : Zone) × ValidZone z × (take 4160 w ≡ zoneEncoding z) → (x : Segment Zone) × Leads n w x × (8 ≡ pages x)
+      as-zone : 8 ≤ n → (z : Zone) × ValidZone z × (take zoneWords w ≡ zoneEncoding z) → (x : Segment Zone) × Leads n w x × (8 ≡ pages x)
       as-zone h f = (zone (f .0), record { ok = (omega arith, f .1); within = h; words = f .2 }, refl)
 
       as-run : getD w 0 0 ≡ 1 → (1 ≤ getD w 1 0) × (getD w 1 0 ≤ n) × (zeroFrom 2 (getD w 1 0) w ≡ true) × (sizeIf n w (zeroFrom 2 (getD w 1 0) w) ≡ getD w 1 0) → (x : Segment Zone) × Leads n w x × (sizeIf n w (zeroFrom 2 (getD w 1 0) w) ≡ pages x)
       as-run k f =
           let len = getD w 1 0 in
-          (run len, record { ok = (f .0, tt); within = f .1; words = run-words (take (520 * len) w) len (blank 2 len n w long (f .0) (f .1) (zero-is 2 len w (omega (arith, long .0, f .1)) (omega (arith, f .0)) (f .2))) (front len 0 w (omega (arith, f .0)) ∙ k) (front len 1 w (omega (arith, f .0))) }, f .3)
+          (run len, record { ok = (f .0, tt); within = f .1; words = run-words (take (pageWords * len) w) len (blank 2 len n w long (f .0) (f .1) (zero-is 2 len w (omega (arith, long .0, f .1)) (omega (arith, f .0)) (f .2))) (front len 0 w (omega (arith, f .0)) ∙ k) (front len 1 w (omega (arith, f .0))) }, f .3)
 
       as-direct : getD w 0 0 ≡ 2 → (1 ≤ getD w 1 0) × (getD w 1 0 ≤ n) × ((groupIn w && zeroFrom 3 (getD w 1 0) w) ≡ true) × (sizeIf n w (groupIn w && zeroFrom 3 (getD w 1 0) w) ≡ getD w 1 0) → (x : Segment Zone) × Leads n w x × (sizeIf n w (groupIn w && zeroFrom 3 (getD w 1 0) w) ≡ pages x)
       as-direct k f =
           let len = getD w 1 0 in
           let g = getD w 2 0 in
           let gs = and-left (groupIn w) (zeroFrom 3 len w) (f .2) in
-          (direct len g, record { ok = (f .0, (f .0, leb-true 1 g (and-left (leb 1 g) (leb g 12) gs), leb-true g 12 (and-right (leb 1 g) (leb g 12) gs))); within = f .1; words = direct-words (take (520 * len) w) len g (blank 3 len n w long (f .0) (f .1) (zero-is 3 len w (omega (arith, long .0, f .1)) (omega (arith, f .0)) (and-right (groupIn w) (zeroFrom 3 len w) (f .2)))) (front len 0 w (omega (arith, f .0)) ∙ k) (front len 1 w (omega (arith, f .0))) (front len 2 w (omega (arith, f .0))) }, f .3)
+          (direct len g, record { ok = (f .0, (f .0, leb-true 1 g (and-left (leb 1 g) (leb g mostGroup) gs), leb-true g mostGroup (and-right (leb 1 g) (leb g mostGroup) gs))); within = f .1; words = direct-words (take (pageWords * len) w) len g (blank 3 len n w long (f .0) (f .1) (zero-is 3 len w (omega (arith, long .0, f .1)) (omega (arith, f .0)) (and-right (groupIn w) (zeroFrom 3 len w) (f .2)))) (front len 0 w (omega (arith, f .0)) ∙ k) (front len 1 w (omega (arith, f .0))) (front len 2 w (omega (arith, f .0))) }, f .3)
 
   -- Such a segment is found.
   pub leads-size : (x : Segment Zone) → Leads n w x → sizeAt n w ≡ pages x
   unfolding sizeAt segmentEncoding
   leads-size (run len) l =
-      let word : (i : ℕ) → i < 520 * len → getD w i 0 ≡ getD (segmentEncoding (run len)) i 0 = λ i h. sym (front len i w h) ∙ ap (λ v. getD v i 0) (l .words) in
+      let word : (i : ℕ) → i < pageWords * len → getD w i 0 ≡ getD (segmentEncoding (run len)) i 0 = λ i h. sym (front len i w h) ∙ ap (λ v. getD v i 0) (l .words) in
       let k = word 0 (omega (arith, l .ok .0)) in
       let s = word 1 (omega (arith, l .ok .0)) in
       rw (ne-eqb (getD w 0 0) 3 (λ e. omega arith), eq-eqb (getD w 0 0) 1 k)
-      (if-size (zeroFrom 2 (getD w 1 0) w) (omega (arith, l .ok .0)) (omega (arith, l .within)) (subst (λ q. zeroFrom 2 q w ≡ true) (sym s) (is-zero 2 len w (omega (arith, long .0, l .within)) (omega (arith, l .ok .0)) (subst (λ v. Zero v 2 (520 * len)) (sym (l .words)) (run-zero len)))) ∙ s)
+      (if-size (zeroFrom 2 (getD w 1 0) w) (omega (arith, l .ok .0)) (omega (arith, l .within)) (subst (λ q. zeroFrom 2 q w ≡ true) (sym s) (is-zero 2 len w (omega (arith, long .0, l .within)) (omega (arith, l .ok .0)) (subst (λ v. Zero v 2 (pageWords * len)) (sym (l .words)) (run-zero len)))) ∙ s)
   leads-size (direct len g) l =
-      let word : (i : ℕ) → i < 520 * len → getD w i 0 ≡ getD (segmentEncoding (direct len g)) i 0 = λ i h. sym (front len i w h) ∙ ap (λ v. getD v i 0) (l .words) in
+      let word : (i : ℕ) → i < pageWords * len → getD w i 0 ≡ getD (segmentEncoding (direct len g)) i 0 = λ i h. sym (front len i w h) ∙ ap (λ v. getD v i 0) (l .words) in
       let k = word 0 (omega (arith, l .ok .0)) in
       let s = word 1 (omega (arith, l .ok .0)) in
       let t = word 2 (omega (arith, l .ok .0)) in
       rw (ne-eqb (getD w 0 0) 3 (λ e. omega arith), ne-eqb (getD w 0 0) 1 (λ e. omega arith), eq-eqb (getD w 0 0) 2 k)
       (if-size (groupIn w && zeroFrom 3 (getD w 1 0) w) (omega (arith, l .ok .0)) (omega (arith, l .within))
-      (and-both (groupIn w) (zeroFrom 3 (getD w 1 0) w) (and-both (leb 1 (getD w 2 0)) (leb (getD w 2 0) 12) (le-leb 1 (getD w 2 0) (omega (arith, l .ok .1 .1))) (le-leb (getD w 2 0) 12 (omega (arith, l .ok .1 .2))))
-      (subst (λ q. zeroFrom 3 q w ≡ true) (sym s) (is-zero 3 len w (omega (arith, long .0, l .within)) (omega (arith, l .ok .0)) (subst (λ v. Zero v 3 (520 * len)) (sym (l .words)) (direct-zero len g))))) ∙ s)
+      (and-both (groupIn w) (zeroFrom 3 (getD w 1 0) w) (and-both (leb 1 (getD w 2 0)) (leb (getD w 2 0) mostGroup) (le-leb 1 (getD w 2 0) (omega (arith, l .ok .1 .1))) (le-leb (getD w 2 0) mostGroup (omega (arith, l .ok .1 .2))))
+      (subst (λ q. zeroFrom 3 q w ≡ true) (sym s) (is-zero 3 len w (omega (arith, long .0, l .within)) (omega (arith, l .ok .0)) (subst (λ v. Zero v 3 (pageWords * len)) (sym (l .words)) (direct-zero len g))))) ∙ s)
   leads-size (zone z) l =
       let k : getD w 0 0 ≡ 3 = sym (front 8 0 w (omega arith)) ∙ ap (λ v. getD v 0 0) (l .words) ∙ zone-first z in
-      rw (eq-eqb (getD w 0 0) 3 k, le-leb 8 n (l .within), ap isZone (l .words) ∙ encoding-zone z (l .ok .1))
+      rw (eq-eqb (getD w 0 0) 3 k, le-leb zonePages n (l .within), ap isZone (l .words) ∙ encoding-zone z (l .ok .1))
 
 -- The same as the code finds it, case by case -------------------------------------------------------------------------------------
 
 module _ (n : ℕ) (w : List ℕ) where
-  pub size-zone : getD w 0 0 ≡ 3 → cond (leb 8 n && isZone (take 4160 w)) 8 0 ≡ sizeAt n w
+  pub size-zone : getD w 0 0 ≡ 3 → cond (leb zonePages n && isZone (take zoneWords w)) zonePages 0 ≡ sizeAt n w
   unfolding sizeAt
   size-zone k = rw (eq-eqb (getD w 0 0) 3 k)
 
@@ -171,10 +172,10 @@ pub group-none : (w : List ℕ) → getD w 2 0 ≡ 0 → groupIn w ≡ false
 group-none w e = rw (lt-leb 1 (getD w 2 0) (omega arith))
 
 pub group-large : (w : List ℕ) → 12 < getD w 2 0 → groupIn w ≡ false
-group-large w h = rw (lt-leb (getD w 2 0) 12 h) (and-false (leb 1 (getD w 2 0)))
+group-large w h = rw (lt-leb (getD w 2 0) mostGroup h) (and-false (leb 1 (getD w 2 0)))
 
-pub group-some : (w : List ℕ) → (getD w 2 0 ≡ 0 → ⊥) → getD w 2 0 ≤ 12 → groupIn w ≡ true
-group-some w a b = and-both (leb 1 (getD w 2 0)) (leb (getD w 2 0) 12) (le-leb 1 (getD w 2 0) (omega (arith, a))) (le-leb (getD w 2 0) 12 b)
+pub group-some : (w : List ℕ) → (getD w 2 0 ≡ 0 → ⊥) → getD w 2 0 ≤ mostGroup → groupIn w ≡ true
+group-some w a b = and-both (leb 1 (getD w 2 0)) (leb (getD w 2 0) mostGroup) (le-leb 1 (getD w 2 0) (omega (arith, a))) (le-leb (getD w 2 0) mostGroup b)
 
 -- What the code's test and length make.
 pub tested : (i : ℕ) (w : List ℕ) (t : Bool) (len r : ℕ) → r ≡ cond t len 0 → len ≡ getD w 1 0 → t ≡ zeroFrom i len w → r ≡ cond (zeroFrom i (getD w 1 0) w) (getD w 1 0) 0

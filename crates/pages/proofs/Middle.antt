@@ -9,6 +9,7 @@ use lib.ListN.{length, take, drop}
 use borrow.Author.Tests.{lt-ltb, le-ltb}
 use Rattle.lemmas.specs.Parts.{mid, putMid}
 use Rattle.lemmas.proofs.Parts.{mid-at, put-at}
+use Rattle.model.specs.Numbers.{mostPages, pageWords}
 use Rattle.model.specs.Arena.{Segment, run, direct, zone, pages, bytes, total, edit, Each}
 use Rattle.model.specs.Zone.{Zone}
 use Rattle.model.specs.Pages.{FreeRun, withRun, carve}
@@ -26,23 +27,23 @@ module _ {w : List ℕ} {m : List (Segment Zone)} {n : ℕ} (h : Encodes w m n) 
   the-words : w ≡ segmentsEncoding a ++ (segmentsEncoding y ++ segmentsEncoding c)
   the-words = h .words ∙ ap segmentsEncoding is ∙ encoding-append a (y ++ c) ∙ ap (λ l. segmentsEncoding a ++ l) (encoding-append y c)
 
-  front : length (segmentsEncoding a) ≡ 520 * at
-  front = length-segments a (each-left a (y ++ c) sound) ∙ ap (λ i. 520 * i) starts
+  front : length (segmentsEncoding a) ≡ pageWords * at
+  front = length-segments a (each-left a (y ++ c) sound) ∙ ap (λ i. pageWords * i) starts
 
-  middle : length (segmentsEncoding y) ≡ 520 * at + 520 * k - 520 * at
+  middle : length (segmentsEncoding y) ≡ pageWords * at + pageWords * k - pageWords * at
   middle = length-segments y (each-left y c (each-right a (y ++ c) sound)) ∙ omega (arith, size)
 
   -- Where the part lies.
-  pub part-inside : (at + k ≤ n) × (n ≤ 256) × (length w ≡ 520 * n)
+  pub part-inside : (at + k ≤ n) × (n ≤ mostPages) × (length w ≡ pageWords * n)
   part-inside = (omega (arith, starts, size, ap (λ l. total l) is, total-append a (y ++ c), total-append y c, h .covers), h .most, encodes-length h)
 
-  pub part-words : take (520 * at + 520 * k - 520 * at) (drop (520 * at) w) ≡ segmentsEncoding y
-  part-words = ap (λ l. take (520 * at + 520 * k - 520 * at) (drop (520 * at) l)) the-words ∙ mid-at (segmentsEncoding a) (segmentsEncoding y) (segmentsEncoding c) (520 * at) (520 * at + 520 * k - 520 * at) front middle
+  pub part-words : take (pageWords * at + pageWords * k - pageWords * at) (drop (pageWords * at) w) ≡ segmentsEncoding y
+  part-words = ap (λ l. take (pageWords * at + pageWords * k - pageWords * at) (drop (pageWords * at) l)) the-words ∙ mid-at (segmentsEncoding a) (segmentsEncoding y) (segmentsEncoding c) (pageWords * at) (pageWords * at + pageWords * k - pageWords * at) front middle
 
-  pub part-put : (new : List (Segment Zone)) (v : List ℕ) → v ≡ segmentsEncoding new → putMid (520 * at) (520 * at + 520 * k - 520 * at) w v ≡ segmentsEncoding (a ++ (new ++ c))
+  pub part-put : (new : List (Segment Zone)) (v : List ℕ) → v ≡ segmentsEncoding new → putMid (pageWords * at) (pageWords * at + pageWords * k - pageWords * at) w v ≡ segmentsEncoding (a ++ (new ++ c))
   part-put new v e =
-      ap (λ l. putMid (520 * at) (520 * at + 520 * k - 520 * at) l v) the-words
-      ∙ put-at (segmentsEncoding a) (segmentsEncoding y) (segmentsEncoding c) v (520 * at) (520 * at + 520 * k - 520 * at) front middle
+      ap (λ l. putMid (pageWords * at) (pageWords * at + pageWords * k - pageWords * at) l v) the-words
+      ∙ put-at (segmentsEncoding a) (segmentsEncoding y) (segmentsEncoding c) v (pageWords * at) (pageWords * at + pageWords * k - pageWords * at) front middle
       ∙ ap (λ l. segmentsEncoding a ++ (l ++ segmentsEncoding c)) e
       ∙ ap (λ l. segmentsEncoding a ++ l) (sym (encoding-append new c))
       ∙ sym (encoding-append a (new ++ c))
@@ -60,11 +61,11 @@ module _ {w : List ℕ} {m : List (Segment Zone)} {n p b len : ℕ} (h : Encodes
   one : total {Z = Zone} (run len ∷ []) ≡ len
   one = omega arith
 
-  pub run-inside : (p + len ≤ n) × (n ≤ 256) × (length w ≡ 520 * n)
+  pub run-inside : (p + len ≤ n) × (n ≤ mostPages) × (length w ≡ pageWords * n)
   run-inside = part-inside h (s .before) (run len ∷ []) (s .behind) (s .whole) p len (s .starts) one
 
-  pub run-part : take (520 * p + 520 * len - 520 * p) (drop (520 * p) w) ≡ segmentEncoding (run len)
+  pub run-part : take (pageWords * p + pageWords * len - pageWords * p) (drop (pageWords * p) w) ≡ segmentEncoding (run len)
   run-part = part-words h (s .before) (run len ∷ []) (s .behind) (s .whole) p len (s .starts) one ∙ encoding-one (run len)
 
-  pub run-put : (need : ℕ) (x : Segment Zone) (v : List ℕ) → v ≡ segmentsEncoding (x ∷ withRun (len - need) []) → putMid (520 * p) (520 * p + 520 * len - 520 * p) w v ≡ segmentsEncoding (carve (record { page = p; size = len }) need x m)
+  pub run-put : (need : ℕ) (x : Segment Zone) (v : List ℕ) → v ≡ segmentsEncoding (x ∷ withRun (len - need) []) → putMid (pageWords * p) (pageWords * p + pageWords * len - pageWords * p) w v ≡ segmentsEncoding (carve (record { page = p; size = len }) need x m)
   run-put need x v e = part-put h (s .before) (run len ∷ []) (s .behind) (s .whole) p len (s .starts) one (x ∷ withRun (len - need) []) v e ∙ ap segmentsEncoding (sym (edit-stands s (λ _. x ∷ withRun (len - need) []) pos))

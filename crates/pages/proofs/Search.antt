@@ -8,6 +8,7 @@ use native.Mathlib.Omega.{arith}
 use lib.Dec.{eqb}
 use lib.ListN.{length, getD}
 use borrow.Author.Tests.{le-leb, lt-leb, lt-ltb, le-ltb, eq-eqb, ne-eqb}
+use Rattle.model.specs.Numbers.{zonePages, mostPages, pageWords}
 use Rattle.model.specs.Arena.{Segment, run, direct, zone, pages, total}
 use Rattle.model.specs.Zone.{Zone}
 use Rattle.model.specs.Pages.{firstFit, claim}
@@ -52,10 +53,10 @@ module _ {w : List ℕ} {n p len : ℕ} {f : Found} (i : Seeking w n f p) (h : p
   abbrev k : Next (i .1)
   k = next (i .1) h
 
-  pub seek-past : (getD w (520 * p) 0 ≡ 1 → ⊥) → Seeking w n f (p + len)
+  pub seek-past : (getD w (pageWords * p) 0 ≡ 1 → ⊥) → Seeking w n f (p + len)
   seek-past e = subst (λ l. Seeking w n f (p + l)) (sym size) (runPages (k .x), past (i .1) k 0 (run-past p (k .x) (k .rest) (λ q. e (k .read .kind ∙ q))))
 
-  pub seek-hit : getD w (520 * p) 0 ≡ 1 → Run p len ≡ f
+  pub seek-hit : getD w (pageWords * p) 0 ≡ 1 → Run p len ≡ f
   seek-hit e = ap (Run p) size ∙ sym (run-here p (k .x) (k .rest) (sym (k .read .kind) ∙ e)) ∙ at-it (i .1) k
 
 -- The search ---------------------------------------------------------------------------------------------------------------------
@@ -76,7 +77,7 @@ no-run : (p need : ℕ) (l : List (Segment Zone)) → found (firstRun p l) ≡ N
 no-run p need [] e = refl
 no-run p need (run k ∷ r) e = absurd (let q : Run p k ≡ Nothing = sym (run-here p (run k) r refl) ∙ e in let z : _≡_ {A = ℕ} 0 1 = cc in omega arith)
 no-run p need (direct k g ∷ r) e = no-run (p + k) need r e
-no-run p need (zone z ∷ r) e = no-run (p + 8) need r e
+no-run p need (zone z ∷ r) e = no-run (p + zonePages) need r e
 
 -- The segments l, which begin at page p, up to their first run, and the search from there on.
 record Reaches (p need : ℕ) (l : List (Segment Zone)) (at len : ℕ) : Type 0 where
@@ -97,7 +98,7 @@ reaches p need (run k ∷ r) at len e =
     let b : k ≡ len = cc in
     record { pre = []; post = r; whole = ap (λ j. run j ∷ r) b; starts = omega arith; same = λ i. firstFit (a i) need (run (b i) ∷ r) }
 reaches p need (direct k g ∷ r) at len e = reaches-behind (direct k g) refl (reaches (p + k) need r at len e)
-reaches p need (zone z ∷ r) at len e = reaches-behind (zone z) refl (reaches (p + 8) need r at len e)
+reaches p need (zone z ∷ r) at len e = reaches-behind (zone z) refl (reaches (p + zonePages) need r at len e)
 
 -- A turn: the next run f behind page p.
 module _ {w : List ℕ} {n need p : ℕ} {f : Found} (i : Searching w n need p) (next-is : f ≡ found (firstRun p (i .1 .left))) where
@@ -111,7 +112,7 @@ module _ {w : List ℕ} {n need p : ℕ} {f : Found} (i : Searching w n need p) 
     from-stop : Passed (segmentsOf w) at (runAtEnd (i .0) (stop .pre)) (run len ∷ stop .post)
     from-stop = passed-on (stop .pre) (stop .whole) (stop .starts) (i .1 .passed)
 
-    pub run-inside : (0 < len) × (p ≤ at) × (at + len ≤ n) × (n ≤ 256)
+    pub run-inside : (0 < len) × (p ≤ at) × (at + len ≤ n) × (n ≤ mostPages)
     run-inside = let r = read-at (i .1 .encodes) (passed-stands (run len) (stop .post) from-stop) in
         (r .ok .0, omega (arith, stop .starts), r .inside, r .few)
 
@@ -163,14 +164,14 @@ module _ {w : List ℕ} {n p b : ℕ} {x : Segment Zone} (h : Holds w n) (s : St
       go (more y r q t) = absurd (omega (arith, t .ok .0, t .inside))
 
   -- The words there can be read.
-  pub read-behind : p + pages x < n → (520 * (p + pages x) + 520 ≤ length w) × (n ≤ 256)
+  pub read-behind : p + pages x < n → (pageWords * (p + pages x) + pageWords ≤ length w) × (n ≤ mostPages)
   read-behind e = go (behind-it h s)
     where
-      go : Behind w n p x (s .behind) → (520 * (p + pages x) + 520 ≤ length w) × (n ≤ 256)
+      go : Behind w n p x (s .behind) → (pageWords * (p + pages x) + pageWords ≤ length w) × (n ≤ mostPages)
       go (last q t) = absurd (omega arith)
       go (more y r q t) = (omega (arith, t .ok .0, t .inside, t .long), t .few)
 
-  pub run-behind : p + pages x < n → getD w (520 * (p + pages x)) 0 ≡ 1 → getD w (520 * (p + pages x) + 1) 0 ≡ runAtStart (s .behind)
+  pub run-behind : p + pages x < n → getD w (pageWords * (p + pages x)) 0 ≡ 1 → getD w (pageWords * (p + pages x) + 1) 0 ≡ runAtStart (s .behind)
   run-behind e k = go (behind-it h s)
     where
       is-run : (y : Segment Zone) → kindOf y ≡ 1 → pages y ≡ runPages y
@@ -178,11 +179,11 @@ module _ {w : List ℕ} {n p b : ℕ} {x : Segment Zone} (h : Holds w n) (s : St
       is-run (direct i g) f = absurd (omega arith)
       is-run (zone z) f = absurd (omega arith)
 
-      go : Behind w n p x (s .behind) → getD w (520 * (p + pages x) + 1) 0 ≡ runAtStart (s .behind)
+      go : Behind w n p x (s .behind) → getD w (pageWords * (p + pages x) + 1) 0 ≡ runAtStart (s .behind)
       go (last q t) = absurd (omega arith)
       go (more y r q t) = let one : kindOf y ≡ 1 = sym (t .kind) ∙ k in t .size (λ z. omega arith) ∙ is-run y one ∙ ap runAtStart (sym q)
 
-  pub other-behind : p + pages x < n → (getD w (520 * (p + pages x)) 0 ≡ 1 → ⊥) → 0 ≡ runAtStart (s .behind)
+  pub other-behind : p + pages x < n → (getD w (pageWords * (p + pages x)) 0 ≡ 1 → ⊥) → 0 ≡ runAtStart (s .behind)
   other-behind e k = go (behind-it h s)
     where
       no-run : (y : Segment Zone) → (kindOf y ≡ 1 → ⊥) → 0 ≡ runPages y

@@ -10,6 +10,7 @@ use borrow.Author.Tests.{ltb-true, ltb-false, lt-ltb}
 use lib.ListN.{length, getD, drop}
 use lib.Seq.{getD-drop}
 use Rattle.lemmas.proofs.Cases.{bool}
+use Rattle.model.specs.Numbers.{pageWords}
 use Rattle.model.specs.Arena.{Segment, run, direct, zone, pages, bytes, total, Place, locate}
 use Rattle.model.specs.Zone.{Zone}
 use Rattle.model.proofs.Arena.{locate-right}
@@ -44,5 +45,5 @@ stands-locate {m} {p} {b} {x} s o d e h =
     ∙ rw (lt-ltb d (bytes x) h)
 
 -- The group of a direct block.
-pub group-read : {w : List ℕ} {n p k g : ℕ} → Read w n p (direct k g) → getD w (520 * p + 2) 0 ≡ g
-group-read {w} {n} {p} {k} {g} r = sym (getD-drop (520 * p) w 2 0) ∙ ap (λ l. getD l 2 0) (r .words) ∙ group-is k g (drop (520 * (p + k)) w)
+pub group-read : {w : List ℕ} {n p k g : ℕ} → Read w n p (direct k g) → getD w (pageWords * p + 2) 0 ≡ g
+group-read {w} {n} {p} {k} {g} r = sym (getD-drop (pageWords * p) w 2 0) ∙ ap (λ l. getD l 2 0) (r .words) ∙ group-is k g (drop (pageWords * (p + k)) w)

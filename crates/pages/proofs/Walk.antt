@@ -7,6 +7,7 @@ use native.Mathlib.Omega.{arith}
 use native.Mathlib.Nat.{add-zero}
 use lib.ListN.{length, getD, drop}
 use lib.Seq.{drop-at, drop-drop, getD-drop}
+use Rattle.model.specs.Numbers.{mostPages, pageWords}
 use Rattle.model.specs.Arena.{Segment, run, pages, total, Each}
 use Rattle.model.specs.Zone.{Zone}
 use Rattle.model.proofs.Arena.{total-append}
@@ -15,17 +16,17 @@ use Rattle.pages.specs.Decoding.{segmentsOf, Encodes, Holds}
 use Rattle.pages.specs.Places.{runPages, runAtEnd, Stands, Passed}
 use Rattle.pages.proofs.Laws.{length-segments, encoding-append, kind-is, size-is, drop-segment, each-left, each-right}
 
-pub encodes-length : {w : List ℕ} {m : List (Segment Zone)} {n : ℕ} → Encodes w m n → length w ≡ 520 * n
-encodes-length {w} {m} {n} h = ap length (h .words) ∙ length-segments m (h .sound) ∙ ap (λ k. 520 * k) (h .covers)
+pub encodes-length : {w : List ℕ} {m : List (Segment Zone)} {n : ℕ} → Encodes w m n → length w ≡ pageWords * n
+encodes-length {w} {m} {n} h = ap length (h .words) ∙ length-segments m (h .sound) ∙ ap (λ k. pageWords * k) (h .covers)
 
 -- What the words say of a segment x that begins at page p.
 pub record Read (w : List ℕ) (n p : ℕ) (x : Segment Zone) : Type 0 where
-  pub long : length w ≡ 520 * n
-  pub few : n ≤ 256
+  pub long : length w ≡ pageWords * n
+  pub few : n ≤ mostPages
   pub ok : Writable x
-  pub kind : getD w (520 * p) 0 ≡ kindOf x
-  pub size : (kindOf x ≡ 3 → ⊥) → getD w (520 * p + 1) 0 ≡ pages x
-  pub words : drop (520 * p) w ≡ segmentEncoding x ++ drop (520 * (p + pages x)) w
+  pub kind : getD w (pageWords * p) 0 ≡ kindOf x
+  pub size : (kindOf x ≡ 3 → ⊥) → getD w (pageWords * p + 1) 0 ≡ pages x
+  pub words : drop (pageWords * p) w ≡ segmentEncoding x ++ drop (pageWords * (p + pages x)) w
   pub inside : p + pages x ≤ n
 
 -- The words from page p on are those of `a ++ (x ∷ b)` behind a.
@@ -35,15 +36,15 @@ read-at {w} {m} {n} {p} {b} {x} h s =
     let sound : Each Writable (s .before ++ (x ∷ s .behind)) = subst (λ l. Each Writable l) (s .whole) (h .sound) in
     let ok : Writable x = (each-right (s .before) (x ∷ s .behind) sound) .0 in
     let words : w ≡ segmentsEncoding (s .before) ++ (segmentEncoding x ++ segmentsEncoding (s .behind)) = h .words ∙ ap segmentsEncoding (s .whole) ∙ encoding-append (s .before) (x ∷ s .behind) in
-    let front : length (segmentsEncoding (s .before)) ≡ 520 * p = length-segments (s .before) (each-left (s .before) (x ∷ s .behind) sound) ∙ ap (λ k. 520 * k) (s .starts) in
-    let from : drop (520 * p) w ≡ segmentEncoding x ++ segmentsEncoding (s .behind) = ap (drop (520 * p)) words ∙ drop-at (segmentsEncoding (s .before)) (segmentEncoding x ++ segmentsEncoding (s .behind)) (520 * p) front in
-    let after : drop (520 * (p + pages x)) w ≡ segmentsEncoding (s .behind) = ap (λ k. drop k w) (let q : 520 * (p + pages x) ≡ 520 * p + 520 * pages x = omega arith in q) ∙ sym (drop-drop (520 * pages x) (520 * p) w) ∙ ap (drop (520 * pages x)) from ∙ drop-segment x (segmentsEncoding (s .behind)) (ok .0) in
+    let front : length (segmentsEncoding (s .before)) ≡ pageWords * p = length-segments (s .before) (each-left (s .before) (x ∷ s .behind) sound) ∙ ap (λ k. pageWords * k) (s .starts) in
+    let from : drop (pageWords * p) w ≡ segmentEncoding x ++ segmentsEncoding (s .behind) = ap (drop (pageWords * p)) words ∙ drop-at (segmentsEncoding (s .before)) (segmentEncoding x ++ segmentsEncoding (s .behind)) (pageWords * p) front in
+    let after : drop (pageWords * (p + pages x)) w ≡ segmentsEncoding (s .behind) = ap (λ k. drop k w) (let q : pageWords * (p + pages x) ≡ pageWords * p + pageWords * pages x = omega arith in q) ∙ sym (drop-drop (pageWords * pages x) (pageWords * p) w) ∙ ap (drop (pageWords * pages x)) from ∙ drop-segment x (segmentsEncoding (s .behind)) (ok .0) in
     record {
       long = encodes-length h;
       few = h .most;
       ok = ok;
-      kind = ap (λ i. getD w i 0) (sym (add-zero (520 * p))) ∙ sym (getD-drop (520 * p) w 0 0) ∙ ap (λ l. getD l 0 0) from ∙ kind-is x (segmentsEncoding (s .behind));
-      size = λ k. sym (getD-drop (520 * p) w 1 0) ∙ ap (λ l. getD l 1 0) from ∙ size-is x (segmentsEncoding (s .behind)) k;
+      kind = ap (λ i. getD w i 0) (sym (add-zero (pageWords * p))) ∙ sym (getD-drop (pageWords * p) w 0 0) ∙ ap (λ l. getD l 0 0) from ∙ kind-is x (segmentsEncoding (s .behind));
+      size = λ k. sym (getD-drop (pageWords * p) w 1 0) ∙ ap (λ l. getD l 1 0) from ∙ size-is x (segmentsEncoding (s .behind)) k;
       words = from ∙ ap (λ l. segmentEncoding x ++ l) (sym after);
       inside = omega (arith, h .covers, s .starts, ap (λ l. total l) (s .whole), total-append (s .before) (x ∷ s .behind));
     }
@@ -86,8 +87,8 @@ passed-total {m} {p} {b} {post} h = omega (arith, ap (λ l. total l) (h .whole),
 -- hand, of the segments left is the result e of the whole.
 pub record Walk {A R : Type 0} (f : A → ℕ → ℕ → List (Segment Zone) → R) (w : List ℕ) (n : ℕ) (e : R) (a : A) (b p : ℕ) : Type 0 where
   pub encodes : Holds w n
-  pub long : length w ≡ 520 * n
-  pub few : n ≤ 256
+  pub long : length w ≡ pageWords * n
+  pub few : n ≤ mostPages
   pub left : List (Segment Zone)
   pub passed : Passed (segmentsOf w) p b left
   pub same : f a b p left ≡ e

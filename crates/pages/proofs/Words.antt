@@ -7,6 +7,7 @@ use lib.ListN.{length, getD, take, drop, set, length-set, length-drop}
 use lib.Seq.{ext-getD, getD-set-same, getD-set-other, length-take-le, getD-take, getD-drop}
 use Rattle.lemmas.specs.Zeros.{zeros, Zero}
 use Rattle.lemmas.proofs.Zeros.{length-zeros, getD-zeros, zeros-add, zero-set, zeros-zero, is-zeros}
+use Rattle.model.specs.Numbers.{mostPages, pageWords}
 use Rattle.model.specs.Arena.{Segment, run, direct, zone, pages}
 use Rattle.model.specs.Zone.{Zone}
 use Rattle.model.specs.Pages.{withRun}
@@ -15,13 +16,13 @@ use Rattle.pages.specs.Places.{Blank}
 use Rattle.pages.proofs.Laws.{length-segment, encoding-one}
 
 -- A run's words behind the first two, and a direct block's behind the first three, are zero.
-pub run-zero : (n : ℕ) → Zero (segmentEncoding (run n)) 2 (520 * n)
+pub run-zero : (n : ℕ) → Zero (segmentEncoding (run n)) 2 (pageWords * n)
 unfolding segmentEncoding
-run-zero n = record { at = λ i a b. ap (λ k. getD (1 ∷ n ∷ zeros (520 * n - 2)) k 0) (let q : i ≡ suc (suc (i - 2)) = omega arith in q) ∙ getD-zeros (520 * n - 2) (i - 2) }
+run-zero n = record { at = λ i a b. ap (λ k. getD (1 ∷ n ∷ zeros (pageWords * n - 2)) k 0) (let q : i ≡ suc (suc (i - 2)) = omega arith in q) ∙ getD-zeros (pageWords * n - 2) (i - 2) }
 
-pub direct-zero : (n g : ℕ) → Zero (segmentEncoding (direct n g)) 3 (520 * n)
+pub direct-zero : (n g : ℕ) → Zero (segmentEncoding (direct n g)) 3 (pageWords * n)
 unfolding segmentEncoding
-direct-zero n g = record { at = λ i a b. ap (λ k. getD (2 ∷ n ∷ g ∷ zeros (520 * n - 3)) k 0) (let q : i ≡ suc (suc (suc (i - 3))) = omega arith in q) ∙ getD-zeros (520 * n - 3) (i - 3) }
+direct-zero n g = record { at = λ i a b. ap (λ k. getD (2 ∷ n ∷ g ∷ zeros (pageWords * n - 3)) k 0) (let q : i ≡ suc (suc (suc (i - 3))) = omega arith in q) ∙ getD-zeros (pageWords * n - 3) (i - 3) }
 
 -- Words that say what a run's do are a run's; the same of a direct block.
 pub run-words : (w : List ℕ) (n : ℕ) → Blank w 2 n → getD w 0 0 ≡ 1 → getD w 1 0 ≡ n → w ≡ segmentEncoding (run n)
@@ -63,14 +64,14 @@ stored-direct w n g b =
     (getD-set-same u 2 g 0 (omega (arith, ub .long, b .some)))
 
 -- Zero words are blank.
-pub zeros-blank : (k n : ℕ) → 0 < n → n ≤ 256 → Blank (zeros (520 * n)) k n
-zeros-blank k n p q = record { long = length-zeros (520 * n); some = p; most = q; zero = zeros-zero (520 * n) k (520 * n) }
+pub zeros-blank : (k n : ℕ) → 0 < n → n ≤ mostPages → Blank (zeros (pageWords * n)) k n
+zeros-blank k n p q = record { long = length-zeros (pageWords * n); some = p; most = q; zero = zeros-zero (pageWords * n) k (pageWords * n) }
 
-pub zero-blank : (w : List ℕ) (k n : ℕ) → w ≡ zeros (520 * n) → 0 < n → n ≤ 256 → Blank w k n
+pub zero-blank : (w : List ℕ) (k n : ℕ) → w ≡ zeros (pageWords * n) → 0 < n → n ≤ mostPages → Blank w k n
 zero-blank w k n e p q = subst (λ l. Blank l k n) (sym e) (zeros-blank k n p q)
 
 -- The words of what is left of a run.
-pub rest-none : (n : ℕ) → n ≡ 0 → zeros (520 * n) ≡ segmentsEncoding (withRun n [])
+pub rest-none : (n : ℕ) → n ≡ 0 → zeros (pageWords * n) ≡ segmentsEncoding (withRun n [])
 unfolding segmentsEncoding zeros
 rest-none n e = rw e
 
@@ -79,16 +80,16 @@ rest-some zero h = absurd (omega arith)
 rest-some (suc n) h = sym (encoding-one (run (suc n)))
 
 -- A run's words, cut behind the first `need` pages.
-module _ (len need : ℕ) (p : 0 < need) (q : need ≤ len) (few : len ≤ 256) where
-  pub cut-low : Blank (take (520 * need) (segmentEncoding (run len))) 3 need
+module _ (len need : ℕ) (p : 0 < need) (q : need ≤ len) (few : len ≤ mostPages) where
+  pub cut-low : Blank (take (pageWords * need) (segmentEncoding (run len))) 3 need
   cut-low = record {
-    long = length-take-le (520 * need) (segmentEncoding (run len)) (omega (arith, length-segment (run len) (omega arith)));
+    long = length-take-le (pageWords * need) (segmentEncoding (run len)) (omega (arith, length-segment (run len) (omega arith)));
     some = p;
     most = omega arith;
-    zero = record { at = λ i a b. getD-take (520 * need) (segmentEncoding (run len)) i 0 b ∙ (run-zero len) .at i (omega arith) (omega arith) };
+    zero = record { at = λ i a b. getD-take (pageWords * need) (segmentEncoding (run len)) i 0 b ∙ (run-zero len) .at i (omega arith) (omega arith) };
   }
 
-  pub cut-high : drop (520 * need) (segmentEncoding (run len)) ≡ zeros (520 * (len - need))
-  cut-high = is-zeros (520 * (len - need)) (drop (520 * need) (segmentEncoding (run len)))
-      (length-drop (520 * need) (segmentEncoding (run len)) ∙ omega (arith, length-segment (run len) (omega arith)))
-      (λ i l. getD-drop (520 * need) (segmentEncoding (run len)) i 0 ∙ (run-zero len) .at (520 * need + i) (omega arith) (omega arith))
+  pub cut-high : drop (pageWords * need) (segmentEncoding (run len)) ≡ zeros (pageWords * (len - need))
+  cut-high = is-zeros (pageWords * (len - need)) (drop (pageWords * need) (segmentEncoding (run len)))
+      (length-drop (pageWords * need) (segmentEncoding (run len)) ∙ omega (arith, length-segment (run len) (omega arith)))
+      (λ i l. getD-drop (pageWords * need) (segmentEncoding (run len)) i 0 ∙ (run-zero len) .at (pageWords * need + i) (omega arith) (omega arith))

@@ -4,9 +4,9 @@ use Prim.Native.Nat.{ℕ, zero, suc, _+_, _*_, _≤_}
 use mathlib.Core.Path.{_≡_}
 use mathlib.Core.List.{List, [], _∷_}
 use lib.ListN.{length, getD, take, drop}
+use Rattle.model.specs.Numbers.{mostPages, pageWords}
 use Rattle.model.specs.Arena.{Segment, run, direct, zone, pages, total, Each}
 use Rattle.model.specs.Zone.{Zone}
-use Rattle.model.specs.Perform.{pageWords}
 use Rattle.zone.specs.Encoding.{zoneWords}
 use Rattle.zone.specs.Decoding.{zoneOf}
 use Rattle.pages.specs.Encoding.{segmentsEncoding, Writable}
@@ -34,7 +34,7 @@ pub record Encodes (w : List ℕ) (m : List (Segment Zone)) (n : ℕ) : Type 0 w
   pub words : w ≡ segmentsEncoding m
   pub sound : Each Writable m
   pub covers : total m ≡ n
-  pub most : n ≤ 256
+  pub most : n ≤ mostPages
 
 -- The words are those of some segments of n pages.
 abbrev pub Holds : List ℕ → ℕ → Type 0

@@ -7,10 +7,10 @@
 use Prim.Native.Nat.{ℕ, _+_, _-_, _*_, _<_}
 use mathlib.Core.List.{List, [], _∷_, _++_}
 use Rattle.lemmas.specs.Zeros.{zeros}
+use Rattle.model.specs.Numbers.{pageWords}
 use Rattle.model.specs.Arena.{Segment, run, direct, zone, pages}
 use Rattle.model.specs.Zone.{Zone}
 use Rattle.model.specs.Valid.{ValidSegment}
-use Rattle.model.specs.Perform.{pageWords}
 use Rattle.zone.specs.Encoding.{kindZone, zoneEncoding}
 
 -- What stands in a segment's first word.

@@ -7,7 +7,7 @@ use lib.ListN.{getD, take, drop}
 use Rattle.lemmas.specs.Every.{every}
 use Rattle.lemmas.specs.Parts.{mid}
 use Rattle.lemmas.specs.Zeros.{isZero}
-use Rattle.model.specs.Perform.{pageWords}
+use Rattle.model.specs.Numbers.{zonePages, mostGroup, pageWords}
 use Rattle.zone.specs.Encoding.{kindZone, zoneWords}
 use Rattle.zone.specs.Decoding.{isZone}
 use Rattle.pages.specs.Encoding.{kindRun, kindDirect}
@@ -21,12 +21,12 @@ abbrev pub sizeIf : ℕ → List ℕ → Bool → ℕ
 sizeIf n w t = cond (leb 1 (getD w 1 0) && leb (getD w 1 0) n && t) (getD w 1 0) 0
 
 abbrev pub groupIn : List ℕ → Bool
-groupIn w = leb 1 (getD w 2 0) && leb (getD w 2 0) 12
+groupIn w = leb 1 (getD w 2 0) && leb (getD w 2 0) mostGroup
 
 -- The pages of the valid segment, of at most n pages, with which the words begin; 0 where they begin with none.
 unfoldable pub sizeAt : ℕ → List ℕ → ℕ
 sizeAt n w =
-    cond (eqb (getD w 0 0) kindZone) (cond (leb 8 n && isZone (take zoneWords w)) 8 0)
+    cond (eqb (getD w 0 0) kindZone) (cond (leb zonePages n && isZone (take zoneWords w)) zonePages 0)
     (cond (eqb (getD w 0 0) kindRun) (sizeIf n w (zeroFrom 2 (getD w 1 0) w))
     (cond (eqb (getD w 0 0) kindDirect) (sizeIf n w (groupIn w && zeroFrom 3 (getD w 1 0) w)) 0))
 

@@ -7,10 +7,10 @@ use mathlib.Core.Bool.{Bool, true, false, cond}
 use lib.Dec.{ltb}
 use lib.ListN.{length}
 use Rattle.lemmas.specs.Zeros.{Zero}
+use Rattle.model.specs.Numbers.{mostPages, pageWords}
 use Rattle.model.specs.Arena.{Segment, run, direct, zone, pages, total}
 use Rattle.model.specs.Zone.{Zone}
 use Rattle.model.specs.Pages.{FreeRun, firstFit}
-use Rattle.model.specs.Perform.{pageWords}
 use Rattle.pages.specs.declared.Found.{Found}
 use Rattle.pages.specs.declared.Found.the-variants.{Run, Nothing}
 use Rattle.pages.specs.declared.Spot.{Spot}
@@ -69,5 +69,5 @@ spotFrom q b p (x ∷ r) =
 pub record Blank (w : List ℕ) (k n : ℕ) : Type 0 where
   pub long : length w ≡ pageWords * n
   pub some : 0 < n
-  pub most : n ≤ 256
+  pub most : n ≤ mostPages
   pub zero : Zero w k (pageWords * n)

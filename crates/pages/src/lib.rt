@@ -16,6 +16,8 @@ ghost use Rattle.pages.specs.Encoding.{kindOf, segmentEncoding, segments
 ghost use Rattle.pages.specs.Decoding.{segmentsOf, Holds};
 ghost use Rattle.lemmas.specs.Zeros.{zeros};
 ghost use Rattle.pages.specs.Places.{found, runPages, runAtEnd, runAtStart, Stands, Passed, firstRun, spotFrom, Blank};
+ghost use Rattle.model.specs.Numbers.{zonePages, mostPages, pageWords};
+ghost use Rattle.zone.specs.Encoding.{zoneWords};
 use zone::layout::KIND_ZONE;
 
 // What the search for pages finds: a free run, or none that is long enough.
@@ -183,7 +185,7 @@ fn put_direct(part: &mut [u32], n: usize, group: u32)
 
 // What is left of a run: no words, or zero words that become those of a run.
 fn put_rest(part: &mut [u32], n: usize)
-    requires { ⌜ (now part ≡ zeros (520 * n)) × (n ≤ 256) ⌝ }
+    requires { ⌜ (now part ≡ zeros (pageWords * n)) × (n ≤ mostPages) ⌝ }
     ensures { λ _. ⌜ now (part .exit) ≡ segmentsEncoding (withRun n []) ⌝ }
 {
     if n == 0 {
@@ -194,7 +196,7 @@ fn put_rest(part: &mut [u32], n: usize)
 
 // Sets the words of n pages up as one free run, whatever they held.
 pub fn set_up(words: &mut [u32], n: usize)
-    requires { ⌜ (length (now words) ≡ 520 * n) × (0 < n) × (n ≤ 256) ⌝ }
+    requires { ⌜ (length (now words) ≡ pageWords * n) × (0 < n) × (n ≤ mostPages) ⌝ }
     ensures { λ _. ⌜ now (words .exit) ≡ segmentsEncoding (run n ∷ []) ⌝ }
 {
     scan::clear(words);
@@ -203,7 +205,7 @@ pub fn set_up(words: &mut [u32], n: usize)
 
 // The words of a run become those of a direct block in its low pages and of the rest.
 fn cut_direct(part: &mut [u32], len: usize, need: usize, group: u32)
-    requires { ⌜ (now part ≡ segmentEncoding (run len)) × (0 < need) × (need ≤ len) × (len ≤ 256) ⌝ }
+    requires { ⌜ (now part ≡ segmentEncoding (run len)) × (0 < need) × (need ≤ len) × (len ≤ mostPages) ⌝ }
     ensures { λ _. ⌜ now (part .exit) ≡ segmentsEncoding (direct need group ∷ withRun (len - need) []) ⌝ }
 {
     let m = PAGE * need;
@@ -213,8 +215,8 @@ fn cut_direct(part: &mut [u32], len: usize, need: usize, group: u32)
 
 // The words of a run become those of a zone set up in its low pages, its chunk 0 granted to the group, and of the rest.
 fn cut_zone(part: &mut [u32], len: usize, class: u32, group: u32)
-    requires { ⌜ (now part ≡ segmentEncoding (run len)) × (8 ≤ len) × (len ≤ 256) × (0 < group) ⌝ }
-    ensures { λ _. ⌜ now (part .exit) ≡ segmentsEncoding (zone (newZone class group) ∷ withRun (len - 8) []) ⌝ }
+    requires { ⌜ (now part ≡ segmentEncoding (run len)) × (zonePages ≤ len) × (len ≤ mostPages) × (0 < group) ⌝ }
+    ensures { λ _. ⌜ now (part .exit) ≡ segmentsEncoding (zone (newZone class group) ∷ withRun (len - zonePages) []) ⌝ }
 {
     let m = PAGE * ZONE_PAGES;
     zone::set_up(&mut part[..m], class, group);
@@ -235,8 +237,8 @@ pub fn take_direct(words: &mut [u32], n: usize, at: usize, len: usize, need: usi
 // The run at page `at` gives its low 8 pages to a zone, set up for the class with its chunk 0 granted to the group.
 pub fn take_zone(words: &mut [u32], n: usize, at: usize, len: usize, class: u32, group: u32)
     requires { ⌜ Holds (now words) n ⌝ }
-    requires { ⌜ ((b : ℕ) × Stands (segmentsOf (now words)) at b (run len) × (8 ≤ len) × (0 < group)) ⌝ }
-    ensures { λ _. ⌜ now (words .exit) ≡ segmentsEncoding (carve (record { page = at; size = len }) 8 (zone (newZone class group)) (segmentsOf (now (words .entry)))) ⌝ }
+    requires { ⌜ ((b : ℕ) × Stands (segmentsOf (now words)) at b (run len) × (zonePages ≤ len) × (0 < group)) ⌝ }
+    ensures { λ _. ⌜ now (words .exit) ≡ segmentsEncoding (carve (record { page = at; size = len }) zonePages (zone (newZone class group)) (segmentsOf (now (words .entry)))) ⌝ }
 {
     let a = PAGE * at;
     let e = a + PAGE * len;
@@ -271,7 +273,7 @@ fn erase_rest(part: &mut [u32])
 
 // The words of a segment of `len` pages between runs of `before` and `after` pages (0: none) become those of one run.
 fn fuse(part: &mut [u32], before: usize, len: usize, after: usize)
-    requires { ⌜ ((x : Segment Zone) × (pages x ≡ len) × (0 < len) × (before + len + after ≤ 256) × (now part ≡ segmentsEncoding (withRun before (x ∷ withRun after [])))) ⌝ }
+    requires { ⌜ ((x : Segment Zone) × (pages x ≡ len) × (0 < len) × (before + len + after ≤ mostPages) × (now part ≡ segmentsEncoding (withRun before (x ∷ withRun after [])))) ⌝ }
     ensures { λ _. ⌜ now (part .exit) ≡ segmentEncoding (run (before + len + after)) ⌝ }
 {
     let m = PAGE * before;
@@ -297,7 +299,7 @@ pub fn give_back(words: &mut [u32], n: usize, at: usize, len: usize, before: usi
 
 // The pages of the valid segment, of at most `left` pages, with which the words begin, or 0.
 fn segment_size(words: &[u32], left: usize) -> usize
-    requires { ⌜ (length (now words) ≡ 520 * left) × (0 < left) × (left ≤ 256) ⌝ }
+    requires { ⌜ (length (now words) ≡ pageWords * left) × (0 < left) × (left ≤ mostPages) ⌝ }
     ensures { λ r. ⌜ r ≡ sizeAt left (now (words .entry)) ⌝ }
 {
     let kind = words[0];
@@ -340,8 +342,8 @@ fn pages_if(test: bool, len: usize) -> usize
 
 // The same for a zone.
 fn zone_size(words: &[u32], left: usize) -> usize
-    requires { ⌜ (length (now words) ≡ 520 * left) × (left ≤ 256) ⌝ }
-    ensures { λ r. ⌜ r ≡ cond (leb 8 left && isZone (take 4160 (now (words .entry)))) 8 0 ⌝ }
+    requires { ⌜ (length (now words) ≡ pageWords * left) × (left ≤ mostPages) ⌝ }
+    ensures { λ r. ⌜ r ≡ cond (leb zonePages left && isZone (take zoneWords (now (words .entry)))) zonePages 0 ⌝ }
 {
     if left < ZONE_PAGES {
         return 0;
@@ -352,7 +354,7 @@ fn zone_size(words: &[u32], left: usize) -> usize
 
 // Whether the words are those of valid segments of n pages, no two runs of which touch. Each word is read once.
 pub fn check(words: &[u32], n: usize) -> bool
-    requires { ⌜ (length (now words) ≡ 520 * n) × (n ≤ 256) ⌝ }
+    requires { ⌜ (length (now words) ≡ pageWords * n) × (n ≤ mostPages) ⌝ }
     ensures { λ r. ⌜ r ≡ legalSegments n (now (words .entry)) ⌝ }
 {
     let mut p: usize = 0;

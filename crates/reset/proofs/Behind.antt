@@ -5,6 +5,7 @@ use mathlib.Core.List.{List, [], _∷_, _++_, append-assoc}
 use mathlib.Core.Bool.{false}
 use native.Mathlib.Omega.{arith}
 use lib.ListN.{length}
+use Rattle.model.specs.Numbers.{mostPages}
 use Rattle.model.specs.Arena.{Segment, run, pages, total, Each}
 use Rattle.model.specs.Zone.{Zone}
 use Rattle.model.specs.State.{State}
@@ -24,7 +25,7 @@ use Rattle.reset.specs.Sweep.{offsetsAt, Sweep}
 use Rattle.reset.proofs.Offsets.{at-free}
 
 -- The run of which the pages of a segment that comes back become part.
-pub joined-run : (m : List (Segment Zone)) (p b : ℕ) (x : Segment Zone) → Apart false m → Each ValidSegment m → total m ≤ 256 → (s : Stands m p b x) → runPages x ≡ 0 → Joined m p b (pages x) (s .behind)
+pub joined-run : (m : List (Segment Zone)) (p b : ℕ) (x : Segment Zone) → Apart false m → Each ValidSegment m → total m ≤ mostPages → (s : Stands m p b x) → runPages x ≡ 0 → Joined m p b (pages x) (s .behind)
 joined-run m p b x a v h s e =
     let k : Encodes (segmentsEncoding m) m (total m) = record { words = refl; sound = all-writable false m a v; covers = refl; most = h } in
     given-run k a s refl e

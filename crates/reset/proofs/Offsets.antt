@@ -10,6 +10,7 @@ use lib.ListN.{length, getD, set, drop, length-append}
 use lib.Seq.{drop-cons}
 use borrow.Author.Tests.{eq-eqb, ne-eqb}
 use Rattle.lemmas.proofs.Cases.{bool, true-false}
+use Rattle.model.specs.Numbers.{zonePages}
 use Rattle.model.specs.Sizes.{room, chunks}
 use Rattle.model.specs.Arena.{Segment, run, direct, zone, total, Each}
 use Rattle.model.specs.Zone.{Zone, putBack}
@@ -37,8 +38,8 @@ module _ (g p : ℕ) (r : List (Segment Zone)) where
   pub at-direct : (k : ℕ) → offsetsAt g p (direct k g ∷ r) ≡ (p * 4096) ∷ offsetsAt g (p + k) r
   at-direct k = rw (eq-eqb g g refl) (ap (λ q. (p * 4096) ∷ offsetsFrom g q (shown r)) (sym (on k ((p + k) * 4096) refl)))
 
-  pub at-zone : (z : Zone) → offsetsAt g p (zone z ∷ r) ≡ offsetsIn g p 0 z ++ offsetsAt g (p + 8) r
-  at-zone z = λ j. chunkOffsets g (from j) (room (z .class)) (occupancy z .groups) ++ offsetsFrom g ((sym (on 8 ((p + 8) * 4096) refl)) j) (shown r)
+  pub at-zone : (z : Zone) → offsetsAt g p (zone z ∷ r) ≡ offsetsIn g p 0 z ++ offsetsAt g (p + zonePages) r
+  at-zone z = λ j. chunkOffsets g (from j) (room (z .class)) (occupancy z .groups) ++ offsetsFrom g ((sym (on 8 ((p + zonePages) * 4096) refl)) j) (shown r)
     where
       from : p * 4096 ≡ p * 4096 + 0 * room (z .class)
       from = omega (arith, zero-mul (room (z .class)))
@@ -122,5 +123,5 @@ few-offsets g o [] h = omega arith
 few-offsets g o (run k ∷ r) h = let e = few-offsets g (o + k * 4096) r (h .1) in omega arith
 few-offsets g o (direct k x ∷ r) h = let e = few-offsets g (o + k * 4096) r (h .1) in let p = h .0 .0 in bool (eqb x g) (λ t. rw t (omega arith)) (λ t. rw t (omega arith))
 few-offsets g o (zone z ∷ r) h =
-    let e = few-offsets g (o + 8 * 4096) r (h .1) in
-    omega (arith, length-append (chunkOffsets g o (room (z .class)) (occupancy z .groups)) (offsetsFrom g (o + 8 * 4096) (shown r)), few-chunks g o (room (z .class)) (occupancy z .groups), padded-length (chunks (z .class)) (z .owners), chunks-most (z .class))
+    let e = few-offsets g (o + zonePages * 4096) r (h .1) in
+    omega (arith, length-append (chunkOffsets g o (room (z .class)) (occupancy z .groups)) (offsetsFrom g (o + zonePages * 4096) (shown r)), few-chunks g o (room (z .class)) (occupancy z .groups), padded-length (chunks (z .class)) (z .owners), chunks-most (z .class))

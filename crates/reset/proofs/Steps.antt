@@ -6,6 +6,7 @@ use mathlib.Core.Bool.{Bool, true, false}
 use native.Mathlib.Omega.{arith}
 use lib.ListN.{length, getD}
 use Rattle.lemmas.proofs.Cases.{some-inj}
+use Rattle.model.specs.Numbers.{zonePages, mostPages}
 use Rattle.model.specs.Arena.{Segment, run, direct, zone, pages}
 use Rattle.model.specs.Zone.{Zone, touched, putBack}
 use Rattle.model.specs.State.{State, zoneAt, putZone}
@@ -81,7 +82,7 @@ module _ {g c n p b k : ℕ} {t : State} {w : List ℕ} (i : Sweep g t c w n p b
   pub step-on : (len next : ℕ) → len ≡ pages (h .x) → next ≡ p + len → p < next
   step-on len next el en = omega (arith, el, en, has-pages (i .good .lent) (here-stands i h))
 
-  pub step-inside : (p + pages (h .x) ≤ n) × (n ≤ 256)
+  pub step-inside : (p + pages (h .x) ≤ n) × (n ≤ mostPages)
   step-inside = (omega (arith, pages-most (h .x) (i .before) (h .rest) (decode w .segments) (here-stands i h .whole), i .starts, i .good .pages), omega (arith, i .good .pages, i .good .valid .most))
 
 -- Over the chunks of a zone that has handed out T ------------------------------------------------------------------------------------
@@ -121,7 +122,7 @@ module _ {g c n p b T j i k : ℕ} {t : State} {w₀ w : List ℕ} (h : InZone g
   pub walk-long : length w ≡ length w₀
   walk-long = good-long (at .good) (h .good)
 
-  pub walk-few : p + 8 ≤ 256
+  pub walk-few : p + zonePages ≤ mostPages
   walk-few = omega (arith, pages-most (zone (at .z)) (at .stands .before) (at .stands .behind) (decode w .segments) (at .stands .whole), at .stands .starts, at .good .valid .most)
 
   owner-of : (t : State) (c j : ℕ) (q : InZone g t c w n p b i j) (r : ℕ) → r ≡ getD (zoneAt p (decode w .segments) .owners) i 0 → r ≡ getD (q .z .owners) i 0
@@ -130,7 +131,7 @@ module _ {g c n p b T j i k : ℕ} {t : State} {w₀ w : List ℕ} (h : InZone g
   touched-of : (t : State) (c j : ℕ) (q : InZone g t c w n p b i j) → touched (q .z) ≡ T
   touched-of t c j q = ap (λ y. touched y) (sym (zone-is (decode w) p b (q .z) (q .stands))) ∙ a .same
 
-  pub walk-done : 0 < g → T ≤ i → (next : ℕ) → next ≡ p + 8 → (t : State) (c l : ℕ) → InZone g t c w₀ n p b 0 l → Sweep g t c w n next 0 (l + k)
+  pub walk-done : 0 < g → T ≤ i → (next : ℕ) → next ≡ p + zonePages → (t : State) (c l : ℕ) → InZone g t c w₀ n p b 0 l → Sweep g t c w n next 0 (l + k)
   walk-done pos e next en t c l q = let x = a .now t c l q in zone-done x pos (omega (arith, touched-of t c (l + k) x)) next 0 (l + k) en refl refl
 
   module _ (r : ℕ) (e : r ≡ getD (zoneAt p (decode w .segments) .owners) i 0) (more : i < T) where

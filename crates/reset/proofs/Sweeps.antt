@@ -8,6 +8,7 @@ use native.Mathlib.Omega.{arith}
 use native.Mathlib.Nat.{mul-div-cancel, mul-mod-left}
 use lib.ListN.{length, getD, length-set}
 use borrow.Author.Tests.{eq-eqb}
+use Rattle.model.specs.Numbers.{zonePages}
 use Rattle.model.specs.Sizes.{room, chunks}
 use Rattle.model.specs.Arena.{Segment, direct, zone, pages, total, Each}
 use Rattle.model.specs.Zone.{Zone, touched, putBack}
@@ -127,7 +128,7 @@ module _ {g c n p b i k : ℕ} {t : State} {w : List ℕ} (h : InZone g t c w n 
   z = h .z
 
   abbrev tail : List ℕ
-  tail = offsetsAt g (p + 8) (h .stands .behind)
+  tail = offsetsAt g (p + zonePages) (h .stands .behind)
 
   ok : ValidZone z
   ok = zone-valid s p b z (h .stands) (h .good .valid)
@@ -146,7 +147,7 @@ module _ {g c n p b i k : ℕ} {t : State} {w : List ℕ} (h : InZone g t c w n 
   }
 
   -- Behind the last chunk.
-  pub zone-done : 0 < g → touched (h .z) ≤ i → (next before j : ℕ) → next ≡ p + 8 → before ≡ 0 → j ≡ k → Sweep g t c w n next before j
+  pub zone-done : 0 < g → touched (h .z) ≤ i → (next before j : ℕ) → next ≡ p + zonePages → before ≡ 0 → j ≡ k → Sweep g t c w n next before j
   zone-done pos l next before j en eb ej = let e = in-past g p i z pos l in record {
     good = h .good;
     before = h .stands .before ++ (zone z ∷ []);
@@ -253,10 +254,10 @@ module _ {g c n p b i k : ℕ} {t : State} {w : List ℕ} (h : InZone g t c w n 
         none-left : offsetsIn g p (i + 1) z ≡ []
         none-left = in-back g p i z ok ∙ in-idle g p (i + 1) (putBack i z) pos (ap (λ y. idleZone (putBack i y)) (sym is) ∙ m .1)
 
-        pub gone-rest : freedAll (offsetsAt g (p + 8) (h .stands .behind)) (decode v) ≡ t
+        pub gone-rest : freedAll (offsetsAt g (p + zonePages) (h .stands .behind)) (decode v) ≡ t
         gone-rest = ap (freedAll tail) decoded ∙ ap (λ x. freedAll (x ++ tail) s′) (sym none-left) ∙ after
 
-        pub gone-counted : k + 1 + length (offsetsAt g (p + 8) (h .stands .behind)) ≡ c
+        pub gone-counted : k + 1 + length (offsetsAt g (p + zonePages) (h .stands .behind)) ≡ c
         gone-counted = ap (λ x. k + 1 + length (x ++ tail)) (sym none-left) ∙ left
 
 -- A direct block ------------------------------------------------------------------------------------------------------------------

@@ -3,7 +3,8 @@ use Prim.Native.Nat.{ℕ, _+_, _*_}
 use mathlib.Core.Path.{_≡_}
 use mathlib.Core.List.{List, _++_}
 use lib.ListN.{length, drop}
-use Rattle.model.specs.Sizes.{room, pageBytes, zonePages}
+use Rattle.model.specs.Numbers.{pageBytes, zonePages}
+use Rattle.model.specs.Sizes.{room}
 use Rattle.model.specs.Arena.{Segment, zone, total}
 use Rattle.model.specs.Zone.{Zone}
 use Rattle.model.specs.State.{State}

@@ -10,6 +10,7 @@ use lib.ListN.{length, take, drop}
 use lib.Seq.{length-take-le}
 use Rattle.lemmas.specs.Parts.{mid}
 use Rattle.lemmas.proofs.Cases.{bool}
+use Rattle.model.specs.Numbers.{mostPages, headerWords, pageWords}
 use Rattle.model.specs.declared.Refusal.the-variants.{NoState}
 use Rattle.model.specs.declared.Call.{Call}
 use Rattle.model.specs.declared.Operation.{Operation}
@@ -20,7 +21,7 @@ use Rattle.model.specs.Valid.{Valid}
 use Rattle.model.specs.PageMap.{shown, pageMap}
 use Rattle.model.specs.Calls.{Action, group, listing, act, isRefused}
 use Rattle.model.specs.Listing.{listingText}
-use Rattle.model.specs.Perform.{serve, headerWords, pageWords, wordsFor}
+use Rattle.model.specs.Perform.{serve, wordsFor}
 use Rattle.header.specs.Encoding.{pagesIn}
 use Rattle.pages.specs.Decoding.{segmentsOf, Holds}
 use Rattle.listing.specs.Into.{listAnswer, listedInto}
@@ -86,7 +87,7 @@ module _ {w : List ℕ} {n : ℕ} (h : Arena w n) where
   arena-long : length (encode (decode w)) ≡ wordsFor n
   arena-long = encode-long (decode w) valid ∙ ap (λ k. wordsFor k) (sym (h .pages))
 
-  pub arena-few : n ≤ 256
+  pub arena-few : n ≤ mostPages
   arena-few = omega (arith, h .pages, valid .most)
 
   module _ (e : ℕ) (at : e ≡ wordsFor n) where

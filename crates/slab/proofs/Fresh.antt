@@ -11,14 +11,14 @@ use lib.Seq.{length-take-le, take-at, drop-at, drop-drop}
 use borrow.Author.Tests.{leb-true, le-leb, lt-leb}
 use Rattle.lemmas.specs.Parts.{putMid}
 use Rattle.lemmas.proofs.Cases.{and-left, and-right, and-both, refuted}
+use Rattle.model.specs.Numbers.{classCount, mostPages, headerWords}
 use Rattle.model.specs.declared.Refusal.the-variants.{BadPages, FewWords}
 use Rattle.model.specs.declared.Answer.the-variants.{Refused, Done}
 use Rattle.model.specs.Arena.{run, total}
 use Rattle.model.specs.State.{freshState}
 use Rattle.model.specs.Calls.{init, Outcome, answers, isRefused, provided}
-use Rattle.model.specs.Perform.{Metadata, headerWords, wordsFor, holding}
+use Rattle.model.specs.Perform.{Metadata, wordsFor, holding}
 use Rattle.model.proofs.Validity.{fresh-valid}
-use Rattle.header.specs.Keys.{classes}
 use Rattle.header.specs.Encoding.{headerEncoding}
 use Rattle.header.proofs.Encoded.{length-header}
 use Rattle.pages.specs.Encoding.{segmentsEncoding}
@@ -39,39 +39,39 @@ put-front a k w h g l =
     ∙ sym (append-assoc h g (drop (a + k) w))
 
 -- The words of the fresh state.
-fresh-encoded : (n : ℕ) → headerEncoding n [] (replicate classes []) ++ segmentsEncoding (run n ∷ []) ≡ encode (freshState n)
+fresh-encoded : (n : ℕ) → headerEncoding n [] (replicate classCount []) ++ segmentsEncoding (run n ∷ []) ≡ encode (freshState n)
 unfolding encode
-fresh-encoded n = ap (λ k. headerEncoding k [] (replicate classes []) ++ segmentsEncoding (run n ∷ [])) (let q : n ≡ total (freshState n .segments) = omega arith in q)
+fresh-encoded n = ap (λ k. headerEncoding k [] (replicate classCount []) ++ segmentsEncoding (run n ∷ [])) (let q : n ≡ total (freshState n .segments) = omega arith in q)
 
 module _ (w : List ℕ) (n : ℕ) where
   -- Init by the results of its two tests.
   abbrev tested : Bool → Bool → Outcome Metadata
   tested a b = provided a BadPages (viewOf w) (provided b FewWords (viewOf w) (answers (holding (viewOf w) (freshState n)) Done))
 
-  tested-answer : (a b : Bool) → (leb 1 n && leb n 256) ≡ a → leb (wordsFor n) (length w) ≡ b → (tested a b) .answer ≡ answerOf w (init n)
+  tested-answer : (a b : Bool) → (leb 1 n && leb n mostPages) ≡ a → leb (wordsFor n) (length w) ≡ b → (tested a b) .answer ≡ answerOf w (init n)
   unfolding answerOf
   tested-answer a b p q = λ i. (tested (sym p i) (sym q i)) .answer
 
-  tested-words : (a b : Bool) → (leb 1 n && leb n 256) ≡ a → leb (wordsFor n) (length w) ≡ b → written w ((tested a b) .after .state) ≡ metaAfter w (init n)
+  tested-words : (a b : Bool) → (leb 1 n && leb n mostPages) ≡ a → leb (wordsFor n) (length w) ≡ b → written w ((tested a b) .after .state) ≡ metaAfter w (init n)
   unfolding metaAfter
   tested-words a b p q = λ i. written w ((tested (sym p i) (sym q i)) .after .state)
 
   -- Refusal 1.
-  pub bad-answer : (leb 1 n && leb n 256) ≡ false → Refused BadPages ≡ answerOf w (init n)
+  pub bad-answer : (leb 1 n && leb n mostPages) ≡ false → Refused BadPages ≡ answerOf w (init n)
   bad-answer t = tested-answer false (leb (wordsFor n) (length w)) t refl
 
-  bad : (leb 1 n && leb n 256) ≡ false → (Refused BadPages ≡ answerOf w (init n)) × (w ≡ metaAfter w (init n))
+  bad : (leb 1 n && leb n mostPages) ≡ false → (Refused BadPages ≡ answerOf w (init n)) × (w ≡ metaAfter w (init n))
   bad t = (bad-answer t, sym (refused-same w (init n) (ap (λ r. isRefused r) (sym (bad-answer t)))))
 
   pub no-pages : n ≡ 0 → (Refused BadPages ≡ answerOf w (init n)) × (w ≡ metaAfter w (init n))
-  no-pages z = bad (refuted (leb 1 n && leb n 256) (λ t. omega (arith, leb-true 1 n (and-left (leb 1 n) (leb n 256) t))))
+  no-pages z = bad (refuted (leb 1 n && leb n mostPages) (λ t. omega (arith, leb-true 1 n (and-left (leb 1 n) (leb n mostPages) t))))
 
-  pub many-pages : 256 < n → (Refused BadPages ≡ answerOf w (init n)) × (w ≡ metaAfter w (init n))
-  many-pages h = bad (refuted (leb 1 n && leb n 256) (λ t. omega (arith, leb-true n 256 (and-right (leb 1 n) (leb n 256) t))))
+  pub many-pages : mostPages < n → (Refused BadPages ≡ answerOf w (init n)) × (w ≡ metaAfter w (init n))
+  many-pages h = bad (refuted (leb 1 n && leb n mostPages) (λ t. omega (arith, leb-true n mostPages (and-right (leb 1 n) (leb n mostPages) t))))
 
-  module _ (there : (n ≡ 0 → ⊥)) (few : n ≤ 256) where
-    legal : (leb 1 n && leb n 256) ≡ true
-    legal = and-both (leb 1 n) (leb n 256) (le-leb 1 n (omega (arith, there))) (le-leb n 256 few)
+  module _ (there : (n ≡ 0 → ⊥)) (few : n ≤ mostPages) where
+    legal : (leb 1 n && leb n mostPages) ≡ true
+    legal = and-both (leb 1 n) (leb n mostPages) (le-leb 1 n (omega (arith, there))) (le-leb n mostPages few)
 
     module _ (e : ℕ) (at : e ≡ wordsFor n) where
       -- Refusal 2.
@@ -94,10 +94,10 @@ module _ (w : List ℕ) (n : ℕ) where
       fresh-long : headerWords + (e - headerWords) ≡ length (encode (freshState n))
       fresh-long = omega (arith, at, fresh-words)
 
-      pub set-up-done : e ≤ length w → (h g : List ℕ) → h ≡ headerEncoding n [] (replicate classes []) → g ≡ segmentsEncoding (run n ∷ []) → (Done ≡ answerOf w (init n)) × (putMid headerWords (e - headerWords) (h ++ drop headerWords w) g ≡ metaAfter w (init n))
+      pub set-up-done : e ≤ length w → (h g : List ℕ) → h ≡ headerEncoding n [] (replicate classCount []) → g ≡ segmentsEncoding (run n ∷ []) → (Done ≡ answerOf w (init n)) × (putMid headerWords (e - headerWords) (h ++ drop headerWords w) g ≡ metaAfter w (init n))
       set-up-done l h g p q = (
         fresh-done l .0,
-        put-front headerWords (e - headerWords) w h g (ap length p ∙ length-header n [] (replicate classes []))
+        put-front headerWords (e - headerWords) w h g (ap length p ∙ length-header n [] (replicate classCount []))
             ∙ (λ i. (p i ++ q i) ++ drop (fresh-long i) w)
             ∙ ap (λ l. l ++ drop (length (encode (freshState n))) w) (fresh-encoded n)
             ∙ fresh-done l .1,

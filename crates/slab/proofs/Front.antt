@@ -10,10 +10,11 @@ use lib.ListN.{length, take, drop, length-take, take-append-drop}
 use lib.Seq.{getD-take, take-take, drop-append-le}
 use borrow.Author.Tests.{leb-true, leb-false, le-leb}
 use Rattle.lemmas.proofs.Cases.{bool, and-left, and-right, and-both, refuted, true-false}
+use Rattle.model.specs.Numbers.{mostPages, headerWords}
 use Rattle.model.specs.Arena.{total}
 use Rattle.model.specs.State.{State, freshState}
 use Rattle.model.specs.Calls.{Action, Command, init, act, isRefused}
-use Rattle.model.specs.Perform.{serve, headerWords, wordsFor}
+use Rattle.model.specs.Perform.{serve, wordsFor}
 use Rattle.header.specs.Encoding.{pagesIn}
 use Rattle.metadata.specs.Encoding.{encode, BeginsWith}
 use Rattle.metadata.specs.Decoding.{decode, isState, stateOf}
@@ -30,8 +31,8 @@ Alone w c k = (answerOf w c ≡ answerOf (take k w) c) × (metaAfter w c ≡ met
 pages-named : (a : ℕ) → 1 < a → (w : List ℕ) → pagesIn (take a w) ≡ pagesIn w
 pages-named a h w = getD-take a w 1 0 h
 
-legal-pages : (n : ℕ) → 1 ≤ n → n ≤ 256 → legalPages n ≡ n
-legal-pages n a b = rw (and-both (leb 1 n) (leb n 256) (le-leb 1 n a) (le-leb n 256 b))
+legal-pages : (n : ℕ) → 1 ≤ n → n ≤ mostPages → legalPages n ≡ n
+legal-pages n a b = rw (and-both (leb 1 n) (leb n mostPages) (le-leb 1 n a) (le-leb n mostPages b))
 
 module _ (w : List ℕ) (k : ℕ) where
   few : length (take k w) ≤ k
@@ -79,11 +80,11 @@ module _ (w : List ℕ) (k : ℕ) where
       ))
 
   init-front : (n : ℕ) → wordsFor (legalPages n) ≤ k → Alone w (init n) k
-  init-front n h = bool (leb 1 n && leb n 256)
-      (λ t. go (leb-true 1 n (and-left (leb 1 n) (leb n 256) t)) (leb-true n 256 (and-right (leb 1 n) (leb n 256) t)))
+  init-front n h = bool (leb 1 n && leb n mostPages)
+      (λ t. go (leb-true 1 n (and-left (leb 1 n) (leb n mostPages) t)) (leb-true n mostPages (and-right (leb 1 n) (leb n mostPages) t)))
       (λ t. let no = bad-answer w n t in refused-front (init n) (ap isRefused (sym no)) (sym no ∙ bad-answer (take k w) n t))
     where
-      go : 1 ≤ n → n ≤ 256 → Alone w (init n) k
+      go : 1 ≤ n → n ≤ mostPages → Alone w (init n) k
       go a b =
           let there : (n ≡ 0 → ⊥) = λ z. omega arith in
           let front : length (take k w) ≡ min k (length w) = length-take k w in

@@ -8,12 +8,12 @@ use mathlib.Core.List.{List, _++_}
 use mathlib.Core.Option.{none, some}
 use native.Mathlib.Omega.{arith}
 use lib.ListN.{length, take, drop}
+use Rattle.model.specs.Numbers.{pageBytes, mostPages}
 use Rattle.model.specs.declared.Refusal.the-variants.{NoState, ShortBuffer}
 use Rattle.model.specs.declared.Answer.the-variants.{Refused, Done, Counted}
 use mathlib.Core.Bool.{false}
 use Rattle.model.specs.declared.Operation.the-variants.{Allocate}
 use borrow.Author.Tests.{le-leb}
-use Rattle.model.specs.Sizes.{pageBytes}
 use Rattle.model.specs.Arena.{total}
 use Rattle.model.specs.State.{State, freshState}
 use Rattle.model.specs.PageMap.{pageMap, Block, roomOf, blockAt}
@@ -69,14 +69,14 @@ later-unread-text w b k h = ap (λ x. listedOf x b) (sym (front-state w k h))
 
 -- An init reads no word at all: it is refused by 1 for a number of pages that no arena has, by 2 if there are fewer words than the
 -- arena needs, and else sets them up, whatever they held.
-pub init-bad-pages : (w : List ℕ) (n : ℕ) → (n ≡ 0) ⊎ (256 < n) → RefusedBy 1 (answerOf w (init n))
+pub init-bad-pages : (w : List ℕ) (n : ℕ) → (n ≡ 0) ⊎ (mostPages < n) → RefusedBy 1 (answerOf w (init n))
 init-bad-pages w n (inl z) = ap reading (sym (no-pages w n z .0))
 init-bad-pages w n (inr h) = ap reading (sym (many-pages w n h .0))
 
-pub init-few-words : (w : List ℕ) (n : ℕ) → 1 ≤ n → n ≤ 256 → length w < wordsFor n → RefusedBy 2 (answerOf w (init n))
+pub init-few-words : (w : List ℕ) (n : ℕ) → 1 ≤ n → n ≤ mostPages → length w < wordsFor n → RefusedBy 2 (answerOf w (init n))
 init-few-words w n a b h = ap reading (sym (short-answer w n (λ z. omega arith) b (wordsFor n) refl h))
 
-pub init-fresh : (w : List ℕ) (n : ℕ) → 1 ≤ n → n ≤ 256 → wordsFor n ≤ length w →
+pub init-fresh : (w : List ℕ) (n : ℕ) → 1 ≤ n → n ≤ mostPages → wordsFor n ≤ length w →
     (answerOf w (init n) ≡ Done) × (metaAfter w (init n) ≡ encode (freshState n) ++ drop (wordsFor n) w)
 init-fresh w n a b h =
     let there : (n ≡ 0 → ⊥) = λ z. omega arith in
@@ -136,7 +136,7 @@ listing-longest w s e = let v = holding-of w s e .valid in lengths.listing-longe
 
 -- .. which are 2,220 at most, and 207 where there are no more words than 24 pages need.
 pub longest-any : (w : List ℕ) (s : State) → stateOf w ≡ some s → longest (total (s .segments)) ≤ 2220
-longest-any w s e = omega (arith, lengths.longest-grows (total (s .segments)) 256 (holding-of w s e .valid .most), lengths.longest-figures .1)
+longest-any w s e = omega (arith, lengths.longest-grows (total (s .segments)) mostPages (holding-of w s e .valid .most), lengths.longest-figures .1)
 
 pub longest-few : (w : List ℕ) (s : State) → stateOf w ≡ some s → length w ≤ wordsFor 24 → longest (total (s .segments)) ≤ 207
 longest-few w s e h =

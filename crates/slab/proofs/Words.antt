@@ -11,6 +11,7 @@ use lib.ListN.{length, take, drop, length-append, length-drop, take-append-drop}
 use lib.Seq.{take-all, take-append-seam, drop-append-seam, drop-drop}
 use borrow.Author.Tests.{leb-true, leb-false}
 use Rattle.lemmas.proofs.Cases.{bool, and-left, and-right, some-inj}
+use Rattle.model.specs.Numbers.{mostPages}
 use Rattle.model.specs.declared.Refusal.the-variants.{NoState}
 use Rattle.model.specs.declared.Answer.the-variants.{Refused}
 use Rattle.model.specs.Arena.{total}
@@ -98,9 +99,9 @@ own-lands : (w : List ℕ) → Lands w (viewOf w)
 own-lands w = (refl, own-writes w)
 
 perform-lands : (w : List ℕ) (c : Command) → Lands w ((perform (viewOf w) c) .after)
-perform-lands w (init n) = bool (leb 1 n && leb n 256)
+perform-lands w (init n) = bool (leb 1 n && leb n mostPages)
     (λ t. rw t (bool (leb (wordsFor n) (length w))
-    (λ u. rw u (refl, (fresh-valid n (leb-true 1 n (and-left (leb 1 n) (leb n 256) t)) (leb-true n 256 (and-right (leb 1 n) (leb n 256) t)), omega (arith, leb-true (wordsFor n) (length w) u))))
+    (λ u. rw u (refl, (fresh-valid n (leb-true 1 n (and-left (leb 1 n) (leb n mostPages) t)) (leb-true n mostPages (and-right (leb 1 n) (leb n mostPages) t)), omega (arith, leb-true (wordsFor n) (length w) u))))
     (λ u. rw u (own-lands w))))
     (λ t. rw t (own-lands w))
 perform-lands w (act a) = by-state (λ x. Lands w ((onState (viewOf w) a x) .after)) w

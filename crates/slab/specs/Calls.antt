@@ -6,6 +6,7 @@ use mathlib.Core.Option.{Option, none, some}
 use mathlib.Core.Bool.{cond, _&&_}
 use lib.Dec.{leb}
 use lib.ListN.{length, drop}
+use Rattle.model.specs.Numbers.{mostPages}
 use Rattle.model.specs.declared.Answer.{Answer}
 use Rattle.model.specs.State.{State}
 use Rattle.model.specs.PageMap.{pageMap}
@@ -44,7 +45,7 @@ textAfter w b = listedOf (stateOf w) b
 
 -- The pages of an arena; 0 for a number of pages that no arena has.
 abbrev pub legalPages : ℕ → ℕ
-legalPages n = cond (leb 1 n && leb n 256) n 0
+legalPages n = cond (leb 1 n && leb n mostPages) n 0
 
 -- How far into the words a call goes at most: as far as the words of the arena that an init asks for, or that the words name (in word 1,
 -- document 01's N) for any other call. Where that is no arena, as far as the header.

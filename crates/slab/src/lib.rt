@@ -9,6 +9,7 @@ ghost use Rattle.model.specs.Perform.{wordsFor};
 ghost use Rattle.metadata.specs.Decoding.{stateOf};
 ghost use Rattle.slab.specs.Calls.{answerOf, metaAfter, textAfter};
 ghost use Rattle.slab.specs.Arena.{pagesOf, Arena};
+ghost use Rattle.model.specs.Numbers.{mostPages};
 use header::WORDS as HEADER;
 use model::Answer;
 use model::Call;
@@ -20,7 +21,7 @@ const MOST_PAGES: u32 = 256;
 
 // The words of an arena of n pages.
 fn words_for(n: usize) -> usize
-    requires { ⌜ n ≤ 256 ⌝ }
+    requires { ⌜ n ≤ mostPages ⌝ }
     ensures { λ r. ⌜ r ≡ wordsFor n ⌝ }
 {
     HEADER + PAGE * n

@@ -8,7 +8,7 @@ use lib.ListN.{length, take, drop, length-drop}
 use lib.Seq.{take-all, drop-length, length-take-le}
 use borrow.Author.Tests.{lt-ltb}
 use Rattle.lemmas.specs.Parts.{mid, putMid}
-use Rattle.model.specs.Perform.{headerWords}
+use Rattle.model.specs.Numbers.{headerWords}
 use Rattle.model.specs.Arena.{Segment, run, pages, bytes, total, locate, edit, Each}
 use Rattle.model.specs.Zone.{Zone}
 use Rattle.model.specs.Pages.{withRun, carve, freePages, release}

@@ -4,13 +4,14 @@ use mathlib.Core.Path.{_≡_, sym, ap, _∙_, subst}
 use mathlib.Core.List.{List, [], _∷_}
 use native.Mathlib.Omega.{arith}
 use lib.ListN.{length, set}
+use Rattle.model.specs.Numbers.{classCount, mostPages}
 use Rattle.model.specs.Arena.{Segment, zone, pages, total}
 use Rattle.model.specs.Zone.{Zone}
 use Rattle.model.specs.State.{State, listOf, arranged, ZoneAt, zoneIn, zoneAt, putZone}
 use Rattle.model.specs.Valid.{ValidZone, Valid}
 use Rattle.model.proofs.Arena.{each-edit}
 use Rattle.model.proofs.Moves.{put-size, put-new}
-use Rattle.header.specs.Keys.{classes, mostPages, keysOf}
+use Rattle.header.specs.Keys.{keysOf}
 use Rattle.header.specs.Encoding.{Fits, listSlots}
 use Rattle.header.proofs.Kept.{fits-push, fits-remove, length-keys-set}
 use Rattle.pages.specs.Encoding.{Writable}
@@ -44,10 +45,10 @@ module _ {w : List ℕ} {s : State} (h : Encodes w s) (v : List ℕ) where
     sound = each-edit Writable (p * 4096) (λ _. zone z′ ∷ []) (λ _ _. ((omega arith, k), tt)) (s .segments) (h .sound);
   }
 
-  pub kept-front : (c p : ℕ) → c < classes → p < mostPages → length (keysOf (s .lists)) < listSlots → v ≡ encode (fronted c p s) → Encodes v (fronted c p s)
+  pub kept-front : (c p : ℕ) → c < classCount → p < mostPages → length (keysOf (s .lists)) < listSlots → v ≡ encode (fronted c p s) → Encodes v (fronted c p s)
   kept-front c p a b k e = record { words = e; fits = fits-push (h .fits) c p a b k; sound = h .sound }
 
-  pub kept-without : (c p : ℕ) → c < classes → v ≡ encode (unlisted c p s) → Encodes v (unlisted c p s)
+  pub kept-without : (c p : ℕ) → c < classCount → v ≡ encode (unlisted c p s) → Encodes v (unlisted c p s)
   kept-without c p a e = record { words = e; fits = fits-remove (h .fits) c p a; sound = h .sound }
 
 -- A list that gains an entry and then fits had room for it.

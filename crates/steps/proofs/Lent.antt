@@ -9,7 +9,7 @@ use lib.ListN.{length, take, drop, length-append}
 use lib.Seq.{take-at, drop-at, take-all}
 use Rattle.lemmas.specs.Parts.{mid, putMid}
 use Rattle.lemmas.proofs.Parts.{mid-at, put-at}
-use Rattle.model.specs.Perform.{headerWords, pageWords}
+use Rattle.model.specs.Numbers.{zonePages, mostPages, headerWords, pageWords}
 use Rattle.model.specs.Arena.{Segment, zone, total, Each}
 use Rattle.model.specs.Zone.{Zone}
 use Rattle.model.specs.State.{State, arranged, ZoneAt, putZone}
@@ -121,7 +121,7 @@ module _ {w : List ℕ} {s : State} (h : Encodes w s) where
     three : w ≡ front ++ (zoneEncoding z ++ rest)
     three = two ∙ ap (λ m. H ++ segmentsEncoding m) (there .whole) ∙ apart z
 
-    pub zone-inside : (p + 8 ≤ total (s .segments)) × (total (s .segments) ≤ 256) × (length w ≡ headerWords + pageWords * total (s .segments))
+    pub zone-inside : (p + zonePages ≤ total (s .segments)) × (total (s .segments) ≤ mostPages) × (length w ≡ headerWords + pageWords * total (s .segments))
     zone-inside = (omega (arith, starts, ap (λ l. total l) (there .whole), total-append (there .before) (zone z ∷ there .behind)), h .fits .most, lent-long)
 
     module _ (a k : ℕ) (at : a ≡ headerWords + pageWords * p) (size : k ≡ zoneWords) where

@@ -4,7 +4,7 @@ use mathlib.Core.Path.{_≡_, refl, sym, _∙_, subst}
 use mathlib.Core.List.{List}
 use lib.ListN.{length, getD, drop}
 use lib.Seq.{getD-drop}
-use Rattle.model.specs.Perform.{headerWords, pageWords}
+use Rattle.model.specs.Numbers.{mostPages, headerWords, pageWords}
 use Rattle.model.specs.Arena.{Segment, pages, total}
 use Rattle.model.specs.Zone.{Zone}
 use Rattle.pages.specs.Encoding.{kindOf}
@@ -18,7 +18,7 @@ module _ {w : List ℕ} (h : Lent w) {p b : ℕ} {x : Segment Zone} (s : Stands 
   body : Read (drop headerWords w) (total (decode w .segments)) p x
   body = read-at (body-lent h (total (decode w .segments)) refl) (subst (λ m. Stands m p b x) (sym (segments-lent h)) s)
 
-  pub here-inside : (p + pages x ≤ total (decode w .segments)) × (total (decode w .segments) ≤ 256) × (length w ≡ headerWords + pageWords * total (decode w .segments)) × (0 < pages x)
+  pub here-inside : (p + pages x ≤ total (decode w .segments)) × (total (decode w .segments) ≤ mostPages) × (length w ≡ headerWords + pageWords * total (decode w .segments)) × (0 < pages x)
   here-inside = (body .inside, h .fits .most, lent-long h, body .ok .0)
 
   pub here-kind : getD w (headerWords + pageWords * p) 0 ≡ kindOf x

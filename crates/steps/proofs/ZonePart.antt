@@ -6,7 +6,7 @@ use mathlib.Core.List.{List}
 use native.Mathlib.Omega.{arith}
 use lib.ListN.{length}
 use Rattle.lemmas.specs.Parts.{mid, putMid}
-use Rattle.model.specs.Perform.{headerWords, pageWords}
+use Rattle.model.specs.Numbers.{mostPages, headerWords, pageWords}
 use Rattle.model.specs.Zone.{Zone}
 use Rattle.model.specs.State.{zoneAt}
 use Rattle.zone.specs.Encoding.{zoneWords, zoneEncoding}
@@ -18,7 +18,7 @@ use Rattle.steps.specs.Moves.{rezoned}
 use Rattle.steps.proofs.Lent.{zone-inside, zone-lent, zone-read, zone-put}
 
 module _ {w : List ℕ} (h : Lent w) (p : ℕ) (b : ZoneHere (decode w) p) where
-  pub part-page : p ≤ 256
+  pub part-page : p ≤ mostPages
   part-page = let r = zone-inside h p (zoneAt p (decode w .segments)) b in omega arith
 
   module _ (a : ℕ) (at : a ≡ headerWords + pageWords * p) where

@@ -3,7 +3,7 @@ use Prim.Native.Nat.{ℕ, _*_}
 use mathlib.Core.List.{List, _∷_}
 use lib.ListN.{set}
 use Rattle.lemmas.specs.Times.{remove}
-use Rattle.model.specs.Sizes.{pageBytes}
+use Rattle.model.specs.Numbers.{pageBytes}
 use Rattle.model.specs.Arena.{Segment}
 use Rattle.model.specs.Zone.{Zone}
 use Rattle.model.specs.Pages.{FreeRun, carve, release}

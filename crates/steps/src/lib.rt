@@ -10,7 +10,7 @@ ghost use Rattle.model.specs.Zone.{Zone, touched, full, newZone, nextChunk, gra
 ghost use Rattle.model.specs.State.{State, zoneAt};
 ghost use Rattle.model.specs.PageMap.{idleZone};
 ghost use Rattle.model.specs.Valid.{Apart};
-ghost use Rattle.header.specs.Keys.{classes, mostPages, keysOf};
+ghost use Rattle.header.specs.Keys.{keysOf};
 ghost use Rattle.header.specs.Encoding.{spareSlots, listSlots};
 ghost use Rattle.pages.specs.Encoding.{kindOf};
 ghost use Rattle.pages.specs.Places.{runPages, Stands};
@@ -18,6 +18,7 @@ ghost use Rattle.metadata.specs.Encoding.{encode};
 ghost use Rattle.metadata.specs.Decoding.{decode};
 ghost use Rattle.steps.specs.Lent.{Lent, ZoneHere};
 ghost use Rattle.steps.specs.Moves.{fronted, unlisted, spared, rezoned, carved, released};
+ghost use Rattle.model.specs.Numbers.{zonePages, mostGroup, classCount, mostPages, headerWords, pageWords};
 use header::WORDS as HEADER;
 use pages::PAGE;
 use zone::layout::WORDS as ZONE_WORDS;
@@ -27,7 +28,7 @@ use zone::layout::WORDS as ZONE_WORDS;
 // The page goes to the front of the class's list, which has room for one more.
 pub fn list_front(words: &mut [u32], class: u32, page: u32)
     requires { ⌜ Lent (now words) ⌝ }
-    requires { ⌜ (class < classes) × (page < mostPages) × (length (keysOf (decode (now words) .lists)) < listSlots) ⌝ }
+    requires { ⌜ (class < classCount) × (page < mostPages) × (length (keysOf (decode (now words) .lists)) < listSlots) ⌝ }
     ensures { λ _. ⌜ now (words .exit) ≡ encode (fronted class page (decode (now (words .entry)))) ⌝ }
 {
     header::push(&mut words[..HEADER], class, page);
@@ -36,7 +37,7 @@ pub fn list_front(words: &mut [u32], class: u32, page: u32)
 // The page leaves the class's list.
 pub fn list_without(words: &mut [u32], class: u32, page: u32)
     requires { ⌜ Lent (now words) ⌝ }
-    requires { ⌜ (class < classes) × (page < mostPages) ⌝ }
+    requires { ⌜ (class < classCount) × (page < mostPages) ⌝ }
     ensures { λ _. ⌜ now (words .exit) ≡ encode (unlisted class page (decode (now (words .entry)))) ⌝ }
 {
     header::remove(&mut words[..HEADER], class, page);
@@ -71,8 +72,8 @@ pub fn spare_none(words: &mut [u32])
 
 // The words from which a zone that begins at the page has its own.
 fn zone_start(page: usize) -> usize
-    requires { ⌜ page ≤ 256 ⌝ }
-    ensures { λ r. ⌜ r ≡ 1024 + 520 * page ⌝ }
+    requires { ⌜ page ≤ mostPages ⌝ }
+    ensures { λ r. ⌜ r ≡ headerWords + pageWords * page ⌝ }
 {
     HEADER + PAGE * page
 }
@@ -129,7 +130,7 @@ pub fn zone_full(words: &[u32], page: usize) -> bool
 
 // It grants a chunk to the group.
 pub fn zone_grant(words: &mut [u32], page: usize, group: u32) -> u32
-    requires { ⌜ Lent (now words) × ZoneHere (decode (now words)) page × (full (zoneAt page (decode (now words) .segments)) ≡ false) × (0 < group) × (group ≤ 12) ⌝ }
+    requires { ⌜ Lent (now words) × ZoneHere (decode (now words)) page × (full (zoneAt page (decode (now words) .segments)) ≡ false) × (0 < group) × (group ≤ mostGroup) ⌝ }
     ensures { λ r. ⌜ (r ≡ nextChunk (zoneAt page (decode (now (words .entry)) .segments))) × (now (words .exit) ≡ encode (rezoned page (granted group (zoneAt page (decode (now (words .entry)) .segments))) (decode (now (words .entry))))) ⌝ }
 {
     let a = zone_start(page);
@@ -199,8 +200,8 @@ pub fn take_direct(words: &mut [u32], n: usize, at: usize, len: usize, need: usi
 // It gives its low 8 pages to a zone, set up for the class with chunk 0 granted to the group.
 pub fn take_zone(words: &mut [u32], n: usize, at: usize, len: usize, class: u32, group: u32)
     requires { ⌜ Lent (now words) × (n ≡ total (decode (now words) .segments)) ⌝ }
-    requires { ⌜ ((b : ℕ) × Stands (decode (now words) .segments) at b (run len) × (8 ≤ len) × (0 < group)) ⌝ }
-    ensures { λ _. ⌜ now (words .exit) ≡ encode (carved (record { page = at; size = len }) 8 (zone (newZone class group)) (decode (now (words .entry)))) ⌝ }
+    requires { ⌜ ((b : ℕ) × Stands (decode (now words) .segments) at b (run len) × (zonePages ≤ len) × (0 < group)) ⌝ }
+    ensures { λ _. ⌜ now (words .exit) ≡ encode (carved (record { page = at; size = len }) zonePages (zone (newZone class group)) (decode (now (words .entry)))) ⌝ }
 {
     pages::take_zone(&mut words[HEADER..], n, at, len, class, group);
 }

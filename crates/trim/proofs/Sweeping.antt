@@ -7,6 +7,7 @@ use native.Mathlib.Omega.{arith}
 use lib.ListN.{set, getD}
 use Rattle.lemmas.specs.Times.{remove}
 use Rattle.lemmas.proofs.Cases.{true-false}
+use Rattle.model.specs.Numbers.{zonePages}
 use Rattle.model.specs.Arena.{Segment, run, direct, zone, pages, total, edit, Each}
 use Rattle.model.specs.Zone.{Zone}
 use Rattle.model.specs.State.{State}
@@ -186,33 +187,33 @@ module _ {s₀ s : State} {n p b k : ℕ} (i : Sweeping s₀ s n p b k) where
       abbrev a : ℕ
       a = runAtStart (t .rest)
 
-      pub sweep-given : Sweeping s₀ (released p (unlisted (z .class) p s)) n (p - b + (b + 8 + a)) (b + 8 + a) (k + 1)
+      pub sweep-given : Sweeping s₀ (released p (unlisted (z .class) p s)) n (p - b + (b + zonePages + a)) (b + zonePages + a) (k + 1)
       unfolding sweep-between
       sweep-given = record {
         before = i .before;
         left = after .rest;
-        whole = between-released sweep-between (i .apart) ∙ ap (λ l. i .before ++ l) (some-run (b + 8 + a) (after .rest) (omega arith));
+        whole = between-released sweep-between (i .apart) ∙ ap (λ l. i .before ++ l) (some-run (b + zonePages + a) (after .rest) (omega arith));
         starts = omega (arith, i .starts);
         no-run = i .no-run;
         apart = joined-apart (λ _. false) 0 (edit (p * 4096) freePages (s .segments));
         size = i .size ∙ sym (release-total (between-stands sweep-between) (omega arith));
         few = omega (arith, i .few, i .starts);
-        segments = ap (λ l. i .before ++ l) (sym (joined-run (b + 8) a (after .rest)) ∙ idle-joins (withRun a (after .rest))) ∙ ap (λ l. i .before ++ joined idleZone b l) (sym zone-left) ∙ i .segments;
+        segments = ap (λ l. i .before ++ l) (sym (joined-run (b + zonePages) a (after .rest)) ∙ idle-joins (withRun a (after .rest))) ∙ ap (λ l. i .before ++ joined idleZone b l) (sym zone-left) ∙ i .segments;
         count = omega (arith, i .count, ap (λ l. idleCount l) zone-left, idle-counts (withRun a (after .rest)), count-run a (after .rest));
         spare = i .spare;
-        lists = sym (swept-run (p + 8) a (p - b + (b + 8 + a)) (after .rest) new (omega (arith, i .starts))) ∙ idle-sweeps (withRun a (after .rest)) ∙ ap (λ l. sweptLists p l (s .lists)) (sym zone-left) ∙ i .lists;
+        lists = sym (swept-run (p + zonePages) a (p - b + (b + zonePages + a)) (after .rest) new (omega (arith, i .starts))) ∙ idle-sweeps (withRun a (after .rest)) ∙ ap (λ l. sweptLists p l (s .lists)) (sym zone-left) ∙ i .lists;
       }
         where
           new : List (List ℕ)
           new = set (s .lists) (z .class) (remove p (getD (s .lists) (z .class) []))
 
-          idle-joins : (r : List (Segment Zone)) → joined idleZone (b + 8) r ≡ joined idleZone b (zone z ∷ r)
+          idle-joins : (r : List (Segment Zone)) → joined idleZone (b + zonePages) r ≡ joined idleZone b (zone z ∷ r)
           idle-joins r = rw f
 
           idle-counts : (r : List (Segment Zone)) → idleCount (zone z ∷ r) ≡ suc (idleCount r)
           idle-counts r = rw f
 
-          idle-sweeps : (r : List (Segment Zone)) → sweptLists (p + 8) r new ≡ sweptLists p (zone z ∷ r) (s .lists)
+          idle-sweeps : (r : List (Segment Zone)) → sweptLists (p + zonePages) r new ≡ sweptLists p (zone z ∷ r) (s .lists)
           idle-sweeps r = rw f
 
   -- ---- behind the last segment

@@ -15,6 +15,7 @@ use Rattle.lemmas.specs.Times.{remove}
 use Rattle.lemmas.proofs.Cases.{bool, and-both, cond-same, some-inj}
 use Rattle.lemmas.proofs.Every.{every-of-members}
 use Rattle.lemmas.proofs.Keep.{keep-all, keep-keep, keep-same}
+use Rattle.model.specs.Numbers.{zonePages}
 use Rattle.model.specs.Arena.{Segment, run, direct, zone, pages, bytes, locate}
 use Rattle.model.specs.Zone.{Zone}
 use Rattle.model.specs.State.{State, listOf, ZoneAt, zoneIn, zoneAt}
@@ -103,7 +104,7 @@ stays-zone c p q (x ∷ r) z b e = bool (ltb (q * 4096) (bytes x))
     there a (stays-zone c (p + pages x) (q - pages x) r z (ap (λ o. locate o r) (let u : (q - pages x) * 4096 ≡ q * 4096 - bytes x = omega arith in u) ∙ (rw t at b)) e))
   where
     here : q ≡ 0 → x ≡ zone z → stays c p (x ∷ r) (p + q) ≡ not (idleZone z)
-    here a k = subst (λ y. stays c p (y ∷ r) (p + q) ≡ not (idleZone z)) (sym k) (rw (eq-eqb c (z .class) (sym e), eq-eqb p (p + q) (omega arith), stays-past c (p + 8) (p + q) r (omega arith)) (go (idleZone z)))
+    here a k = subst (λ y. stays c p (y ∷ r) (p + q) ≡ not (idleZone z)) (sym k) (rw (eq-eqb c (z .class) (sym e), eq-eqb p (p + q) (omega arith), stays-past c (p + zonePages) (p + q) r (omega arith)) (go (idleZone z)))
       where
         go : (i : Bool) → (cond i false true && true) ≡ not i
         go true = refl

@@ -6,6 +6,7 @@ use mathlib.Core.Bool.{true, false, cond}
 use native.Mathlib.Omega.{arith}
 use lib.Dec.{eqb}
 use lib.ListN.{length}
+use Rattle.model.specs.Numbers.{zonePages, mostPages}
 use Rattle.model.specs.Arena.{Segment, run, direct, zone, pages, total}
 use Rattle.model.specs.Zone.{Zone}
 use Rattle.model.specs.PageMap.{idleZone}
@@ -31,7 +32,7 @@ use Rattle.trim.proofs.Sweeping.{Sweeping, Next, sweep-start, sweep-nex
 pub record Trimming (w₀ w : List ℕ) (n p b k : ℕ) : Type 0 where
   pub lent : Lent w
   pub sweep : Sweeping (decode w₀) (decode w) n p b k
-  pub most : n ≤ 256
+  pub most : n ≤ mostPages
 
 -- The loop begins once no zone is on the empty list.
 module _ {v : List ℕ} {n : ℕ} (g : Good v n) {w : List ℕ} (e : w ≡ encode (spared [] (decode v))) where
@@ -82,15 +83,15 @@ module _ {w₀ w : List ℕ} {n p b k : ℕ} (i : Trimming w₀ w n p b k) where
       between = sweep-between (i .sweep) at-page (it .0) (it .1)
 
       -- The run that its pages become part of is inside the arena and longer than what stood before.
-      pub trim-bound : (b ≤ p) × (p + 8 + after ≤ n)
+      pub trim-bound : (b ≤ p) × (p + zonePages + after ≤ n)
       trim-bound =
           let t = between in
           (omega (arith, t .starts), omega (arith, i .sweep .size, t .starts, ap (λ l. total l) (t .whole), total-append (t .before) (withRun b (zone (it .0) ∷ withRun after (t .behind))), total-withRun b (zone (it .0) ∷ withRun after (t .behind)), total-withRun after (t .behind)))
 
-      pub trim-given : (r : ℕ) (v : List ℕ) → (r ≡ b + 8 + after) × (v ≡ encode (released p (unlisted (it .0 .class) p (decode w)))) → Trimming w₀ v n (p - b + r) r (k + 1)
+      pub trim-given : (r : ℕ) (v : List ℕ) → (r ≡ b + zonePages + after) × (v ≡ encode (released p (unlisted (it .0 .class) p (decode w)))) → Trimming w₀ v n (p - b + r) r (k + 1)
       trim-given r v e = subst (λ y. Trimming w₀ v n (p - b + y) y (k + 1)) (sym (e .0)) (record {
         lent = lent now;
-        sweep = in-words now (λ s. Sweeping (decode w₀) s n (p - b + (b + 8 + after)) (b + 8 + after) (k + 1)) (sweep-given (i .sweep) at-page (it .0) (it .1) (it .2));
+        sweep = in-words now (λ s. Sweeping (decode w₀) s n (p - b + (b + zonePages + after)) (b + zonePages + after) (k + 1)) (sweep-given (i .sweep) at-page (it .0) (it .1) (it .2));
         most = i .most;
       })
         where

@@ -5,6 +5,7 @@ use mathlib.Core.List.{List, _∷_, _++_}
 use mathlib.Core.Bool.{true, false}
 use native.Mathlib.Omega.{arith}
 use Rattle.lemmas.proofs.Cases.{true-false}
+use Rattle.model.specs.Numbers.{zonePages, classCount, mostPages}
 use Rattle.model.specs.Arena.{Segment, run, direct, zone, pages, total, Each}
 use Rattle.model.specs.Zone.{Zone}
 use Rattle.model.specs.State.{State, ZoneAt, zoneAt}
@@ -67,10 +68,10 @@ module _ {m : List (Segment Zone)} {p b : ℕ} {x : Segment Zone} (s : Stands m 
 
 -- A zone that begins at the page p: its class, and the page as a number for the lists.
 module _ {w : List ℕ} (h : Lent w) (p : ℕ) (b : ZoneHere (decode w) p) where
-  pub class-low : zoneAt p (decode w .segments) .class < 64
+  pub class-low : zoneAt p (decode w .segments) .class < classCount
   class-low = (zone-valid h p (zoneAt p (decode w .segments)) b) .class
 
-  pub page-low : p < 256
+  pub page-low : p < mostPages
   page-low = let r = zone-inside h p (zoneAt p (decode w .segments)) b in omega arith
 
 each-behind : (b : ℕ) (r : List (Segment Zone)) → Each Writable (withRun b r) → Each Writable r
@@ -91,7 +92,7 @@ module _ {w : List ℕ} (h : Lent w) (apart : Apart false (decode w .segments)) 
   class-is = ap (λ y. y .class) (zone-there stands)
 
   listed-fits : Fits (total m) (decode w .spare) (unlisted (z .class) p (decode w) .lists)
-  listed-fits = fits-remove (h .fits) (z .class) p (subst (λ k. k < 64) class-is (class-low h p given-here))
+  listed-fits = fits-remove (h .fits) (z .class) p (subst (λ k. k < classCount) class-is (class-low h p given-here))
 
   -- It has left its class's list.
   pub given-listed : {v : List ℕ} → v ≡ encode (unlisted (zoneAt p m .class) p (decode w)) → Encodes v (unlisted (z .class) p (decode w))
@@ -102,7 +103,7 @@ module _ {w : List ℕ} (h : Lent w) (apart : Apart false (decode w .segments)) 
 
   released-sound : Each Writable (release (p * 4096) m)
   released-sound = subst (λ l. Each Writable l) (sym (between-released t apart))
-      (each-append Writable (t .before) (run (b + 8 + a) ∷ t .behind) (each-left (t .before) (withRun b (zone z ∷ withRun a (t .behind))) sound-all)
+      (each-append Writable (t .before) (run (b + zonePages + a) ∷ t .behind) (each-left (t .before) (withRun b (zone z ∷ withRun a (t .behind))) sound-all)
       ((omega arith, tt), each-behind a (t .behind) (each-behind b (zone z ∷ withRun a (t .behind)) (each-right (t .before) (withRun b (zone z ∷ withRun a (t .behind))) sound-all) .1)))
 
   -- Its pages have come back.
@@ -113,8 +114,8 @@ module _ {w : List ℕ} (h : Lent w) (apart : Apart false (decode w .segments)) 
   given-after {v₁} {v₂} h₁ e = given-back v₂ (e ∙ ap (λ s. encode (released p s)) (lent-decoded h₁))
 
   -- The run that they are now part of.
-  pub run-there : {v : List ℕ} → Encodes v (released p (unlisted (z .class) p (decode w))) → Stands (decode v .segments) (p - b) 0 (run (b + 8 + a))
-  run-there k = in-words k (λ s. Stands (s .segments) (p - b) 0 (run (b + 8 + a))) (between-run t apart)
+  pub run-there : {v : List ℕ} → Encodes v (released p (unlisted (z .class) p (decode w))) → Stands (decode v .segments) (p - b) 0 (run (b + zonePages + a))
+  run-there k = in-words k (λ s. Stands (s .segments) (p - b) 0 (run (b + zonePages + a))) (between-run t apart)
 
   -- What the steps on such words ask.
   module _ (n : ℕ) (all : n ≡ total m) {v : List ℕ} where
@@ -122,4 +123,4 @@ module _ {w : List ℕ} (h : Lent w) (apart : Apart false (decode w .segments)) 
     give-asks k = ((lent k, in-words k (λ s. n ≡ total (s .segments)) all), (in-words k (λ s. Apart false (s .segments)) apart, (zone z, in-words k (λ s. Stands (s .segments) p b (zone z)) stands, refl, refl)))
 
     pub size-asks : Encodes v (released p (unlisted (z .class) p (decode w))) → (Lent v × (n ≡ total (decode v .segments))) × ((b′ : ℕ) × (x : Segment Zone) × Stands (decode v .segments) (p - b) b′ x)
-    size-asks k = ((lent k, in-words k (λ s. n ≡ total (s .segments)) (all ∙ sym (release-total stands (omega arith)))), (0, run (b + 8 + a), run-there k))
+    size-asks k = ((lent k, in-words k (λ s. n ≡ total (s .segments)) (all ∙ sym (release-total stands (omega arith)))), (0, run (b + zonePages + a), run-there k))

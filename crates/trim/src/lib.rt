@@ -13,6 +13,7 @@ ghost use Rattle.metadata.specs.Decoding.{decode};
 ghost use Rattle.steps.specs.Lent.{Lent, ZoneHere, Good};
 ghost use Rattle.steps.specs.Moves.{unlisted, released};
 ghost use Rattle.trim.specs.Between.{idleSegment, Between};
+ghost use Rattle.model.specs.Numbers.{zonePages};
 use pages::ZONE_PAGES;
 use zone::layout::KIND_ZONE;
 
@@ -43,7 +44,7 @@ fn give_zone(words: &mut [u32], n: usize, p: usize, before: usize) -> usize
     requires { ⌜ Lent (now words) × (n ≡ total (decode (now words) .segments)) ⌝ }
     requires { ⌜ Apart false (decode (now words) .segments) ⌝ }
     requires { ⌜ ((a : ℕ) × (z : Zone) × Between (decode (now words) .segments) p before a z) ⌝ }
-    ensures { λ r. ⌜ ((a : ℕ) (z : Zone) → Between (decode (now (words .entry)) .segments) p before a z → (r ≡ before + 8 + a) × (now (words .exit) ≡ encode (released p (unlisted (z .class) p (decode (now (words .entry))))))) ⌝ }
+    ensures { λ r. ⌜ ((a : ℕ) (z : Zone) → Between (decode (now (words .entry)) .segments) p before a z → (r ≡ before + zonePages + a) × (now (words .exit) ≡ encode (released p (unlisted (z .class) p (decode (now (words .entry))))))) ⌝ }
 {
     unlist(words, p);
     steps::give_back(words, n, p, ZONE_PAGES, before);

@@ -16,6 +16,7 @@ use Rattle.lemmas.proofs.Cases.{by-ltb}
 use Rattle.lemmas.proofs.Every.{every-at}
 use Rattle.lemmas.proofs.Parts.{length-mid, getD-mid}
 use Rattle.lemmas.proofs.Zeros.{mid-zero, zeros-every}
+use Rattle.model.specs.Numbers.{mostGroup}
 use Rattle.model.specs.Zone.{Zone, touched}
 use Rattle.model.specs.Valid.{returnedAt, ValidZone}
 use Rattle.zone.specs.Encoding.{positionOn, chunkAt, stateFor, stateOf, slotOf, headWords, headNumbers, headZeros, slotCount, zoneWords, positionBase, half}
@@ -36,8 +37,8 @@ module _ (w : List ℕ) (size : length w ≡ zoneWords) where
 
 -- ---- one slot
 
-owner-most : (x : ℕ) → ownerIn x ≤ 12
-owner-most x = by-ltb (λ t. cond t (stateIn x) 0 ≤ 12) (stateIn x) positionBase (λ l. omega arith) (λ l. omega arith)
+owner-most : (x : ℕ) → ownerIn x ≤ mostGroup
+owner-most x = by-ltb (λ t. cond t (stateIn x) 0 ≤ mostGroup) (stateIn x) positionBase (λ l. omega arith) (λ l. omega arith)
 
 -- A state below 13 is the owner; a chunk with another has none.
 pub owner-live : (x : ℕ) → stateIn x < positionBase → ownerIn x ≡ stateIn x
@@ -124,9 +125,9 @@ module _ (w : List ℕ) (h : Facts w) where
   unfolding z zoneOf s
   owner-get i l = List·getD-map ownerIn (take k s) i 0 ∙ ap ownerIn (getD-take k s i 0 l)
 
-  owner-low : (i : ℕ) → getD (z .owners) i 0 ≤ 12
+  owner-low : (i : ℕ) → getD (z .owners) i 0 ≤ mostGroup
   owner-low i =
-      by-ltb (λ t. getD (z .owners) i 0 ≤ 12) i k (λ l. rw (owner-get i l) (owner-most (getD s i 0)))
+      by-ltb (λ t. getD (z .owners) i 0 ≤ mostGroup) i k (λ l. rw (owner-get i l) (owner-most (getD s i 0)))
       (λ l. omega (arith, List·getD-eq-default (z .owners) 0 {n = i} (omega (arith, length-owners))))
 
   returned : (i : ℕ) → i < k → times i chain ≡ cond (eqb (ownerIn (getD s i 0)) 0) 1 0

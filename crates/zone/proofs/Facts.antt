@@ -13,6 +13,7 @@ use Rattle.lemmas.specs.Parts.{mid}
 use Rattle.lemmas.specs.Zeros.{isZero}
 use Rattle.lemmas.proofs.Below.{all-at, all-of}
 use Rattle.lemmas.proofs.Cases.{and-left, and-right}
+use Rattle.model.specs.Numbers.{classCount}
 use Rattle.model.specs.Sizes.{chunks}
 use Rattle.zone.specs.Decoding.{slotsIn, stateIn, entryIn, isLive, isBare, inPlace, slotsLegal, headLegal, bodyLegal, isZone, classIn, touchedIn, chainedIn}
 use Rattle.zone.proofs.Places.{Placed}
@@ -22,7 +23,7 @@ use Rattle.zone.specs.Encoding.{headWords, headNumbers, headZeros, slotC
 pub record Head (w : List ℕ) : Type 0 where
   pub size : length w ≡ zoneWords
   pub kind : getD w 0 0 ≡ kindZone
-  pub class : classIn w < 64
+  pub class : classIn w < classCount
   pub fits : touchedIn w ≤ chunks (classIn w)
   pub few : chainedIn w ≤ touchedIn w
 
@@ -46,14 +47,14 @@ both a b e = (and-left a b e, and-right a b e)
 pub head-of : (w : List ℕ) → headLegal w ≡ true → Head w
 unfolding headLegal
 head-of w e =
-    let a = both (eqb (length w) zoneWords && eqb (getD w 0 0) 3 && ltb (classIn w) 64 && leb (touchedIn w) (chunks (classIn w))) (leb (chainedIn w) (touchedIn w)) e in
-    let b = both (eqb (length w) zoneWords && eqb (getD w 0 0) 3 && ltb (classIn w) 64) (leb (touchedIn w) (chunks (classIn w))) (a .0) in
-    let c = both (eqb (length w) zoneWords && eqb (getD w 0 0) 3) (ltb (classIn w) 64) (b .0) in
+    let a = both (eqb (length w) zoneWords && eqb (getD w 0 0) 3 && ltb (classIn w) classCount && leb (touchedIn w) (chunks (classIn w))) (leb (chainedIn w) (touchedIn w)) e in
+    let b = both (eqb (length w) zoneWords && eqb (getD w 0 0) 3 && ltb (classIn w) classCount) (leb (touchedIn w) (chunks (classIn w))) (a .0) in
+    let c = both (eqb (length w) zoneWords && eqb (getD w 0 0) 3) (ltb (classIn w) classCount) (b .0) in
     let d = both (eqb (length w) zoneWords) (eqb (getD w 0 0) 3) (c .0) in
     record {
       size = eqb-true (length w) zoneWords (d .0);
       kind = eqb-true (getD w 0 0) 3 (d .1);
-      class = ltb-true (classIn w) 64 (c .1);
+      class = ltb-true (classIn w) classCount (c .1);
       fits = leb-true (touchedIn w) (chunks (classIn w)) (b .1);
       few = leb-true (chainedIn w) (touchedIn w) (a .1);
     }
@@ -61,7 +62,7 @@ head-of w e =
 pub of-head : (w : List ℕ) → Head w → headLegal w ≡ true
 unfolding headLegal
 of-head w h =
-    simp (eq-eqb (length w) zoneWords (h .size), eq-eqb (getD w 0 0) 3 (h .kind), lt-ltb (classIn w) 64 (h .class), le-leb (touchedIn w) (chunks (classIn w)) (h .fits), le-leb (chainedIn w) (touchedIn w) (h .few))
+    simp (eq-eqb (length w) zoneWords (h .size), eq-eqb (getD w 0 0) 3 (h .kind), lt-ltb (classIn w) classCount (h .class), le-leb (touchedIn w) (chunks (classIn w)) (h .fits), le-leb (chainedIn w) (touchedIn w) (h .few))
 
 pub head-most : (w : List ℕ) → Head w → touchedIn w ≤ slotCount
 head-most w h = let a = chunks-most (classIn w) in let b = h .fits in omega arith

@@ -12,6 +12,7 @@ use Rattle.lemmas.specs.Zeros.{zeros}
 use Rattle.lemmas.proofs.Cases.{by-eqb}
 use Rattle.lemmas.proofs.Parts.{length-mid, length-put, getD-put}
 use Rattle.lemmas.proofs.Zeros.{length-zeros, getD-zeros}
+use Rattle.model.specs.Numbers.{mostGroup, classCount}
 use Rattle.model.specs.Sizes.{chunks}
 use Rattle.model.specs.Zone.{Zone, touched, isNil, full, newZone, nextChunk, granted, putBack}
 use Rattle.model.specs.PageMap.{idleZone}
@@ -49,7 +50,7 @@ module _ (w : List ℕ) (e : isZone w ≡ true) where
   unfolding z
   class-read = h .class
 
-  pub class-small : classIn w < 64
+  pub class-small : classIn w < classCount
   class-small = rw (h .class) (v .class)
 
   pub touched-read : touchedIn w ≡ touched (zoneOf w)
@@ -107,7 +108,7 @@ module _ (w : List ℕ) (e : isZone w ≡ true) where
   unfolding z
   put-back-words i p = words-encoding (put-words h v i p)
 
-  module _ (g : ℕ) (p : 0 < g) (q : g ≤ 12) where
+  module _ (g : ℕ) (p : 0 < g) (q : g ≤ mostGroup) where
     pub hand-out-words : touchedIn w < chunks (classIn w)
         → (touchedIn w < slotCount) × (touchedIn w ≡ nextChunk (zoneOf w)) × (handedOut (touchedIn w) g w ≡ zoneEncoding (granted g (zoneOf w)))
     unfolding z

@@ -19,6 +19,7 @@ use Rattle.lemmas.proofs.Bits.{or-zero, xor-zero}
 use Rattle.lemmas.proofs.Cases.{by-ltb, refuted, true-false}
 use Rattle.lemmas.proofs.Every.{every-at, every-of, count-append}
 use Rattle.lemmas.proofs.Tests.{and-comm, false-left, false-right}
+use Rattle.model.specs.Numbers.{classCount}
 use Rattle.model.specs.Sizes.{chunks}
 use Rattle.zone.specs.Decoding.{slotsIn, stateIn, entryIn, isLive, isBare, isNear, inPlace, slotsLegal, headLegal, bodyLegal, isZone, classIn, touchedIn, chainedIn}
 use Rattle.zone.proofs.Facts.{Head, head-of, head-most, slots-of}
@@ -92,9 +93,9 @@ module _ (s : List ℕ) where
 pub head-not : (w : List ℕ) → (Head w → ⊥) → false ≡ headLegal w
 head-not w n = sym (refuted (headLegal w) (λ e. n (head-of w e)))
 
-pub head-last : (w : List ℕ) → length w ≡ zoneWords → getD w 0 0 ≡ kindZone → classIn w < 64 → touchedIn w ≤ chunks (classIn w) → leb (chainedIn w) (touchedIn w) ≡ headLegal w
+pub head-last : (w : List ℕ) → length w ≡ zoneWords → getD w 0 0 ≡ kindZone → classIn w < classCount → touchedIn w ≤ chunks (classIn w) → leb (chainedIn w) (touchedIn w) ≡ headLegal w
 unfolding headLegal
-head-last w a b c d = simp (eq-eqb (length w) zoneWords a, eq-eqb (getD w 0 0) 3 b, lt-ltb (classIn w) 64 c, le-leb (touchedIn w) (chunks (classIn w)) d)
+head-last w a b c d = simp (eq-eqb (length w) zoneWords a, eq-eqb (getD w 0 0) 3 b, lt-ltb (classIn w) classCount c, le-leb (touchedIn w) (chunks (classIn w)) d)
 
 -- ---- the body, part by part
 

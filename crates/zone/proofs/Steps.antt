@@ -13,6 +13,7 @@ use Rattle.lemmas.proofs.Cases.{true-false, by-eqb, by-ltb}
 use Rattle.lemmas.proofs.Sets.{getD-set}
 use Rattle.lemmas.proofs.Times.{times-here}
 use Rattle.lemmas.proofs.Zeros.{zero-set}
+use Rattle.model.specs.Numbers.{mostGroup}
 use Rattle.model.specs.Sizes.{chunks}
 use Rattle.model.specs.Zone.{Zone, touched, isNil, full, newZone, firstOf, nextChunk, unchained, granted, putBack}
 use Rattle.model.specs.Valid.{ValidZone}
@@ -172,7 +173,7 @@ pub record Takes (w : List ℕ) (g chunk : ℕ) (z′ : Zone) : Type 0 where
   pub chunk-is : lastChunk w ≡ chunk
   pub words-are : Words (lastTaken g w) z′
 
-module _ {w : List ℕ} {z : Zone} (h : Words w z) (v : ValidZone z) (g : ℕ) (group : 0 < g) (small : g ≤ 12) where
+module _ {w : List ℕ} {z : Zone} (h : Words w z) (v : ValidZone z) (g : ℕ) (group : 0 < g) (small : g ≤ mostGroup) where
   -- An untouched one.
   module _ (some : touched z < chunks (z .class)) where
     more : Zone

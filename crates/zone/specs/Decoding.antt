@@ -9,6 +9,7 @@ use Rattle.lemmas.specs.Below.{allBelow}
 use Rattle.lemmas.specs.Every.{every, count}
 use Rattle.lemmas.specs.Parts.{mid}
 use Rattle.lemmas.specs.Zeros.{isZero}
+use Rattle.model.specs.Numbers.{classCount}
 use Rattle.model.specs.Sizes.{chunks}
 use Rattle.model.specs.Zone.{Zone}
 use Rattle.zone.specs.Encoding.{headWords, headNumbers, headZeros, slotCount, zoneWords, kindZone, positionBase, half}
@@ -61,7 +62,7 @@ slotsLegal s k m = every isBare (mid m (k - m) s) && eqb (count isLive (take k s
 
 -- The head's four numbers.
 unfoldable pub headLegal : List ℕ → Bool
-headLegal w = eqb (length w) zoneWords && eqb (getD w 0 0) kindZone && ltb (classIn w) 64 && leb (touchedIn w) (chunks (classIn w)) && leb (chainedIn w) (touchedIn w)
+headLegal w = eqb (length w) zoneWords && eqb (getD w 0 0) kindZone && ltb (classIn w) classCount && leb (touchedIn w) (chunks (classIn w)) && leb (chainedIn w) (touchedIn w)
 
 -- The other words: the head's zeros, the slots of the chunks handed out, and those behind, which are zero.
 unfoldable pub bodyLegal : List ℕ → Bool

@@ -9,6 +9,7 @@ ghost use Rattle.model.specs.PageMap.{idleZone};
 ghost use Rattle.zone.specs.Encoding.{zoneWords, slotCount, zoneEncoding};
 ghost use Rattle.zone.specs.Decoding.{touchedIn, chainedIn, headLegal, bodyLegal, isZone, zoneOf};
 ghost use Rattle.zone.specs.Live.{liveChunks};
+ghost use Rattle.model.specs.Numbers.{mostGroup};
 
 pub mod layout;
 pub mod sizes;
@@ -80,7 +81,7 @@ pub fn set_up(part: &mut [u32], class: u32, group: u32)
 
 // Grants a chunk to the group: the first untouched one, or where there is none the last one returned.
 pub fn grant(part: &mut [u32], group: u32) -> u32
-    requires { ⌜ (isZone (now part) ≡ true) × (full (zoneOf (now part)) ≡ false) × (0 < group) × (group ≤ 12) ⌝ }
+    requires { ⌜ (isZone (now part) ≡ true) × (full (zoneOf (now part)) ≡ false) × (0 < group) × (group ≤ mostGroup) ⌝ }
     ensures { λ r. ⌜ (r ≡ nextChunk (zoneOf (now (part .entry)))) × (now (part .exit) ≡ zoneEncoding (granted group (zoneOf (now (part .entry))))) ⌝ }
 {
     let class = part[AT_CLASS];

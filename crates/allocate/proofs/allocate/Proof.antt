@@ -8,6 +8,19 @@ use borrow.Author.Needs.{needs}
 use Rattle.allocate.proofs.allocate.Statement.{statement}
 use Rattle.allocate.proofs.allocate.Tie as tie
 
+-- The places that answers speak of, each from the next one.
+abbrev else1 : tie.After-size-ok → tie.Else1
+else1 c = c .before
+
+abbrev group-ok : tie.Else1 → tie.After-group-ok
+group-ok c = c .before
+
+abbrev start : tie.After-group-ok → tie.Start
+start c = c .before .before
+
+abbrev size-ok : tie.Else2 → tie.After-size-ok
+size-ok c = c .before
+
 group-ok-requires : tie.Need-group-ok-requires
 group-ok-requires c κs = search needs
 
@@ -18,16 +31,31 @@ size-ok-requires : tie.Need-size-ok-requires
 size-ok-requires c κs = search needs
 
 returns-2 : tie.Need-returns-2
-returns-2 c = let a = c .before .before .before .before .before .args in made (bad-size (decode (a .words .now)) (a .group) (a .size) (sym (c .before .before .before .group-ok .ensures) ∙ not-false _ (c .before .before .if1 .left)) (sym (c .before .size-ok .ensures) ∙ not-true _ (c .if2 .taken))) (refl, c .before .before .before .before .before .pre .lent .words)
+returns-2 c =
+    let e = else1 (c .before) in
+    let g = group-ok e in
+    let s = start g in
+    let a = s .args in made (bad-size (decode (a .words .now)) (a .group) (a .size) (sym (g .group-ok .ensures) ∙ not-false _ (e .if1 .left)) (sym (c .before .size-ok .ensures) ∙ not-true _ (c .if2 .taken))) (refl, s .pre .lent .words)
 
 supply-requires : tie.Need-supply-requires
-supply-requires c κs = let a = c .before .before .before .before .before .before .args in let t = sym (c .before .before .before .before .group-ok .ensures) ∙ not-false _ (c .before .before .before .if1 .left) in let u = sym (c .before .before .size-ok .ensures) ∙ not-false _ (c .before .if2 .left) in (c .before .before .before .before .before .before .pre, (group-least (a .group) t, group-most (a .group) t, size-least (a .size) u, size-most (a .size) u))
+supply-requires c κs =
+    let s = size-ok (c .before) in
+    let e = else1 s in
+    let g = group-ok e in
+    let s₁ = start g in
+    let a = s₁ .args in let t = sym (g .group-ok .ensures) ∙ not-false _ (e .if1 .left) in let u = sym (s .size-ok .ensures) ∙ not-false _ (c .before .if2 .left) in (s₁ .pre, (group-least (a .group) t, group-most (a .group) t, size-least (a .size) u, size-most (a .size) u))
 
 same-length : tie.Need-same-length
 same-length c = search needs
 
 returns-3 : tie.Need-returns-3
-returns-3 c = let a = c .before .before .before .before .before .before .before .before .before .args in made (accepted (decode (a .words .now)) (a .group) (a .size) (sym (c .before .before .before .before .before .before .before .group-ok .ensures) ∙ not-false _ (c .before .before .before .before .before .before .if1 .left)) (sym (c .before .before .before .before .before .size-ok .ensures) ∙ not-false _ (c .before .before .before .before .if2 .left))) (c .before .before .supply .ensures)
+returns-3 c =
+    let e = c .before .before .before .before in
+    let s = size-ok e in
+    let e₁ = else1 s in
+    let g = group-ok e₁ in
+    let s₁ = start g in
+    let a = s₁ .args in made (accepted (decode (a .words .now)) (a .group) (a .size) (sym (g .group-ok .ensures) ∙ not-false _ (e₁ .if1 .left)) (sym (s .size-ok .ensures) ∙ not-false _ (e .if2 .left))) (c .before .before .supply .ensures)
 
 pub allocate-spec : {M : Type 1} → statement M
 allocate-spec =

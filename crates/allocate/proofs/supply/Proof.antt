@@ -7,17 +7,30 @@ use borrow.Author.Needs.{needs}
 use Rattle.allocate.proofs.supply.Statement.{statement}
 use Rattle.allocate.proofs.supply.Tie as tie
 
+-- The places that answers speak of, each from the next one.
+abbrev start : tie.Then1 → tie.Start
+start c = c .before .before
+
+abbrev start-before-else1 : tie.Else1 → tie.Start
+start-before-else1 c = c .before .before
+
 class-of-size-requires : tie.Need-class-of-size-requires
 class-of-size-requires c κs = search needs
 
 supply-chunk-requires : tie.Need-supply-chunk-requires
-supply-chunk-requires c κs = let h = c .before .before .before .before .pre in let k = classed _ (h .1 .2) (c .before .before .if1 .taken) in record { good = h .0; class = omega (arith, k .below, c .class-of-size .ensures); least = h .1 .0; most = h .1 .1 }
+supply-chunk-requires c κs =
+    let t = c .before .before in
+    let s = start t in
+    let h = s .pre in let k = classed _ (h .1 .2) (t .if1 .taken) in record { good = h .0; class = omega (arith, k .below, c .class-of-size .ensures); least = h .1 .0; most = h .1 .1 }
 
 same-length : tie.Need-same-length
 same-length c = search needs
 
 returns : tie.Need-returns
-returns c = let a = c .before .before .before .before .before .before .before .args in made (small (decode (a .words .now)) (a .group) (a .size) _ (c .before .before .before .before .before .if1 .taken) (c .before .before .before .class-of-size .ensures)) (c .before .before .supply-chunk .ensures)
+returns c =
+    let t = c .before .before .before .before .before in
+    let s = start t in
+    let a = s .args in made (small (decode (a .words .now)) (a .group) (a .size) _ (t .if1 .taken) (c .before .before .before .class-of-size .ensures)) (c .before .before .supply-chunk .ensures)
 
 sub-need : tie.Need-sub-need
 sub-need c = search needs
@@ -35,7 +48,10 @@ same-length-2 : tie.Need-same-length-2
 same-length-2 c = search needs
 
 returns-2 : tie.Need-returns-2
-returns-2 c = let a = c .before .before .before .before .before .before .args in made (large (decode (a .words .now)) (a .group) (a .size) (c .before .before .before .before .if1 .left)) (c .before .before .supply-pages .ensures)
+returns-2 c =
+    let e = c .before .before .before .before in
+    let s = start-before-else1 e in
+    let a = s .args in made (large (decode (a .words .now)) (a .group) (a .size) (e .if1 .left)) (c .before .before .supply-pages .ensures)
 
 pub supply-spec : {M : Type 1} → statement M
 supply-spec =

@@ -7,20 +7,32 @@ use borrow.Author.Needs.{needs}
 use Rattle.bench.proofs.serve_end.Statement.{statement}
 use Rattle.bench.proofs.serve_end.Tie as tie
 
+-- The places that answers speak of, each from the next one.
+abbrev start : tie.After-serve-last → tie.Start
+start c = c .before .before .before .before .before
+
 slice-relend-prefix-serve-last : tie.Need-slice-relend-prefix-serve-last
 slice-relend-prefix-serve-last c = search needs
 
 slice-aggregate-serve-last : tie.Need-slice-aggregate-serve-last
-slice-aggregate-serve-last c = sym (length-take-le 207 (c .before .before .before .before .args .out .now) (c .before .before .before .before .pre .1))
+slice-aggregate-serve-last c =
+    let s = c .before .before .before .before in
+    sym (length-take-le 207 (s .args .out .now) (s .pre .1))
 
 serve-last-requires : tie.Need-serve-last-requires
 serve-last-requires c κs = search needs
 
 slice-reshare-prefix-write-all : tie.Need-slice-reshare-prefix-write-all
-slice-reshare-prefix-write-all c = front-holds (c .before .before .before .before .before .before .before .before .before .args .out .now) 207 (c .before .before .before .before .before .before .before .before .before .pre .1) (omega arith) (c .before .before .before .before .serve-last .ensures .1)
+slice-reshare-prefix-write-all c =
+    let s = c .before .before .before .before in
+    let s₁ = start s in
+    front-holds (s₁ .args .out .now) 207 (s₁ .pre .1) (omega arith) (s .serve-last .ensures .1)
 
 slice-aggregate-write-all : tie.Need-slice-aggregate-write-all
-slice-aggregate-write-all c = sym (length-take-le _ _ (front-holds (c .before .before .before .before .before .before .before .before .before .before .args .out .now) 207 (c .before .before .before .before .before .before .before .before .before .before .pre .1) (omega arith) (c .before .before .before .before .before .serve-last .ensures .1)))
+slice-aggregate-write-all c =
+    let s = c .before .before .before .before .before in
+    let s₁ = start s in
+    sym (length-take-le _ _ (front-holds (s₁ .args .out .now) 207 (s₁ .pre .1) (omega arith) (s .serve-last .ensures .1)))
 
 write-all-requires : tie.Need-write-all-requires
 write-all-requires c κs = search needs

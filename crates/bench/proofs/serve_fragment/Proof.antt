@@ -16,6 +16,13 @@ Inv-loop meta₀ fragment out₀ reader₀ at₀ used₀ meta out reader at used
 abbrev μ-loop : tie.MeasureT-loop
 μ-loop meta₀ fragment out₀ reader₀ at₀ used₀ meta out reader at used = length fragment - at
 
+-- The places that answers speak of, each from the next one.
+abbrev turn : tie.After-serve-next Inv-loop μ-loop → tie.In-loop Inv-loop μ-loop
+turn c = c .before .before .before
+
+abbrev loop-before-turn : tie.In-loop Inv-loop μ-loop → tie.At-loop Inv-loop μ-loop
+loop-before-turn c = c .before
+
 loop-holds : tie.Need-loop-holds Inv-loop μ-loop
 loop-holds c = search needs
 
@@ -35,22 +42,40 @@ serve-next-requires : tie.Need-serve-next-requires Inv-loop μ-loop
 serve-next-requires c κs = search needs
 
 add-used : tie.Need-add-used Inv-loop μ-loop
-add-used c = omega (arith, part-holds (c .before .before .before .before .before .before .before .before .before .before .loop .out) (c .before .before .before .before .before .before .before .before .before .before .loop .used) _ 207 (c .before .before .before .before .before .before .before .before .before .before .loop .inv .1) refl (omega arith) (c .before .before .before .before .before .before .serve-next .ensures .reply), part-keeps (c .before .before .before .before .before .before .before .before .before .before .loop .out) (c .before .before .before .before .before .before .before .before .before .before .loop .used) _ 207 (c .before .before .before .before .before .before .before .before .before .before .loop .inv .1) refl (omega arith) (c .before .before .before .before .before .before .serve-next .ensures .reply))
+add-used c =
+    let s = c .before .before .before .before .before .before in
+    let l = loop-before-turn (turn s) in
+    omega (arith, part-holds (l .loop .out) (l .loop .used) _ 207 (l .loop .inv .1) refl (omega arith) (s .serve-next .ensures .reply), part-keeps (l .loop .out) (l .loop .used) _ 207 (l .loop .inv .1) refl (omega arith) (s .serve-next .ensures .reply))
 
 sub-if1 : tie.Need-sub-if1 Inv-loop μ-loop
-sub-if1 c = part-holds (c .before .before .before .before .before .before .before .before .before .before .loop .out) (c .before .before .before .before .before .before .before .before .before .before .loop .used) _ 207 (c .before .before .before .before .before .before .before .before .before .before .loop .inv .1) refl (omega arith) (c .before .before .before .before .before .before .serve-next .ensures .reply)
+sub-if1 c =
+    let s = c .before .before .before .before .before .before in
+    let l = loop-before-turn (turn s) in
+    part-holds (l .loop .out) (l .loop .used) _ 207 (l .loop .inv .1) refl (omega arith) (s .serve-next .ensures .reply)
 
 loop-less : tie.Need-loop-less Inv-loop μ-loop
-loop-less c = omega (arith, c .before .before .before .before .before .before .before .serve-next .ensures .onward (c .before .before .before .before .before .before .before .before .before .before .loop-test .taken))
+loop-less c =
+    let s = c .before .before .before .before .before .before .before in
+    let t = turn s in
+    omega (arith, s .serve-next .ensures .onward (t .loop-test .taken))
 
 loop-again : tie.Need-loop-again Inv-loop μ-loop
-loop-again c = (serving-turn (c .before .before .before .before .before .before .before .before .before .before .before .loop .inv .0) (c .before .before .before .before .before .before .before .serve-next .ensures) (search needs) (part-keeps (c .before .before .before .before .before .before .before .before .before .before .before .loop .out) (c .before .before .before .before .before .before .before .before .before .before .before .loop .used) _ 207 (c .before .before .before .before .before .before .before .before .before .before .before .loop .inv .1) refl (omega arith) (c .before .before .before .before .before .before .before .serve-next .ensures .reply)), omega (arith, part-holds (c .before .before .before .before .before .before .before .before .before .before .before .loop .out) (c .before .before .before .before .before .before .before .before .before .before .before .loop .used) _ 207 (c .before .before .before .before .before .before .before .before .before .before .before .loop .inv .1) refl (omega arith) (c .before .before .before .before .before .before .before .serve-next .ensures .reply)))
+loop-again c =
+    let s = c .before .before .before .before .before .before .before in
+    let l = loop-before-turn (turn s) in
+    (serving-turn (l .loop .inv .0) (s .serve-next .ensures) (search needs) (part-keeps (l .loop .out) (l .loop .used) _ 207 (l .loop .inv .1) refl (omega arith) (s .serve-next .ensures .reply)), omega (arith, part-holds (l .loop .out) (l .loop .used) _ 207 (l .loop .inv .1) refl (omega arith) (s .serve-next .ensures .reply)))
 
 slice-reshare-prefix-write-all : tie.Need-slice-reshare-prefix-write-all Inv-loop μ-loop
-slice-reshare-prefix-write-all c = part-holds (c .before .before .before .before .before .before .before .before .before .before .before .loop .out) (c .before .before .before .before .before .before .before .before .before .before .before .loop .used) _ 207 (c .before .before .before .before .before .before .before .before .before .before .before .loop .inv .1) refl (omega arith) (c .before .before .before .before .before .before .before .serve-next .ensures .reply)
+slice-reshare-prefix-write-all c =
+    let s = c .before .before .before .before .before .before .before in
+    let l = loop-before-turn (turn s) in
+    part-holds (l .loop .out) (l .loop .used) _ 207 (l .loop .inv .1) refl (omega arith) (s .serve-next .ensures .reply)
 
 slice-aggregate-write-all : tie.Need-slice-aggregate-write-all Inv-loop μ-loop
-slice-aggregate-write-all c = sym (length-take-le _ _ (part-holds (c .before .before .before .before .before .before .before .before .before .before .before .before .loop .out) (c .before .before .before .before .before .before .before .before .before .before .before .before .loop .used) _ 207 (c .before .before .before .before .before .before .before .before .before .before .before .before .loop .inv .1) refl (omega arith) (c .before .before .before .before .before .before .before .before .serve-next .ensures .reply)))
+slice-aggregate-write-all c =
+    let s = c .before .before .before .before .before .before .before .before in
+    let l = loop-before-turn (turn s) in
+    sym (length-take-le _ _ (part-holds (l .loop .out) (l .loop .used) _ 207 (l .loop .inv .1) refl (omega arith) (s .serve-next .ensures .reply)))
 
 write-all-requires : tie.Need-write-all-requires Inv-loop μ-loop
 write-all-requires c κs = search needs
@@ -62,13 +87,21 @@ same-length-2 : tie.Need-same-length-2 Inv-loop μ-loop
 same-length-2 c = search needs
 
 returns : tie.Need-returns Inv-loop μ-loop
-returns c = serving-failed (c .before .before .before .before .before .before .before .before .before .before .serve-next .ensures .sound)
+returns c =
+    let s = c .before .before .before .before .before .before .before .before .before .before in
+    serving-failed (s .serve-next .ensures .sound)
 
 loop-less-2 : tie.Need-loop-less-2 Inv-loop μ-loop
-loop-less-2 c = omega (arith, c .before .before .before .before .before .before .before .before .before .before .serve-next .ensures .onward (c .before .before .before .before .before .before .before .before .before .before .before .before .before .loop-test .taken))
+loop-less-2 c =
+    let s = c .before .before .before .before .before .before .before .before .before .before in
+    let t = turn s in
+    omega (arith, s .serve-next .ensures .onward (t .loop-test .taken))
 
 loop-again-2 : tie.Need-loop-again-2 Inv-loop μ-loop
-loop-again-2 c = (serving-turn (c .before .before .before .before .before .before .before .before .before .before .before .before .before .before .loop .inv .0) (c .before .before .before .before .before .before .before .before .before .before .serve-next .ensures) (search needs) (part-keeps (c .before .before .before .before .before .before .before .before .before .before .before .before .before .before .loop .out) (c .before .before .before .before .before .before .before .before .before .before .before .before .before .before .loop .used) _ 207 (c .before .before .before .before .before .before .before .before .before .before .before .before .before .before .loop .inv .1) refl (omega arith) (c .before .before .before .before .before .before .before .before .before .before .serve-next .ensures .reply)), omega (arith, part-keeps (c .before .before .before .before .before .before .before .before .before .before .before .before .before .before .loop .out) (c .before .before .before .before .before .before .before .before .before .before .before .before .before .before .loop .used) _ 207 (c .before .before .before .before .before .before .before .before .before .before .before .before .before .before .loop .inv .1) refl (omega arith) (c .before .before .before .before .before .before .before .before .before .before .serve-next .ensures .reply), c .before .before .before .before .before .before .before .before .before .before .before .before .before .before .loop .inv .1))
+loop-again-2 c =
+    let s = c .before .before .before .before .before .before .before .before .before .before in
+    let l = loop-before-turn (turn s) in
+    (serving-turn (l .loop .inv .0) (s .serve-next .ensures) (search needs) (part-keeps (l .loop .out) (l .loop .used) _ 207 (l .loop .inv .1) refl (omega arith) (s .serve-next .ensures .reply)), omega (arith, part-keeps (l .loop .out) (l .loop .used) _ 207 (l .loop .inv .1) refl (omega arith) (s .serve-next .ensures .reply), l .loop .inv .1))
 
 slice-reshare-prefix-write-all-2 : tie.Need-slice-reshare-prefix-write-all-2 Inv-loop μ-loop
 slice-reshare-prefix-write-all-2 c = search needs

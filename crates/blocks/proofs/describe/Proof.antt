@@ -10,6 +10,10 @@ use borrow.Author.Needs.{needs}
 use Rattle.blocks.proofs.describe.Statement.{statement}
 use Rattle.blocks.proofs.describe.Tie as tie
 
+-- The places that answers speak of, each from the next one.
+abbrev start : tie.After-find-block → tie.Start
+start c = c .before .before
+
 find-block-requires : tie.Need-find-block-requires
 find-block-requires c κs = search needs
 
@@ -17,28 +21,46 @@ enum-known-at : tie.Need-enum-known-at
 enum-known-at c = search needs
 
 cast-pages : tie.Need-cast-pages
-cast-pages c = let t = subst (Tells (decode (c .before .before .before .before .before .args .words .now)) (c .before .before .before .before .before .args .offset)) (c .before .at .given .1) (c .before .before .before .find-block .ensures) in omega (arith, whole-few (c .before .before .before .before .before .pre .valid) _ _ _ _ t)
+cast-pages c =
+    let f = c .before .before .before in
+    let s = start f in
+    let t = subst (Tells (decode (s .args .words .now)) (s .args .offset)) (c .before .at .given .1) (f .find-block .ensures) in omega (arith, whole-few (s .pre .valid) _ _ _ _ t)
 
 mul-room : tie.Need-mul-room
-mul-room c = let t = subst (Tells (decode (c .before .before .before .before .before .args .words .now)) (c .before .before .before .before .before .args .offset)) (c .before .at .given .1) (c .before .before .before .find-block .ensures) in omega (arith, whole-few (c .before .before .before .before .before .pre .valid) _ _ _ _ t)
+mul-room c =
+    let f = c .before .before .before in
+    let s = start f in
+    let t = subst (Tells (decode (s .args .words .now)) (s .args .offset)) (c .before .at .given .1) (f .find-block .ensures) in omega (arith, whole-few (s .pre .valid) _ _ _ _ t)
 
 enum-known-at-2 : tie.Need-enum-known-at-2
 enum-known-at-2 c = search needs
 
 room-requires : tie.Need-room-requires
-room-requires c κs = let t = subst (Tells (decode (c .before .before .before .before .before .args .words .now)) (c .before .before .before .before .before .args .offset)) (c .before .at2 .given .1) (c .before .before .before .find-block .ensures) in class-few (c .before .before .before .before .before .pre .valid) _ _ _ _ _ t
+room-requires c κs =
+    let f = c .before .before .before in
+    let s = start f in
+    let t = subst (Tells (decode (s .args .words .now)) (s .args .offset)) (c .before .at2 .given .1) (f .find-block .ensures) in class-few (s .pre .valid) _ _ _ _ _ t
 
 enum-told : tie.Need-enum-told
 enum-told c = search needs
 
 returns : tie.Need-returns
-returns c = let t = subst (Tells (decode (c .before .before .before .before .before .args .words .now)) (c .before .before .before .before .before .args .offset)) (c .before .at .given .1) (c .before .before .before .find-block .ensures) in sym (ap described (t .0))
+returns c =
+    let f = c .before .before .before in
+    let s = start f in
+    let t = subst (Tells (decode (s .args .words .now)) (s .args .offset)) (c .before .at .given .1) (f .find-block .ensures) in sym (ap described (t .0))
 
 returns-2 : tie.Need-returns-2
-returns-2 c = let t = subst (Tells (decode (c .before .before .before .before .before .before .args .words .now)) (c .before .before .before .before .before .before .args .offset)) (c .before .before .at2 .given .1) (c .before .before .before .before .find-block .ensures) in ap (Block (c .before .before .at2 .given .0 .1 .1 .1 .1 .0)) (c .room .ensures) ∙ sym (ap described (t .0))
+returns-2 c =
+    let f = c .before .before .before .before in
+    let s = start f in
+    let t = subst (Tells (decode (s .args .words .now)) (s .args .offset)) (c .before .before .at2 .given .1) (f .find-block .ensures) in ap (Block (c .before .before .at2 .given .0 .1 .1 .1 .1 .0)) (c .room .ensures) ∙ sym (ap described (t .0))
 
 returns-3 : tie.Need-returns-3
-returns-3 c = let t = subst (Tells (decode (c .before .before .before .before .args .words .now)) (c .before .before .before .before .args .offset)) (c .enum-told .given .1) (c .before .before .find-block .ensures) in sym (ap described t)
+returns-3 c =
+    let f = c .before .before in
+    let s = start f in
+    let t = subst (Tells (decode (s .args .words .now)) (s .args .offset)) (c .enum-told .given .1) (f .find-block .ensures) in sym (ap described t)
 
 pub describe-spec : {M : Type 1} → statement M
 describe-spec =

@@ -6,6 +6,10 @@ use borrow.Author.Needs.{needs}
 use Rattle.capi.proofs.nostrimel_allocate.Statement.{statement}
 use Rattle.capi.proofs.nostrimel_allocate.Tie as tie
 
+-- The places that answers speak of, each from the next one.
+abbrev start : tie.After-call → tie.Start
+start c = c .before .before .before
+
 call-requires : tie.Need-call-requires
 call-requires c κs = search needs
 
@@ -16,7 +20,10 @@ same-length : tie.Need-same-length
 same-length c = search needs
 
 returns : tie.Need-returns
-returns c = let e = c .before .before .before .before .call .ensures in let d = c .tell-first .ensures in (d .0 ∙ ap (λ x. reading x .refusal) (e .0), (e .1, d .1 ∙ ap (λ x. firstOr (c .before .before .before .before .before .before .before .args .offset .now) (reading x .values)) (e .0)))
+returns c =
+    let c₁ = c .before .before .before .before in
+    let s = start c₁ in
+    let e = c₁ .call .ensures in let d = c .tell-first .ensures in (d .0 ∙ ap (λ x. reading x .refusal) (e .0), (e .1, d .1 ∙ ap (λ x. firstOr (s .args .offset .now) (reading x .values)) (e .0)))
 
 pub nostrimel-allocate-spec : {M : Type 1} → statement M
 nostrimel-allocate-spec =

@@ -6,6 +6,10 @@ use borrow.Author.Needs.{needs}
 use Rattle.capi.proofs.nostrimel_trim.Statement.{statement}
 use Rattle.capi.proofs.nostrimel_trim.Tie as tie
 
+-- The places that answers speak of, each from the next one.
+abbrev start : tie.After-trim → tie.Start
+start c = c .before .before .before
+
 trim-requires : tie.Need-trim-requires
 trim-requires c κs = search needs
 
@@ -16,7 +20,10 @@ same-length : tie.Need-same-length
 same-length c = search needs
 
 returns : tie.Need-returns
-returns c = let e = c .before .before .before .before .trim .ensures in let d = c .tell-first .ensures in (d .0 ∙ ap (λ x. reading x .refusal) (e .0), (e .1, d .1 ∙ ap (λ x. firstOr (c .before .before .before .before .before .before .before .args .count .now) (reading x .values)) (e .0)))
+returns c =
+    let t = c .before .before .before .before in
+    let s = start t in
+    let e = t .trim .ensures in let d = c .tell-first .ensures in (d .0 ∙ ap (λ x. reading x .refusal) (e .0), (e .1, d .1 ∙ ap (λ x. firstOr (s .args .count .now) (reading x .values)) (e .0)))
 
 pub nostrimel-trim-spec : {M : Type 1} → statement M
 nostrimel-trim-spec = tie.close (tie.spec trim-requires tell-first-requires same-length returns)

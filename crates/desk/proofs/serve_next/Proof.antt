@@ -4,6 +4,16 @@ use borrow.Author.Needs.{needs}
 use Rattle.desk.proofs.serve_next.Statement.{statement}
 use Rattle.desk.proofs.serve_next.Tie as tie
 
+-- The places that answers speak of, each from the next one.
+abbrev got : tie.After-serve → tie.After-got
+got c = c .before .before .before .before
+
+abbrev feed : tie.After-got → tie.After-feed
+feed c = c .before .before .before
+
+abbrev start : tie.After-feed → tie.Start
+start c = c .before .before .before .before
+
 feed-requires : tie.Need-feed-requires
 feed-requires c κs = search needs
 
@@ -23,10 +33,18 @@ same-length-2 : tie.Need-same-length-2
 same-length-2 c = search needs
 
 returns : tie.Need-returns
-returns c = turn-by (c .before .before .before .before .before .before .before .before .before .before .before .feed .ensures) _ _ (followed-line (c .before .before .before .before .before .before .before .before .before .before .before .before .before .before .before .args .meta .now) (c .before .before .before .before .before .before .before .before .before .before .before .before .before .before .before .args .out .now) (c .before .before .before .before .before .before .before .before .got .given .1) (c .before .before .before .before .serve .ensures))
+returns c =
+    let s = c .before .before .before .before in
+    let g = got s in
+    let f = feed g in
+    let s₁ = start f in
+    turn-by (f .feed .ensures) _ _ (followed-line (s₁ .args .meta .now) (s₁ .args .out .now) (g .got .given .1) (s .serve .ensures))
 
 returns-2 : tie.Need-returns-2
-returns-2 c = turn-by (c .before .before .before .feed .ensures) _ _ (followed-none (c .before .before .before .before .before .before .before .args .meta .now) (c .before .before .before .before .before .before .before .args .out .now) (c .enum-told .given .1))
+returns-2 c =
+    let f = c .before .before .before in
+    let s = start f in
+    turn-by (f .feed .ensures) _ _ (followed-none (s .args .meta .now) (s .args .out .now) (c .enum-told .given .1))
 
 pub serve-next-spec : {M : Type 1} → statement M
 serve-next-spec =

@@ -9,6 +9,25 @@ use borrow.Author.Needs.{needs}
 use Rattle.free.proofs.chunk_back.Statement.{statement}
 use Rattle.free.proofs.chunk_back.Tie as tie
 
+-- The places that answers speak of, each from the next one.
+abbrev zone-class : tie.After-chain-back → tie.After-zone-class
+zone-class c = c .before .before
+
+abbrev start : tie.After-zone-class → tie.Start
+start c = c .before .before .before
+
+abbrev chain-back : tie.After-zone-idle → tie.After-chain-back
+chain-back c = c .before .before .before .before
+
+abbrev zone-idle : tie.Else1 → tie.After-zone-idle
+zone-idle c = c .before
+
+abbrev else1 : tie.After-count → tie.Else1
+else1 c = c .before .before
+
+abbrev count : tie.Else2 → tie.After-count
+count c = c .before
+
 zone-class-requires : tie.Need-zone-class-requires
 zone-class-requires c κs = let h = c .before .before .pre in (h .0 .lent, live-here (h .0) (h .1))
 
@@ -16,37 +35,69 @@ chain-back-requires : tie.Need-chain-back-requires
 chain-back-requires c κs = search needs
 
 zone-idle-requires : tie.Need-zone-idle-requires
-zone-idle-requires c κs = let h = c .before .before .before .before .before .before .before .before .pre in let e = c .before .before .before .chain-back .ensures in (chained-good (h .0) (h .1) e .lent, back-here (h .0) (h .1) e)
+zone-idle-requires c κs =
+    let c₁ = c .before .before .before in
+    let s = start (zone-class c₁) in
+    let h = s .pre in let e = c₁ .chain-back .ensures in (chained-good (h .0) (h .1) e .lent, back-here (h .0) (h .1) e)
 
 same-length : tie.Need-same-length
 same-length c = search needs
 
 returns : tie.Need-returns
-returns c = let h = c .before .before .before .before .before .before .before .before .before .before .pre in back-busy (h .0) (h .1) (c .before .before .before .before .before .chain-back .ensures) _ (c .before .zone-idle .ensures) (not-true _ (c .if1 .taken))
+returns c =
+    let c₁ = chain-back (c .before) in
+    let s = start (zone-class c₁) in
+    let h = s .pre in back-busy (h .0) (h .1) (c₁ .chain-back .ensures) _ (c .before .zone-idle .ensures) (not-true _ (c .if1 .taken))
 
 slice-reshare-prefix-count : tie.Need-slice-reshare-prefix-count
-slice-reshare-prefix-count c = let h = c .before .before .before .before .before .before .before .before .before .before .pre in has-header (chained-good (h .0) (h .1) (c .before .before .before .before .before .chain-back .ensures) .lent)
+slice-reshare-prefix-count c =
+    let c₁ = chain-back (c .before) in
+    let s = start (zone-class c₁) in
+    let h = s .pre in has-header (chained-good (h .0) (h .1) (c₁ .chain-back .ensures) .lent)
 
 slice-aggregate-count : tie.Need-slice-aggregate-count
-slice-aggregate-count c = let h = c .before .before .before .before .before .before .before .before .before .before .before .pre in header-long (chained-good (h .0) (h .1) (c .before .before .before .before .before .before .chain-back .ensures) .lent)
+slice-aggregate-count c =
+    let c₁ = chain-back (zone-idle (c .before)) in
+    let s = start (zone-class c₁) in
+    let h = s .pre in header-long (chained-good (h .0) (h .1) (c₁ .chain-back .ensures) .lent)
 
 count-requires : tie.Need-count-requires
-count-requires c κs = let h = c .before .before .before .before .before .before .before .before .before .before .before .pre in (header-lent (chained-good (h .0) (h .1) (c .before .before .before .before .before .before .chain-back .ensures) .lent), omega (arith, c .before .before .before .before .before .before .before .before .zone-class .ensures, live-class (h .0) (h .1)))
+count-requires c κs =
+    let c₁ = chain-back (zone-idle (c .before)) in
+    let z = zone-class c₁ in
+    let s = start z in
+    let h = s .pre in (header-lent (chained-good (h .0) (h .1) (c₁ .chain-back .ensures) .lent), omega (arith, z .zone-class .ensures, live-class (h .0) (h .1)))
 
 same-length-2 : tie.Need-same-length-2
 same-length-2 c = search needs
 
 returns-2 : tie.Need-returns-2
-returns-2 c = let h = c .before .before .before .before .before .before .before .before .before .before .before .before .before .pre in back-only (h .0) (h .1) (c .before .before .before .before .before .before .before .before .chain-back .ensures) _ (c .before .before .before .before .before .before .before .before .before .before .zone-class .ensures) _ (c .before .count .ensures) (omega (arith, c .if2 .taken))
+returns-2 c =
+    let c₁ = chain-back (zone-idle (else1 (c .before))) in
+    let z = zone-class c₁ in
+    let s = start z in
+    let h = s .pre in back-only (h .0) (h .1) (c₁ .chain-back .ensures) _ (z .zone-class .ensures) _ (c .before .count .ensures) (omega (arith, c .if2 .taken))
 
 retire-requires : tie.Need-retire-requires
-retire-requires c κs = let h = c .before .before .before .before .before .before .before .before .before .before .before .before .before .before .pre in let e = c .before .before .before .before .before .before .before .before .before .chain-back .ensures in (chained-good (h .0) (h .1) e, (_, back-stands (h .0) (h .1) e, c .before .before .before .before .before .before .before .before .before .before .before .zone-class .ensures))
+retire-requires c κs =
+    let c₁ = chain-back (zone-idle (else1 (count (c .before)))) in
+    let z = zone-class c₁ in
+    let s = start z in
+    let h = s .pre in let e = c₁ .chain-back .ensures in (chained-good (h .0) (h .1) e, (_, back-stands (h .0) (h .1) e, z .zone-class .ensures))
 
 same-length-3 : tie.Need-same-length-3
 same-length-3 c = search needs
 
 returns-3 : tie.Need-returns-3
-returns-3 c = let h = c .before .before .before .before .before .before .before .before .before .before .before .before .before .before .before .before .before .pre in back-gone (h .0) (h .1) (c .before .before .before .before .before .before .before .before .before .before .before .before .chain-back .ensures) _ (c .before .before .before .before .before .before .before .before .zone-idle .ensures) (not-false _ (c .before .before .before .before .before .before .before .if1 .left)) _ (c .before .before .before .before .before .before .before .before .before .before .before .before .before .before .zone-class .ensures) _ (c .before .before .before .before .before .count .ensures) (c .before .before .before .before .if2 .left) _ _ (c .before .before .retire .ensures)
+returns-3 c =
+    let e = c .before .before .before .before in
+    let c₁ = count e in
+    let e₁ = else1 c₁ in
+    let z = zone-idle e₁ in
+    let c₂ = chain-back z in
+    let z₁ = zone-class c₂ in
+    let s = start z₁ in
+    let h = s .pre in back-gone (h .0) (h .1) (c₂ .chain-back .ensures) _ (z .zone-idle .ensures) (not-false _ (e₁ .if1 .left)) _ (z₁ .zone-class .ensures) _ (c₁ .count .ensures) (e .if2 .left) _ _ (c .before .before .retire .ensures)
 
 pub chunk-back-spec : {M : Type 1} → statement M
 chunk-back-spec =

@@ -8,6 +8,13 @@ use Rattle.header.proofs.Facts.{no-header, header-last}
 use Rattle.header.proofs.check.Statement.{statement}
 use Rattle.header.proofs.check.Tie as tie
 
+-- The places that answers speak of, each from the next one.
+abbrev are-legal : tie.Else5 → tie.After-are-legal
+are-legal c = c .before
+
+abbrev start-before-are-legal : tie.After-are-legal → tie.Start
+start-before-are-legal c = c .before .before .before .before .before .before .before .before .before
+
 returns : tie.Need-returns
 returns c = no-header _ (λ h. c .if1 .taken (h .size))
 
@@ -70,8 +77,11 @@ is-zero-requires c κs = search needs
 
 returns-7 : tie.Need-returns-7
 returns-7 c =
-    let start = c .before .before .before .before .before .before .before .before .before .before .before .before .before .before .before in
-    let spare = sym (c .before .before .before .before .before .before .are-legal .ensures) ∙ not-false _ (c .before .before .before .before .before .if5 .left) in
+    let e = c .before .before .before .before .before in
+    let a = are-legal e in
+    let s = start-before-are-legal a in
+    let start = s in
+    let spare = sym (a .are-legal .ensures) ∙ not-false _ (e .if5 .left) in
     let lists = sym (c .before .before .before .are-legal2 .ensures) ∙ not-false _ (c .before .before .if6 .left) in
     c .is-zero .ensures ∙ header-last (start .args .words .now) (omega arith) (omega arith) (omega arith) (omega arith) spare lists
 

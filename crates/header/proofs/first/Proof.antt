@@ -5,6 +5,13 @@ use Rattle.header.proofs.Steps.{header-length, lists-most, first-below,
 use Rattle.header.proofs.first.Statement.{statement}
 use Rattle.header.proofs.first.Tie as tie
 
+-- The places that answers speak of, each from the next one.
+abbrev start : tie.After-key → tie.Start
+start c = c .before .before
+
+abbrev key : tie.After-count-between → tie.After-key
+key c = c .before .before
+
 key-requires : tie.Need-key-requires
 key-requires c κs = search needs
 
@@ -21,28 +28,39 @@ count-between-requires : tie.Need-count-between-requires
 count-between-requires c κs = search needs
 
 add-slot : tie.Need-add-slot
-add-slot c = omega (arith, lists-most (c .before .before .before .before .pre .0) _ _ (c .count-between .ensures))
+add-slot c =
+    let s = start (c .before .before) in
+    omega (arith, lists-most (s .pre .0) _ _ (c .count-between .ensures))
 
 mul-slot : tie.Need-mul-slot
-mul-slot c = omega (arith, lists-most (c .before .before .before .before .pre .0) _ _ (c .count-between .ensures))
+mul-slot c =
+    let s = start (c .before .before) in
+    omega (arith, lists-most (s .pre .0) _ _ (c .count-between .ensures))
 
 shared-slice-read-slot : tie.Need-shared-slice-read-slot
 shared-slice-read-slot c =
-    let pre = c .before .before .before .before .before .pre in
+    let s = start (key (c .before)) in
+    let pre = s .pre in
     omega (arith, header-length (pre .0), lists-most (pre .0) _ _ (c .before .count-between .ensures))
 
 returns : tie.Need-returns
 returns c =
-    let pre = c .before .before .before .before .before .before .pre in
-    first-below (pre .0) _ (pre .1) _ _ (c .before .before .before .before .key .ensures) (c .before .before .count-between .ensures) (c .if1 .taken)
+    let c₁ = c .before .before in
+    let k = key c₁ in
+    let s = start k in
+    let pre = s .pre in
+    first-below (pre .0) _ (pre .1) _ _ (k .key .ensures) (c₁ .count-between .ensures) (c .if1 .taken)
 
 key-requires-2 : tie.Need-key-requires-2
 key-requires-2 c κs = search needs
 
 returns-2 : tie.Need-returns-2
 returns-2 c =
-    let pre = c .before .before .before .before .before .before .before .before .pre in
-    first-above (pre .0) _ (pre .1) _ _ (c .before .before .before .before .before .before .key .ensures) (c .before .before .before .before .count-between .ensures) _ (c .before .key2 .ensures) (c .if2 .taken)
+    let c₁ = c .before .before .before .before in
+    let k = key c₁ in
+    let s = start k in
+    let pre = s .pre in
+    first-above (pre .0) _ (pre .1) _ _ (k .key .ensures) (c₁ .count-between .ensures) _ (c .before .key2 .ensures) (c .if2 .taken)
 
 sub-t12 : tie.Need-sub-t12
 sub-t12 c = search needs
@@ -52,8 +70,11 @@ sub-t14 c = search needs
 
 returns-3 : tie.Need-returns-3
 returns-3 c =
-    let pre = c .before .before .before .before .before .before .before .before .pre in
-    first-own (pre .0) _ (pre .1) _ _ (c .before .before .before .before .before .before .key .ensures) (c .before .before .before .before .count-between .ensures) _ (c .before .key2 .ensures) (c .before .before .if1 .left) (c .if2 .left)
+    let c₁ = c .before .before .before .before in
+    let k = key c₁ in
+    let s = start k in
+    let pre = s .pre in
+    first-own (pre .0) _ (pre .1) _ _ (k .key .ensures) (c₁ .count-between .ensures) _ (c .before .key2 .ensures) (c .before .before .if1 .left) (c .if2 .left)
 
 pub first-spec : {M : Type 1} → statement M
 first-spec =

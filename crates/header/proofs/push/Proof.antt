@@ -5,6 +5,13 @@ use Rattle.header.proofs.Steps.{header-length, lists-size, lists-most, 
 use Rattle.header.proofs.push.Statement.{statement}
 use Rattle.header.proofs.push.Tie as tie
 
+-- The places that answers speak of, each from the next one.
+abbrev start : tie.After-key → tie.Start
+start c = c .before .before .before .before
+
+abbrev key : tie.After-count-between → tie.After-key
+key c = c .before
+
 sub-count-between : tie.Need-sub-count-between
 sub-count-between c = search needs
 
@@ -27,7 +34,9 @@ part-shift-in-start : tie.Need-part-shift-in-start
 part-shift-in-start c = search needs
 
 part-shift-in-end : tie.Need-part-shift-in-end
-part-shift-in-end c = omega (arith, header-length (c .before .before .before .before .before .pre .0))
+part-shift-in-end c =
+    let s = start (c .before) in
+    omega (arith, header-length (s .pre .0))
 
 key-requires-2 : tie.Need-key-requires-2
 key-requires-2 c κs = search needs
@@ -37,16 +46,21 @@ add-shift-in c = search needs
 
 shift-in-requires : tie.Need-shift-in-requires
 shift-in-requires c κs =
-    let pre = c .before .before .before .before .before .before .before .pre in
-    omega (arith, lists-size (pre .0), lists-most (pre .0) _ _ (c .before .before .count-between .ensures))
+    let c₁ = c .before .before in
+    let s = start (key c₁) in
+    let pre = s .pre in
+    omega (arith, lists-size (pre .0), lists-most (pre .0) _ _ (c₁ .count-between .ensures))
 
 same-length : tie.Need-same-length
 same-length c = search needs
 
 returns : tie.Need-returns
 returns c =
-    let pre = c .before .before .before .before .before .before .before .before .before .before .pre in
-    step-push (pre .0) _ _ (pre .1) _ _ _ _ (c .before .before .before .before .before .before .key .ensures) (c .before .before .before .key2 .ensures) (c .before .before .before .before .before .count-between .ensures) (c .before .before .shift-in .ensures)
+    let c₁ = c .before .before .before .before .before in
+    let k = key c₁ in
+    let s = start k in
+    let pre = s .pre in
+    step-push (pre .0) _ _ (pre .1) _ _ _ _ (k .key .ensures) (c .before .before .before .key2 .ensures) (c₁ .count-between .ensures) (c .before .before .shift-in .ensures)
 
 pub push-spec : {M : Type 1} → statement M
 push-spec =

@@ -27,7 +27,9 @@ same-length : tie.Need-same-length
 same-length c = search needs
 
 returns : tie.Need-returns
-returns c = step-fresh (c .before .before .before .before .before .args .words .now) _ _ (c .before .before .before .before .before .pre) (c .before .before .clear .ensures)
+returns c =
+    let s = c .before .before .before .before .before in
+    step-fresh (s .args .words .now) _ _ (s .pre) (c .before .before .clear .ensures)
 
 pub set-up-spec : {M : Type 1} → statement M
 set-up-spec =

@@ -12,6 +12,10 @@ Inv-loop words n kind p₀ rows₀ p rows = Counting kind words n rows p
 abbrev μ-loop : tie.MeasureT-loop
 μ-loop words n kind p₀ rows₀ p rows = n - p
 
+-- The places that answers speak of, each from the next one.
+abbrev start : tie.At-loop Inv-loop μ-loop → tie.Start Inv-loop μ-loop
+start c = c .before .before
+
 loop-holds : tie.Need-loop-holds Inv-loop μ-loop
 loop-holds c = count-start (c .before .pre)
 
@@ -28,19 +32,30 @@ same-requires : tie.Need-same-requires Inv-loop μ-loop
 same-requires c κs = search needs
 
 add-rows : tie.Need-add-rows Inv-loop μ-loop
-add-rows c = omega (arith, count-few (c .before .before .before .loop .inv) (c .before .before .loop-test .taken) _ (c .same .ensures), c .before .before .before .loop .inv .few, c .before .before .before .loop .inv .most)
+add-rows c =
+    let l = c .before .before .before in
+    omega (arith, count-few (l .loop .inv) (c .before .before .loop-test .taken) _ (c .same .ensures), l .loop .inv .few, l .loop .inv .most)
 
 size-requires : tie.Need-size-requires Inv-loop μ-loop
-size-requires c κs = let k = count-next (c .before .before .before .loop .inv) (c .before .before .loop-test .taken) in (c .before .before .before .before .before .pre, (c .before .before .before .loop .inv .b, k .x, k .stands))
+size-requires c κs =
+    let l = c .before .before .before in
+    let s = start l in
+    let k = count-next (l .loop .inv) (c .before .before .loop-test .taken) in (s .pre, (l .loop .inv .b, k .x, k .stands))
 
 add-p : tie.Need-add-p Inv-loop μ-loop
-add-p c = let k = count-next (c .before .before .before .before .loop .inv) (c .before .before .before .loop-test .taken) in omega (arith, c .size .ensures _ _ (k .stands), k .read .inside, k .read .few)
+add-p c =
+    let l = c .before .before .before .before in
+    let k = count-next (l .loop .inv) (c .before .before .before .loop-test .taken) in omega (arith, c .size .ensures _ _ (k .stands), k .read .inside, k .read .few)
 
 loop-less : tie.Need-loop-less Inv-loop μ-loop
-loop-less c = let k = count-next (c .before .before .before .before .loop .inv) (c .before .before .before .loop-test .taken) in omega (arith, c .size .ensures _ _ (k .stands), k .read .inside, k .read .ok .0)
+loop-less c =
+    let l = c .before .before .before .before in
+    let k = count-next (l .loop .inv) (c .before .before .before .loop-test .taken) in omega (arith, c .size .ensures _ _ (k .stands), k .read .inside, k .read .ok .0)
 
 loop-again : tie.Need-loop-again Inv-loop μ-loop
-loop-again c = let k = count-next (c .before .before .before .before .loop .inv) (c .before .before .before .loop-test .taken) in count-more (c .before .before .before .before .loop .inv) (c .before .before .before .loop-test .taken) _ (c .before .same .ensures) _ (c .size .ensures _ _ (k .stands))
+loop-again c =
+    let l = c .before .before .before .before in
+    let k = count-next (l .loop .inv) (c .before .before .before .loop-test .taken) in count-more (l .loop .inv) (c .before .before .before .loop-test .taken) _ (c .before .same .ensures) _ (c .size .ensures _ _ (k .stands))
 
 returns : tie.Need-returns Inv-loop μ-loop
 returns c = count-end (c .before .loop .inv) (c .loop-test .left)

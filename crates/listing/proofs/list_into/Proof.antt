@@ -8,6 +8,16 @@ use borrow.Author.Needs.{needs}
 use Rattle.listing.proofs.list_into.Statement.{statement}
 use Rattle.listing.proofs.list_into.Tie as tie
 
+-- The places that answers speak of, each from the next one.
+abbrev has-room : tie.Else1 → tie.After-has-room
+has-room c = c .before
+
+abbrev put-listing : tie.After-has-room → tie.After-put-listing
+put-listing c = c .before .before
+
+abbrev start : tie.After-put-listing → tie.Start
+start c = c .before .before .before .before
+
 slice-aggregate-put-listing : tie.Need-slice-aggregate-put-listing
 slice-aggregate-put-listing c = search needs
 
@@ -24,13 +34,20 @@ put-listing-requires-2 : tie.Need-put-listing-requires-2
 put-listing-requires-2 c κs = search needs
 
 cast-bytes : tie.Need-cast-bytes
-cast-bytes c = omega (arith, c .before .before .before .before .before .before .before .put-listing .ensures .next, listing-length (c .before .before .before .before .before .before .before .before .before .before .before .pre))
+cast-bytes c =
+    let p = put-listing (has-room (c .before .before .before .before)) in
+    let s = start p in
+    omega (arith, p .put-listing .ensures .next, listing-length (s .pre))
 
 same-length : tie.Need-same-length
 same-length c = search needs
 
 returns-2 : tie.Need-returns-2
-returns-2 c = listed _ (c .before .before .before .before .before .before .before .put-listing .ensures) (c .before .before .put-listing2 .ensures) (sym (c .before .before .before .before .before .has-room .ensures) ∙ not-false _ (c .before .before .before .before .if1 .left))
+returns-2 c =
+    let e = c .before .before .before .before in
+    let h = has-room e in
+    let p = put-listing h in
+    listed _ (p .put-listing .ensures) (c .before .before .put-listing2 .ensures) (sym (h .has-room .ensures) ∙ not-false _ (e .if1 .left))
 
 pub list-into-spec : {M : Type 1} → statement M
 list-into-spec =

@@ -7,33 +7,53 @@ use borrow.Author.Needs.{needs}
 use Rattle.listing.proofs.put_listing.Statement.{statement}
 use Rattle.listing.proofs.put_listing.Tie as tie
 
+-- The places that answers speak of, each from the next one.
+abbrev start : tie.After-put-section → tie.Start
+start c = c .before .before .before .before .before
+
+abbrev put-section : tie.After-put-section2 → tie.After-put-section
+put-section c = c .before .before .before .before .before
+
 slice-aggregate-put-section : tie.Need-slice-aggregate-put-section
 slice-aggregate-put-section c = search needs
 
 put-section-requires : tie.Need-put-section-requires
 unfolding ascii
-put-section-requires c κs = (c .before .before .before .before .pre, left-bounded (left-sections {l = c .before .before .before .before .args .out .now} _ (c .before .before .before .before .pre .sound)) (listing-bounded (c .before .before .before .before .pre)))
+put-section-requires c κs =
+    let s = c .before .before .before .before in
+    (s .pre, left-bounded (left-sections {l = s .args .out .now} _ (s .pre .sound)) (listing-bounded (s .pre)))
 
 slice-aggregate-put-section-2 : tie.Need-slice-aggregate-put-section-2
 slice-aggregate-put-section-2 c = search needs
 
 put-section-requires-2 : tie.Need-put-section-requires-2
 unfolding ascii
-put-section-requires-2 c κs = (c .before .before .before .before .before .before .before .before .before .pre, left-bounded (left-step (left-sections _ (c .before .before .before .before .before .before .before .before .before .pre .sound)) (c .before .before .before .before .put-section .ensures)) (listing-bounded (c .before .before .before .before .before .before .before .before .before .pre)))
+put-section-requires-2 c κs =
+    let p = c .before .before .before .before in
+    let s = start p in
+    (s .pre, left-bounded (left-step (left-sections _ (s .pre .sound)) (p .put-section .ensures)) (listing-bounded (s .pre)))
 
 slice-aggregate-put-section-3 : tie.Need-slice-aggregate-put-section-3
 slice-aggregate-put-section-3 c = search needs
 
 put-section-requires-3 : tie.Need-put-section-requires-3
 unfolding ascii
-put-section-requires-3 c κs = (c .before .before .before .before .before .before .before .before .before .before .before .before .before .before .pre, left-bounded (left-step (left-step (left-sections _ (c .before .before .before .before .before .before .before .before .before .before .before .before .before .before .pre .sound)) (c .before .before .before .before .before .before .before .before .before .put-section .ensures)) (c .before .before .before .before .put-section2 .ensures)) (listing-bounded (c .before .before .before .before .before .before .before .before .before .before .before .before .before .before .pre)))
+put-section-requires-3 c κs =
+    let p = c .before .before .before .before in
+    let p₁ = put-section p in
+    let s = start p₁ in
+    (s .pre, left-bounded (left-step (left-step (left-sections _ (s .pre .sound)) (p₁ .put-section .ensures)) (p .put-section2 .ensures)) (listing-bounded (s .pre)))
 
 same-length : tie.Need-same-length
 same-length c = search needs
 
 returns : tie.Need-returns
 unfolding ascii
-returns c = left-done (left-step (left-step (left-step (left-sections _ (c .before .before .before .before .before .before .before .before .before .before .before .before .before .before .before .before .before .pre .sound)) (c .before .before .before .before .before .before .before .before .before .before .before .before .put-section .ensures)) (c .before .before .before .before .before .before .before .put-section2 .ensures)) (c .before .before .put-section3 .ensures))
+returns c =
+    let p = c .before .before .before .before .before .before .before in
+    let p₁ = put-section p in
+    let s = start p₁ in
+    left-done (left-step (left-step (left-step (left-sections _ (s .pre .sound)) (p₁ .put-section .ensures)) (p .put-section2 .ensures)) (c .before .before .put-section3 .ensures))
 
 pub put-listing-spec : {M : Type 1} → statement M
 put-listing-spec =

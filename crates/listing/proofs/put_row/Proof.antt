@@ -8,6 +8,28 @@ use borrow.Author.Needs.{needs}
 use Rattle.listing.proofs.put_row.Statement.{statement}
 use Rattle.listing.proofs.put_row.Tie as tie
 
+-- The places that answers speak of, each from the next one.
+abbrev start : tie.Else1 → tie.Start
+start c = c .before .before .before .before
+
+abbrev else1 : tie.Then2 → tie.Else1
+else1 c = c .before
+
+abbrev else1-before-else2 : tie.Else2 → tie.Else1
+else1-before-else2 c = c .before
+
+abbrev wide : tie.Then3 → tie.After-wide
+wide c = c .before
+
+abbrev else2 : tie.After-wide → tie.Else2
+else2 c = c .before .before
+
+abbrev wide-before-else3 : tie.Else3 → tie.After-wide
+wide-before-else3 c = c .before
+
+abbrev else3 : tie.After-wide2 → tie.Else3
+else3 c = c .before .before
+
 mul-w : tie.Need-mul-w
 mul-w c = let r = read-at (c .before .before .pre .0) (c .before .before .pre .1 .2) in omega arith
 
@@ -18,13 +40,19 @@ shared-slice-read-if1 : tie.Need-shared-slice-read-if1
 shared-slice-read-if1 c = let r = read-at (c .before .before .before .pre .0) (c .before .before .before .pre .1 .2) in omega (arith, r .ok .0)
 
 returns : tie.Need-returns
-returns c = λ b x s. wrote-as (text-none (read-at (c .before .before .before .before .pre .0) s) (c .if1 .taken)) wrote-nothing
+returns c =
+    let s₁ = c .before .before .before .before in
+    λ b x s. wrote-as (text-none (read-at (s₁ .pre .0) s) (c .if1 .taken)) wrote-nothing
 
 add-e : tie.Need-add-e
-add-e c = let r = read-at (c .before .before .before .before .before .pre .0) (c .before .before .before .before .before .pre .1 .2) in omega arith
+add-e c =
+    let s = start (c .before) in
+    let r = read-at (s .pre .0) (s .pre .1 .2) in omega arith
 
 mul-put-zone : tie.Need-mul-put-zone
-mul-put-zone c = let r = read-at (c .before .before .before .before .before .before .pre .0) (c .before .before .before .before .before .before .pre .1 .2) in omega arith
+mul-put-zone c =
+    let s = start (else1 (c .before)) in
+    let r = read-at (s .pre .0) (s .pre .1 .2) in omega arith
 
 sub-put-zone : tie.Need-sub-put-zone
 sub-put-zone c = search needs
@@ -33,25 +61,42 @@ part-put-zone-start : tie.Need-part-put-zone-start
 part-put-zone-start c = search needs
 
 part-put-zone-end : tie.Need-part-put-zone-end
-part-put-zone-end c = let r = read-at (c .before .before .before .before .before .before .pre .0) (c .before .before .before .before .before .before .pre .1 .2) in let h = zone-here r (sym (r .kind) ∙ c .before .before .if1 .left ∙ c .before .if2 .taken) in omega (arith, h .eight)
+part-put-zone-end c =
+    let e = else1 (c .before) in
+    let s = start e in
+    let r = read-at (s .pre .0) (s .pre .1 .2) in let h = zone-here r (sym (r .kind) ∙ e .if1 .left ∙ c .before .if2 .taken) in omega (arith, h .eight)
 
 put-zone-requires : tie.Need-put-zone-requires
-put-zone-requires c κs = let r = read-at (c .before .before .before .before .before .before .before .pre .0) (c .before .before .before .before .before .before .before .pre .1 .2) in let h = zone-here r (sym (r .kind) ∙ c .before .before .before .if1 .left ∙ c .before .before .if2 .taken) in (h .good, bounded-as _ (text-zone r (c .before .before .before .if1 .left) (c .before .before .if2 .taken)) (c .before .before .before .before .before .before .before .pre .1 .3))
+put-zone-requires c κs =
+    let t = c .before .before in
+    let e = else1 t in
+    let s = start e in
+    let r = read-at (s .pre .0) (s .pre .1 .2) in let h = zone-here r (sym (r .kind) ∙ e .if1 .left ∙ t .if2 .taken) in (h .good, bounded-as _ (text-zone r (e .if1 .left) (t .if2 .taken)) (s .pre .1 .3))
 
 same-length : tie.Need-same-length
 same-length c = search needs
 
 returns-2 : tie.Need-returns-2
-returns-2 c = λ b x s. wrote-as (text-zone (read-at (c .before .before .before .before .before .before .before .before .before .before .pre .0) s) (c .before .before .before .before .before .before .if1 .left) (c .before .before .before .before .before .if2 .taken)) (c .before .before .put-zone .ensures)
+returns-2 c =
+    let t = c .before .before .before .before .before in
+    let e = else1 t in
+    let s₁ = start e in
+    λ b x s. wrote-as (text-zone (read-at (s₁ .pre .0) s) (e .if1 .left) (t .if2 .taken)) (c .before .before .put-zone .ensures)
 
 add-wide : tie.Need-add-wide
-add-wide c = let r = read-at (c .before .before .before .before .before .pre .0) (c .before .before .before .before .before .pre .1 .2) in omega arith
+add-wide c =
+    let s = start (c .before) in
+    let r = read-at (s .pre .0) (s .pre .1 .2) in omega arith
 
 mul-wide : tie.Need-mul-wide
-mul-wide c = let r = read-at (c .before .before .before .before .before .pre .0) (c .before .before .before .before .before .pre .1 .2) in omega arith
+mul-wide c =
+    let s = start (c .before) in
+    let r = read-at (s .pre .0) (s .pre .1 .2) in omega arith
 
 shared-slice-read-wide : tie.Need-shared-slice-read-wide
-shared-slice-read-wide c = let r = read-at (c .before .before .before .before .before .before .pre .0) (c .before .before .before .before .before .before .pre .1 .2) in omega (arith, r .ok .0)
+shared-slice-read-wide c =
+    let s = start (else1-before-else2 (c .before)) in
+    let r = read-at (s .pre .0) (s .pre .1 .2) in omega (arith, r .ok .0)
 
 wide-requires : tie.Need-wide-requires
 wide-requires c κs = search needs
@@ -60,22 +105,38 @@ slice-aggregate-put-line : tie.Need-slice-aggregate-put-line
 slice-aggregate-put-line c = search needs
 
 put-line-requires : tie.Need-put-line-requires
-put-line-requires c κs = let r = read-at (c .before .before .before .before .before .before .before .before .before .before .pre .0) (c .before .before .before .before .before .before .before .before .before .before .pre .1 .2) in bounded-as _ (text-run r (c .before .before .before .before .before .before .if1 .left) (c .before .before .before .wide .ensures) (c .before .before .if3 .taken)) (c .before .before .before .before .before .before .before .before .before .before .pre .1 .3)
+put-line-requires c κs =
+    let t = c .before .before in
+    let w = wide t in
+    let e = else1-before-else2 (else2 w) in
+    let s = start e in
+    let r = read-at (s .pre .0) (s .pre .1 .2) in bounded-as _ (text-run r (e .if1 .left) (w .wide .ensures) (t .if3 .taken)) (s .pre .1 .3)
 
 same-length-2 : tie.Need-same-length-2
 same-length-2 c = search needs
 
 returns-3 : tie.Need-returns-3
-returns-3 c = λ b x s. wrote-as (text-run (read-at (c .before .before .before .before .before .before .before .before .before .before .before .before .before .pre .0) s) (c .before .before .before .before .before .before .before .before .before .if1 .left) (c .before .before .before .before .before .before .wide .ensures) (c .before .before .before .before .before .if3 .taken)) (c .before .before .put-line .ensures)
+returns-3 c =
+    let t = c .before .before .before .before .before in
+    let w = wide t in
+    let e = else1-before-else2 (else2 w) in
+    let s₁ = start e in
+    λ b x s. wrote-as (text-run (read-at (s₁ .pre .0) s) (e .if1 .left) (w .wide .ensures) (t .if3 .taken)) (c .before .before .put-line .ensures)
 
 add-wide-2 : tie.Need-add-wide-2
-add-wide-2 c = let r = read-at (c .before .before .before .before .before .before .before .before .pre .0) (c .before .before .before .before .before .before .before .before .pre .1 .2) in omega arith
+add-wide-2 c =
+    let s = start (else1-before-else2 (else2 (c .before))) in
+    let r = read-at (s .pre .0) (s .pre .1 .2) in omega arith
 
 mul-wide-2 : tie.Need-mul-wide-2
-mul-wide-2 c = let r = read-at (c .before .before .before .before .before .before .before .before .pre .0) (c .before .before .before .before .before .before .before .before .pre .1 .2) in omega arith
+mul-wide-2 c =
+    let s = start (else1-before-else2 (else2 (c .before))) in
+    let r = read-at (s .pre .0) (s .pre .1 .2) in omega arith
 
 shared-slice-read-wide-2 : tie.Need-shared-slice-read-wide-2
-shared-slice-read-wide-2 c = let r = read-at (c .before .before .before .before .before .before .before .before .before .pre .0) (c .before .before .before .before .before .before .before .before .before .pre .1 .2) in omega (arith, r .ok .0)
+shared-slice-read-wide-2 c =
+    let s = start (else1-before-else2 (else2 (wide-before-else3 (c .before)))) in
+    let r = read-at (s .pre .0) (s .pre .1 .2) in omega (arith, r .ok .0)
 
 wide-requires-2 : tie.Need-wide-requires-2
 wide-requires-2 c κs = search needs
@@ -84,13 +145,27 @@ slice-aggregate-put-line-2 : tie.Need-slice-aggregate-put-line-2
 slice-aggregate-put-line-2 c = search needs
 
 put-line-requires-2 : tie.Need-put-line-requires-2
-put-line-requires-2 c κs = let r = read-at (c .before .before .before .before .before .before .before .before .before .before .before .before .pre .0) (c .before .before .before .before .before .before .before .before .before .before .before .before .pre .1 .2) in bounded-as _ (text-direct r (c .before .before .before .before .before .before .before .before .if1 .left) (c .before .before .before .before .before .wide .ensures) (c .before .before .wide2 .ensures) (c .before .before .before .before .before .before .before .if2 .left) (c .before .before .before .before .if3 .left)) (c .before .before .before .before .before .before .before .before .before .before .before .before .pre .1 .3)
+put-line-requires-2 c κs =
+    let w = c .before .before in
+    let e = else3 w in
+    let w₁ = wide-before-else3 e in
+    let e₁ = else2 w₁ in
+    let e₂ = else1-before-else2 e₁ in
+    let s = start e₂ in
+    let r = read-at (s .pre .0) (s .pre .1 .2) in bounded-as _ (text-direct r (e₂ .if1 .left) (w₁ .wide .ensures) (w .wide2 .ensures) (e₁ .if2 .left) (e .if3 .left)) (s .pre .1 .3)
 
 same-length-3 : tie.Need-same-length-3
 same-length-3 c = search needs
 
 returns-4 : tie.Need-returns-4
-returns-4 c = λ b x s. wrote-as (text-direct (read-at (c .before .before .before .before .before .before .before .before .before .before .before .before .before .before .before .pre .0) s) (c .before .before .before .before .before .before .before .before .before .before .before .if1 .left) (c .before .before .before .before .before .before .before .before .wide .ensures) (c .before .before .before .before .before .wide2 .ensures) (c .before .before .before .before .before .before .before .before .before .before .if2 .left) (c .before .before .before .before .before .before .before .if3 .left)) (c .before .before .put-line2 .ensures)
+returns-4 c =
+    let w = c .before .before .before .before .before in
+    let e = else3 w in
+    let w₁ = wide-before-else3 e in
+    let e₁ = else2 w₁ in
+    let e₂ = else1-before-else2 e₁ in
+    let s₁ = start e₂ in
+    λ b x s. wrote-as (text-direct (read-at (s₁ .pre .0) s) (e₂ .if1 .left) (w₁ .wide .ensures) (w .wide2 .ensures) (e₁ .if2 .left) (e .if3 .left)) (c .before .before .put-line2 .ensures)
 
 pub put-row-spec : {M : Type 1} → statement M
 put-row-spec =

@@ -11,23 +11,46 @@ Inv-loop out₀ at words n kind p₀ next₀ out p next = Writing kind words n o
 abbrev μ-loop : tie.MeasureT-loop
 μ-loop out₀ at words n kind p₀ next₀ out p next = n - p
 
+-- The places that answers speak of, each from the next one.
+abbrev loop-before-turn : tie.In-loop Inv-loop μ-loop → tie.At-loop Inv-loop μ-loop
+loop-before-turn c = c .before
+
+abbrev start : tie.At-loop Inv-loop μ-loop → tie.Start Inv-loop μ-loop
+start c = c .before .before .before
+
 loop-holds : tie.Need-loop-holds Inv-loop μ-loop
 loop-holds c = write-start _ _ (c .before .before .pre .0)
 
 put-row-requires : tie.Need-put-row-requires Inv-loop μ-loop
-put-row-requires c κs = let k = write-next (c .before .before .loop .inv) (c .before .loop-test .taken) in (c .before .before .before .before .before .pre .0, (c .before .before .loop .inv .b, k .x, k .stands, write-bounded (c .before .before .loop .inv) (c .before .loop-test .taken) (c .before .before .before .before .before .pre .1)))
+put-row-requires c κs =
+    let l = loop-before-turn (c .before) in
+    let s = start l in
+    let k = write-next (l .loop .inv) (c .before .loop-test .taken) in (s .pre .0, (l .loop .inv .b, k .x, k .stands, write-bounded (l .loop .inv) (c .before .loop-test .taken) (s .pre .1)))
 
 size-requires : tie.Need-size-requires Inv-loop μ-loop
-size-requires c κs = let k = write-next (c .before .before .before .before .before .loop .inv) (c .before .before .before .before .loop-test .taken) in (c .before .before .before .before .before .before .before .before .pre .0, (c .before .before .before .before .before .loop .inv .b, k .x, k .stands))
+size-requires c κs =
+    let t = c .before .before .before .before in
+    let l = loop-before-turn t in
+    let s = start l in
+    let k = write-next (l .loop .inv) (t .loop-test .taken) in (s .pre .0, (l .loop .inv .b, k .x, k .stands))
 
 add-p : tie.Need-add-p Inv-loop μ-loop
-add-p c = let k = write-next (c .before .before .before .before .before .before .loop .inv) (c .before .before .before .before .before .loop-test .taken) in omega (arith, c .size .ensures _ _ (k .stands), k .read .inside, k .read .few)
+add-p c =
+    let t = c .before .before .before .before .before in
+    let l = loop-before-turn t in
+    let k = write-next (l .loop .inv) (t .loop-test .taken) in omega (arith, c .size .ensures _ _ (k .stands), k .read .inside, k .read .few)
 
 loop-less : tie.Need-loop-less Inv-loop μ-loop
-loop-less c = let k = write-next (c .before .before .before .before .before .before .loop .inv) (c .before .before .before .before .before .loop-test .taken) in omega (arith, c .size .ensures _ _ (k .stands), k .read .inside, k .read .ok .0)
+loop-less c =
+    let t = c .before .before .before .before .before in
+    let l = loop-before-turn t in
+    let k = write-next (l .loop .inv) (t .loop-test .taken) in omega (arith, c .size .ensures _ _ (k .stands), k .read .inside, k .read .ok .0)
 
 loop-again : tie.Need-loop-again Inv-loop μ-loop
-loop-again c = let k = write-next (c .before .before .before .before .before .before .loop .inv) (c .before .before .before .before .before .loop-test .taken) in write-more (c .before .before .before .before .before .before .loop .inv) (c .before .before .before .before .before .loop-test .taken) _ (c .before .before .before .put-row .ensures _ _ (k .stands)) (c .size .ensures _ _ (k .stands))
+loop-again c =
+    let t = c .before .before .before .before .before in
+    let l = loop-before-turn t in
+    let k = write-next (l .loop .inv) (t .loop-test .taken) in write-more (l .loop .inv) (t .loop-test .taken) _ (c .before .before .before .put-row .ensures _ _ (k .stands)) (c .size .ensures _ _ (k .stands))
 
 same-length : tie.Need-same-length Inv-loop μ-loop
 same-length c = write-length (c .before .loop .inv)

@@ -7,20 +7,36 @@ use borrow.Author.Needs.{needs}
 use Rattle.listing.proofs.put_section.Statement.{statement}
 use Rattle.listing.proofs.put_section.Tie as tie
 
+-- The places that answers speak of, each from the next one.
+abbrev start : tie.After-count-rows → tie.Start
+start c = c .before .before .before .before
+
+abbrev count-rows : tie.After-put-named → tie.After-count-rows
+count-rows c = c .before .before
+
 count-rows-requires : tie.Need-count-rows-requires
 count-rows-requires c κs = search needs
 
 put-named-requires : tie.Need-put-named-requires
-put-named-requires c κs = left-bounded (left-section {l = c .before .before .before .before .before .args .out .now} {at = c .before .before .before .before .before .args .at} _ (rowsOf (c .before .before .before .before .before .args .kind) 0 (segmentsOf (c .before .before .before .before .before .args .words .now))) (c .before .count-rows .ensures)) (c .before .before .before .before .before .pre .1)
+put-named-requires c κs =
+    let s = start (c .before) in
+    left-bounded (left-section {l = s .args .out .now} {at = s .args .at} _ (rowsOf (s .args .kind) 0 (segmentsOf (s .args .words .now))) (c .before .count-rows .ensures)) (s .pre .1)
 
 put-rows-requires : tie.Need-put-rows-requires
-put-rows-requires c κs = (c .before .before .before .before .before .before .before .before .before .pre .0, left-bounded (left-step (left-section _ _ (c .before .before .before .before .before .count-rows .ensures)) (c .before .before .before .put-named .ensures)) (c .before .before .before .before .before .before .before .before .before .pre .1))
+put-rows-requires c κs =
+    let p = c .before .before .before in
+    let c₁ = count-rows p in
+    let s = start c₁ in
+    (s .pre .0, left-bounded (left-step (left-section _ _ (c₁ .count-rows .ensures)) (p .put-named .ensures)) (s .pre .1))
 
 same-length : tie.Need-same-length
 same-length c = search needs
 
 returns : tie.Need-returns
-returns c = left-done (left-step (left-step (left-section _ _ (c .before .before .before .before .before .before .before .before .count-rows .ensures)) (c .before .before .before .before .before .before .put-named .ensures)) (c .before .before .put-rows .ensures))
+returns c =
+    let p = c .before .before .before .before .before .before in
+    let c₁ = count-rows p in
+    left-done (left-step (left-step (left-section _ _ (c₁ .count-rows .ensures)) (p .put-named .ensures)) (c .before .before .put-rows .ensures))
 
 pub put-section-spec : {M : Type 1} → statement M
 put-section-spec =

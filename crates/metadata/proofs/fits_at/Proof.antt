@@ -17,13 +17,19 @@ shared-slice-read-if1 : tie.Need-shared-slice-read-if1
 shared-slice-read-if1 c = let r = read-at (c .before .before .before .pre .0 .1) (c .before .before .before .pre .1 .2) in omega (arith, r .ok .0)
 
 returns : tie.Need-returns
-returns c = λ b x s. fits-other _ _ _ x (λ k. c .if1 .taken (read-at (c .before .before .before .before .pre .0 .1) s .kind ∙ k))
+returns c =
+    let s₁ = c .before .before .before .before in
+    λ b x s. fits-other _ _ _ x (λ k. c .if1 .taken (read-at (s₁ .pre .0 .1) s .kind ∙ k))
 
 add-e : tie.Need-add-e
-add-e c = let r = read-at (c .before .before .before .before .pre .0 .1) (c .before .before .before .before .pre .1 .2) in omega arith
+add-e c =
+    let s = c .before .before .before .before in
+    let r = read-at (s .pre .0 .1) (s .pre .1 .2) in omega arith
 
 mul-zone-fits : tie.Need-mul-zone-fits
-mul-zone-fits c = let r = read-at (c .before .before .before .before .pre .0 .1) (c .before .before .before .before .pre .1 .2) in omega arith
+mul-zone-fits c =
+    let s = c .before .before .before .before in
+    let r = read-at (s .pre .0 .1) (s .pre .1 .2) in omega arith
 
 sub-zone-fits : tie.Need-sub-zone-fits
 sub-zone-fits c = search needs
@@ -32,16 +38,24 @@ part-zone-fits-start : tie.Need-part-zone-fits-start
 part-zone-fits-start c = search needs
 
 part-zone-fits-end : tie.Need-part-zone-fits-end
-part-zone-fits-end c = let r = read-at (c .before .before .before .before .pre .0 .1) (c .before .before .before .before .pre .1 .2) in let h = zone-here r (sym (r .kind) ∙ c .if1 .left) in omega (arith, h .eight)
+part-zone-fits-end c =
+    let s = c .before .before .before .before in
+    let r = read-at (s .pre .0 .1) (s .pre .1 .2) in let h = zone-here r (sym (r .kind) ∙ c .if1 .left) in omega (arith, h .eight)
 
 cast-zone-fits : tie.Need-cast-zone-fits
-cast-zone-fits c = let r = read-at (c .before .before .before .before .before .pre .0 .1) (c .before .before .before .before .before .pre .1 .2) in omega arith
+cast-zone-fits c =
+    let s = c .before .before .before .before .before in
+    let r = read-at (s .pre .0 .1) (s .pre .1 .2) in omega arith
 
 zone-fits-requires : tie.Need-zone-fits-requires
-zone-fits-requires c κs = let r = read-at (c .before .before .before .before .before .pre .0 .1) (c .before .before .before .before .before .pre .1 .2) in let h = zone-here r (sym (r .kind) ∙ c .before .if1 .left) in (c .before .before .before .before .before .pre .0 .0, h .good, omega (arith, h .eight))
+zone-fits-requires c κs =
+    let s = c .before .before .before .before .before in
+    let r = read-at (s .pre .0 .1) (s .pre .1 .2) in let h = zone-here r (sym (r .kind) ∙ c .before .if1 .left) in (s .pre .0 .0, h .good, omega (arith, h .eight))
 
 returns-2 : tie.Need-returns-2
-returns-2 c = λ b x s. let r = read-at (c .before .before .before .before .before .before .pre .0 .1) s in let h = zone-here r (sym (r .kind) ∙ c .before .before .if1 .left) in c .zone-fits .ensures ∙ fits-zone _ _ h
+returns-2 c =
+    let s₁ = c .before .before .before .before .before .before in
+    λ b x s. let r = read-at (s₁ .pre .0 .1) s in let h = zone-here r (sym (r .kind) ∙ c .before .before .if1 .left) in c .zone-fits .ensures ∙ fits-zone _ _ h
 
 pub fits-at-spec : {M : Type 1} → statement M
 fits-at-spec =

@@ -18,6 +18,19 @@ Inv-loop head words n entries p₀ open₀ p «open» = Fitting (spareIn head) (
 abbrev μ-loop : tie.MeasureT-loop
 μ-loop head words n entries p₀ open₀ p «open» = n - p
 
+-- The places that answers speak of, each from the next one.
+abbrev start : tie.After-listed Inv-loop μ-loop → tie.Start Inv-loop μ-loop
+start c = c .before .before .before
+
+abbrev spare-count : tie.At-loop Inv-loop μ-loop → tie.After-spare-count Inv-loop μ-loop
+spare-count c = c .before
+
+abbrev listed : tie.After-spare-count Inv-loop μ-loop → tie.After-listed Inv-loop μ-loop
+listed c = c .before
+
+abbrev loop : tie.In-loop Inv-loop μ-loop → tie.At-loop Inv-loop μ-loop
+loop c = c .before
+
 listed-requires : tie.Need-listed-requires Inv-loop μ-loop
 listed-requires c κs = search needs
 
@@ -28,34 +41,68 @@ add-entries : tie.Need-add-entries Inv-loop μ-loop
 add-entries c = search needs
 
 loop-holds : tie.Need-loop-holds Inv-loop μ-loop
-loop-holds c = fit-start (c .before .before .before .before .pre .1)
+loop-holds c =
+    let s = start (c .before) in
+    fit-start (s .pre .1)
 
 fits-at-requires : tie.Need-fits-at-requires Inv-loop μ-loop
-fits-at-requires c κs = let k = fit-next (c .before .loop .inv) (c .loop-test .taken) in ((c .before .before .before .before .before .before .pre .0, c .before .before .before .before .before .before .pre .1), (c .before .loop .inv .b, k .x, k .stands))
+fits-at-requires c κs =
+    let s = start (listed (spare-count (c .before))) in
+    let k = fit-next (c .before .loop .inv) (c .loop-test .taken) in ((s .pre .0, s .pre .1), (c .before .loop .inv .b, k .x, k .stands))
 
 returns : tie.Need-returns Inv-loop μ-loop
-returns c = let k = fit-next (c .before .before .before .loop .inv) (c .before .before .loop-test .taken) in fit-no (c .before .before .before .loop .inv) (c .before .before .loop-test .taken) (sym (c .before .fits-at .ensures _ _ (k .stands)) ∙ not-true _ (c .if1 .taken)) ∙ ap (λ y. fitFrom (spareIn (c .before .before .before .before .before .before .before .before .args .head .now)) (listsIn (c .before .before .before .before .before .before .before .before .args .head .now)) y 0 0 (segmentsOf (c .before .before .before .before .before .before .before .before .args .words .now))) (λ i. c .before .before .before .before .before .listed .ensures i + c .before .before .before .before .spare-count .ensures i)
+returns c =
+    let t = c .before .before in
+    let l = loop t in
+    let s = spare-count l in
+    let l₁ = listed s in
+    let s₁ = start l₁ in
+    let k = fit-next (l .loop .inv) (t .loop-test .taken) in fit-no (l .loop .inv) (t .loop-test .taken) (sym (c .before .fits-at .ensures _ _ (k .stands)) ∙ not-true _ (c .if1 .taken)) ∙ ap (λ y. fitFrom (spareIn (s₁ .args .head .now)) (listsIn (s₁ .args .head .now)) y 0 0 (segmentsOf (s₁ .args .words .now))) (λ i. l₁ .listed .ensures i + s .spare-count .ensures i)
 
 open-at-requires : tie.Need-open-at-requires Inv-loop μ-loop
-open-at-requires c κs = let k = fit-next (c .before .before .before .loop .inv) (c .before .before .loop-test .taken) in (c .before .before .before .before .before .before .before .before .pre .1, (c .before .before .before .loop .inv .b, k .x, k .stands))
+open-at-requires c κs =
+    let t = c .before .before in
+    let l = loop t in
+    let s = start (listed (spare-count l)) in
+    let k = fit-next (l .loop .inv) (t .loop-test .taken) in (s .pre .1, (l .loop .inv .b, k .x, k .stands))
 
 add-open : tie.Need-add-open Inv-loop μ-loop
-add-open c = let i = c .before .before .before .before .loop .inv in let k = fit-next i (c .before .before .before .loop-test .taken) in omega (arith, open-most (k .x), c .open-at .ensures _ _ (k .stands), i .few, i .most)
+add-open c =
+    let t = c .before .before .before in
+    let l = loop t in
+    let i = l .loop .inv in let k = fit-next i (t .loop-test .taken) in omega (arith, open-most (k .x), c .open-at .ensures _ _ (k .stands), i .few, i .most)
 
 size-requires : tie.Need-size-requires Inv-loop μ-loop
-size-requires c κs = let k = fit-next (c .before .before .before .before .loop .inv) (c .before .before .before .loop-test .taken) in (c .before .before .before .before .before .before .before .before .before .pre .1, (c .before .before .before .before .loop .inv .b, k .x, k .stands))
+size-requires c κs =
+    let t = c .before .before .before in
+    let l = loop t in
+    let s = start (listed (spare-count l)) in
+    let k = fit-next (l .loop .inv) (t .loop-test .taken) in (s .pre .1, (l .loop .inv .b, k .x, k .stands))
 
 add-p : tie.Need-add-p Inv-loop μ-loop
-add-p c = let i = c .before .before .before .before .before .loop .inv in let k = fit-next i (c .before .before .before .before .loop-test .taken) in omega (arith, c .size .ensures _ _ (k .stands), k .read .inside, i .most)
+add-p c =
+    let t = c .before .before .before .before in
+    let l = loop t in
+    let i = l .loop .inv in let k = fit-next i (t .loop-test .taken) in omega (arith, c .size .ensures _ _ (k .stands), k .read .inside, i .most)
 
 loop-less : tie.Need-loop-less Inv-loop μ-loop
-loop-less c = let i = c .before .before .before .before .before .loop .inv in let k = fit-next i (c .before .before .before .before .loop-test .taken) in omega (arith, c .size .ensures _ _ (k .stands), k .read .inside, k .read .ok .0)
+loop-less c =
+    let t = c .before .before .before .before in
+    let l = loop t in
+    let i = l .loop .inv in let k = fit-next i (t .loop-test .taken) in omega (arith, c .size .ensures _ _ (k .stands), k .read .inside, k .read .ok .0)
 
 loop-again : tie.Need-loop-again Inv-loop μ-loop
-loop-again c = let i = c .before .before .before .before .before .loop .inv in let k = fit-next i (c .before .before .before .before .loop-test .taken) in fit-more i (c .before .before .before .before .loop-test .taken) (sym (c .before .before .before .fits-at .ensures _ _ (k .stands)) ∙ not-false _ (c .before .before .if1 .left)) _ _ (c .before .open-at .ensures _ _ (k .stands)) (c .size .ensures _ _ (k .stands))
+loop-again c =
+    let t = c .before .before .before .before in
+    let l = loop t in
+    let i = l .loop .inv in let k = fit-next i (t .loop-test .taken) in fit-more i (t .loop-test .taken) (sym (c .before .before .before .fits-at .ensures _ _ (k .stands)) ∙ not-false _ (c .before .before .if1 .left)) _ _ (c .before .open-at .ensures _ _ (k .stands)) (c .size .ensures _ _ (k .stands))
 
 returns-2 : tie.Need-returns-2 Inv-loop μ-loop
-returns-2 c = fit-end (c .before .loop .inv) (c .loop-test .left) ∙ ap (λ y. fitFrom (spareIn (c .before .before .before .before .before .before .args .head .now)) (listsIn (c .before .before .before .before .before .before .args .head .now)) y 0 0 (segmentsOf (c .before .before .before .before .before .before .args .words .now))) (λ i. c .before .before .before .listed .ensures i + c .before .before .spare-count .ensures i)
+returns-2 c =
+    let s = spare-count (c .before) in
+    let l = listed s in
+    let s₁ = start l in
+    fit-end (c .before .loop .inv) (c .loop-test .left) ∙ ap (λ y. fitFrom (spareIn (s₁ .args .head .now)) (listsIn (s₁ .args .head .now)) y 0 0 (segmentsOf (s₁ .args .words .now))) (λ i. l .listed .ensures i + s .spare-count .ensures i)
 
 pub lists-fit-spec : {M : Type 1} → statement M
 lists-fit-spec =

@@ -1,4 +1,5 @@
 -- `zone_fits` meets its contract. Assumes nothing.
+use Rattle.model.specs.Numbers.{classCount}
 use Rattle.header.specs.Encoding.{spareIn, listsIn}
 use Rattle.zone.specs.Decoding.{zoneOf}
 use Rattle.metadata.proofs.Here.{fits-full, fits-spare, fits-listed, class-low}
@@ -11,11 +12,20 @@ use borrow.Author.Needs.{needs}
 use Rattle.metadata.proofs.zone_fits.Statement.{statement}
 use Rattle.metadata.proofs.zone_fits.Tie as tie
 
+-- The places that answers speak of, each from the next one.
+abbrev start : tie.After-is-full → tie.Start
+start c = c .before .before .before
+
+abbrev is-full : tie.Else1 → tie.After-is-full
+is-full c = c .before
+
 is-full-requires : tie.Need-is-full-requires
 is-full-requires c κs = search needs
 
 returns : tie.Need-returns
-returns c = fits-full (spareIn (c .before .before .before .before .args .head .now)) (listsIn (c .before .before .before .before .args .head .now)) (c .before .before .before .before .args .page) (zoneOf (c .before .before .before .before .args .part .now)) (sym (c .before .is-full .ensures) ∙ c .if1 .taken)
+returns c =
+    let s = start (c .before) in
+    fits-full (spareIn (s .args .head .now)) (listsIn (s .args .head .now)) (s .args .page) (zoneOf (s .args .part .now)) (sym (c .before .is-full .ensures) ∙ c .if1 .taken)
 
 spare-contains-requires : tie.Need-spare-contains-requires
 spare-contains-requires c κs = search needs
@@ -24,16 +34,26 @@ is-idle-requires : tie.Need-is-idle-requires
 is-idle-requires c κs = search needs
 
 returns-2 : tie.Need-returns-2
-returns-2 c = c .is-idle .ensures ∙ fits-spare (spareIn (c .before .before .before .before .before .before .before .args .head .now)) (listsIn (c .before .before .before .before .before .before .before .args .head .now)) (c .before .before .before .before .before .before .before .args .page) (zoneOf (c .before .before .before .before .before .before .before .args .part .now)) (sym (c .before .before .before .before .is-full .ensures) ∙ c .before .before .before .if1 .left) (sym (c .before .before .spare-contains .ensures) ∙ c .before .if2 .taken)
+returns-2 c =
+    let e = c .before .before .before in
+    let i = is-full e in
+    let s = start i in
+    c .is-idle .ensures ∙ fits-spare (spareIn (s .args .head .now)) (listsIn (s .args .head .now)) (s .args .page) (zoneOf (s .args .part .now)) (sym (i .is-full .ensures) ∙ e .if1 .left) (sym (c .before .before .spare-contains .ensures) ∙ c .before .if2 .taken)
 
 class-of-requires : tie.Need-class-of-requires
 class-of-requires c κs = search needs
 
 contains-requires : tie.Need-contains-requires
-contains-requires c κs = (c .before .before .before .before .before .before .before .pre .0, subst (λ k. k < 64) (sym (c .class-of .ensures)) (class-low _ (c .before .before .before .before .before .before .before .pre .1)), c .before .before .before .before .before .before .before .pre .2)
+contains-requires c κs =
+    let s = start (is-full (c .before .before .before)) in
+    (s .pre .0, subst (λ k. k < classCount) (sym (c .class-of .ensures)) (class-low _ (s .pre .1)), s .pre .2)
 
 returns-3 : tie.Need-returns-3
-returns-3 c = c .contains .ensures ∙ ap (λ k. stands (c .before .before .before .before .before .before .before .before .args .page) (getD (listsIn (c .before .before .before .before .before .before .before .before .args .head .now)) k [])) (c .before .class-of .ensures) ∙ fits-listed (spareIn (c .before .before .before .before .before .before .before .before .args .head .now)) (listsIn (c .before .before .before .before .before .before .before .before .args .head .now)) (c .before .before .before .before .before .before .before .before .args .page) (zoneOf (c .before .before .before .before .before .before .before .before .args .part .now)) (sym (c .before .before .before .before .before .is-full .ensures) ∙ c .before .before .before .before .if1 .left) (sym (c .before .before .before .spare-contains .ensures) ∙ c .before .before .if2 .left)
+returns-3 c =
+    let e = c .before .before .before .before in
+    let i = is-full e in
+    let s = start i in
+    c .contains .ensures ∙ ap (λ k. stands (s .args .page) (getD (listsIn (s .args .head .now)) k [])) (c .before .class-of .ensures) ∙ fits-listed (spareIn (s .args .head .now)) (listsIn (s .args .head .now)) (s .args .page) (zoneOf (s .args .part .now)) (sym (i .is-full .ensures) ∙ e .if1 .left) (sym (c .before .before .before .spare-contains .ensures) ∙ c .before .before .if2 .left)
 
 pub zone-fits-spec : {M : Type 1} → statement M
 zone-fits-spec =

@@ -9,6 +9,10 @@ use borrow.Author.Needs.{needs}
 use Rattle.pages.proofs.cut_direct.Statement.{statement}
 use Rattle.pages.proofs.cut_direct.Tie as tie
 
+-- The places that answers speak of, each from the next one.
+abbrev start : tie.After-put-direct → tie.Start
+start c = c .before .before .before
+
 mul-m : tie.Need-mul-m
 mul-m c = search needs
 
@@ -25,25 +29,40 @@ mul-put-rest : tie.Need-mul-put-rest
 mul-put-rest c = search needs
 
 sub-put-rest : tie.Need-sub-put-rest
-sub-put-rest c = let h = c .before .before .before .before .before .pre in omega (arith, h .2, whole-length _ _ _ _ (direct _ _) (h .0) (h .1) (h .2) (h .3) refl (c .before .before .put-direct .ensures))
+sub-put-rest c =
+    let p = c .before .before in
+    let s = start p in
+    let h = s .pre in omega (arith, h .2, whole-length _ _ _ _ (direct _ _) (h .0) (h .1) (h .2) (h .3) refl (p .put-direct .ensures))
 
 part-put-rest-start : tie.Need-part-put-rest-start
-part-put-rest-start c = let h = c .before .before .before .before .before .pre in omega (arith, h .2, whole-length _ _ _ _ (direct _ _) (h .0) (h .1) (h .2) (h .3) refl (c .before .before .put-direct .ensures))
+part-put-rest-start c =
+    let p = c .before .before in
+    let s = start p in
+    let h = s .pre in omega (arith, h .2, whole-length _ _ _ _ (direct _ _) (h .0) (h .1) (h .2) (h .3) refl (p .put-direct .ensures))
 
 part-put-rest-end : tie.Need-part-put-rest-end
-part-put-rest-end c = let h = c .before .before .before .before .before .pre in omega (arith, h .2, whole-length _ _ _ _ (direct _ _) (h .0) (h .1) (h .2) (h .3) refl (c .before .before .put-direct .ensures))
+part-put-rest-end c =
+    let p = c .before .before in
+    let s = start p in
+    let h = s .pre in omega (arith, h .2, whole-length _ _ _ _ (direct _ _) (h .0) (h .1) (h .2) (h .3) refl (p .put-direct .ensures))
 
 sub-put-rest-2 : tie.Need-sub-put-rest-2
 sub-put-rest-2 c = search needs
 
 put-rest-requires : tie.Need-put-rest-requires
-put-rest-requires c κs = let h = c .before .before .before .before .before .before .pre in (rest-zero _ _ _ _ (direct _ _) (h .0) (h .1) (h .2) (h .3) refl (c .before .before .before .put-direct .ensures), omega (arith, h .3))
+put-rest-requires c κs =
+    let p = c .before .before .before in
+    let s = start p in
+    let h = s .pre in (rest-zero _ _ _ _ (direct _ _) (h .0) (h .1) (h .2) (h .3) refl (p .put-direct .ensures), omega (arith, h .3))
 
 same-length : tie.Need-same-length
 same-length c = search needs
 
 returns : tie.Need-returns
-returns c = let h = c .before .before .before .before .before .before .before .before .before .pre in cut-made _ _ _ _ (direct _ _) (h .0) (h .1) (h .2) (h .3) refl (c .before .before .before .before .before .before .put-direct .ensures) _ (c .before .before .put-rest .ensures)
+returns c =
+    let p = c .before .before .before .before .before .before in
+    let s = start p in
+    let h = s .pre in cut-made _ _ _ _ (direct _ _) (h .0) (h .1) (h .2) (h .3) refl (p .put-direct .ensures) _ (c .before .before .put-rest .ensures)
 
 pub cut-direct-spec : {M : Type 1} → statement M
 cut-direct-spec =

@@ -10,6 +10,10 @@ use borrow.Author.Needs.{needs}
 use Rattle.pages.proofs.cut_zone.Statement.{statement}
 use Rattle.pages.proofs.cut_zone.Tie as tie
 
+-- The places that answers speak of, each from the next one.
+abbrev start : tie.After-set-up → tie.Start
+start c = c .before .before .before
+
 mul-m : tie.Need-mul-m
 mul-m c = search needs
 
@@ -26,25 +30,40 @@ mul-put-rest : tie.Need-mul-put-rest
 mul-put-rest c = search needs
 
 sub-put-rest : tie.Need-sub-put-rest
-sub-put-rest c = let h = c .before .before .before .before .before .pre in omega (arith, h .1, whole-length _ _ _ 8 (zone (newZone (c .before .before .before .before .before .args .class) (c .before .before .before .before .before .args .group))) (h .0) (omega arith) (h .1) (h .2) refl (zone-made (newZone (c .before .before .before .before .before .args .class) (c .before .before .before .before .before .args .group)) (c .before .before .set-up .ensures)))
+sub-put-rest c =
+    let s = c .before .before in
+    let s₁ = start s in
+    let h = s₁ .pre in omega (arith, h .1, whole-length _ _ _ 8 (zone (newZone (s₁ .args .class) (s₁ .args .group))) (h .0) (omega arith) (h .1) (h .2) refl (zone-made (newZone (s₁ .args .class) (s₁ .args .group)) (s .set-up .ensures)))
 
 part-put-rest-start : tie.Need-part-put-rest-start
-part-put-rest-start c = let h = c .before .before .before .before .before .pre in omega (arith, h .1, whole-length _ _ _ 8 (zone (newZone (c .before .before .before .before .before .args .class) (c .before .before .before .before .before .args .group))) (h .0) (omega arith) (h .1) (h .2) refl (zone-made (newZone (c .before .before .before .before .before .args .class) (c .before .before .before .before .before .args .group)) (c .before .before .set-up .ensures)))
+part-put-rest-start c =
+    let s = c .before .before in
+    let s₁ = start s in
+    let h = s₁ .pre in omega (arith, h .1, whole-length _ _ _ 8 (zone (newZone (s₁ .args .class) (s₁ .args .group))) (h .0) (omega arith) (h .1) (h .2) refl (zone-made (newZone (s₁ .args .class) (s₁ .args .group)) (s .set-up .ensures)))
 
 part-put-rest-end : tie.Need-part-put-rest-end
-part-put-rest-end c = let h = c .before .before .before .before .before .pre in omega (arith, h .1, whole-length _ _ _ 8 (zone (newZone (c .before .before .before .before .before .args .class) (c .before .before .before .before .before .args .group))) (h .0) (omega arith) (h .1) (h .2) refl (zone-made (newZone (c .before .before .before .before .before .args .class) (c .before .before .before .before .before .args .group)) (c .before .before .set-up .ensures)))
+part-put-rest-end c =
+    let s = c .before .before in
+    let s₁ = start s in
+    let h = s₁ .pre in omega (arith, h .1, whole-length _ _ _ 8 (zone (newZone (s₁ .args .class) (s₁ .args .group))) (h .0) (omega arith) (h .1) (h .2) refl (zone-made (newZone (s₁ .args .class) (s₁ .args .group)) (s .set-up .ensures)))
 
 sub-put-rest-2 : tie.Need-sub-put-rest-2
 sub-put-rest-2 c = search needs
 
 put-rest-requires : tie.Need-put-rest-requires
-put-rest-requires c κs = let h = c .before .before .before .before .before .before .pre in (rest-zero _ _ _ 8 (zone (newZone (c .before .before .before .before .before .before .args .class) (c .before .before .before .before .before .before .args .group))) (h .0) (omega arith) (h .1) (h .2) refl (zone-made (newZone (c .before .before .before .before .before .before .args .class) (c .before .before .before .before .before .before .args .group)) (c .before .before .before .set-up .ensures)), omega (arith, h .2))
+put-rest-requires c κs =
+    let s = c .before .before .before in
+    let s₁ = start s in
+    let h = s₁ .pre in (rest-zero _ _ _ 8 (zone (newZone (s₁ .args .class) (s₁ .args .group))) (h .0) (omega arith) (h .1) (h .2) refl (zone-made (newZone (s₁ .args .class) (s₁ .args .group)) (s .set-up .ensures)), omega (arith, h .2))
 
 same-length : tie.Need-same-length
 same-length c = search needs
 
 returns : tie.Need-returns
-returns c = let h = c .before .before .before .before .before .before .before .before .before .pre in cut-made _ _ _ 8 (zone (newZone (c .before .before .before .before .before .before .before .before .before .args .class) (c .before .before .before .before .before .before .before .before .before .args .group))) (h .0) (omega arith) (h .1) (h .2) refl (zone-made (newZone (c .before .before .before .before .before .before .before .before .before .args .class) (c .before .before .before .before .before .before .before .before .before .args .group)) (c .before .before .before .before .before .before .set-up .ensures)) _ (c .before .before .put-rest .ensures)
+returns c =
+    let s = c .before .before .before .before .before .before in
+    let s₁ = start s in
+    let h = s₁ .pre in cut-made _ _ _ 8 (zone (newZone (s₁ .args .class) (s₁ .args .group))) (h .0) (omega arith) (h .1) (h .2) refl (zone-made (newZone (s₁ .args .class) (s₁ .args .group)) (s .set-up .ensures)) _ (c .before .before .put-rest .ensures)
 
 pub cut-zone-spec : {M : Type 1} → statement M
 cut-zone-spec =

@@ -14,6 +14,10 @@ Inv-loop words n page p₀ before₀ p before = Locating words n page before p
 abbrev μ-loop : tie.MeasureT-loop
 μ-loop words n page p₀ before₀ p before = n - p
 
+-- The places that answers speak of, each from the next one.
+abbrev loop : tie.In-loop Inv-loop μ-loop → tie.At-loop Inv-loop μ-loop
+loop c = c .before
+
 loop-holds : tie.Need-loop-holds Inv-loop μ-loop
 loop-holds c = walk-start 0 (c .before .pre)
 
@@ -33,19 +37,31 @@ add-if1 : tie.Need-add-if1 Inv-loop μ-loop
 add-if1 c = let k = next (c .before .before .before .loop .inv) (c .before .before .loop-test .taken) in let r = k .read in let z = c .before .size .ensures _ _ (k .stands) in omega arith
 
 returns : tie.Need-returns Inv-loop μ-loop
-returns c = let k = next (c .before .before .before .before .loop .inv) (c .before .before .before .loop-test .taken) in spot-here _ (c .before .before .before .before .loop .inv) (c .before .before .before .loop-test .taken) (c .before .before .size .ensures _ _ (k .stands)) (k .read .kind) (c .if1 .taken)
+returns c =
+    let t = c .before .before .before in
+    let l = loop t in
+    let k = next (l .loop .inv) (t .loop-test .taken) in spot-here _ (l .loop .inv) (t .loop-test .taken) (c .before .before .size .ensures _ _ (k .stands)) (k .read .kind) (c .if1 .taken)
 
 run-len-requires : tie.Need-run-len-requires Inv-loop μ-loop
 run-len-requires c κs = search needs
 
 add-p : tie.Need-add-p Inv-loop μ-loop
-add-p c = let k = next (c .before .before .before .before .before .loop .inv) (c .before .before .before .before .loop-test .taken) in let r = k .read in let z = c .before .before .before .size .ensures _ _ (k .stands) in omega arith
+add-p c =
+    let t = c .before .before .before .before in
+    let l = loop t in
+    let k = next (l .loop .inv) (t .loop-test .taken) in let r = k .read in let z = c .before .before .before .size .ensures _ _ (k .stands) in omega arith
 
 loop-less : tie.Need-loop-less Inv-loop μ-loop
-loop-less c = let k = next (c .before .before .before .before .before .loop .inv) (c .before .before .before .before .loop-test .taken) in let r = k .read in let z = c .before .before .before .size .ensures _ _ (k .stands) in omega (arith, r .ok .0)
+loop-less c =
+    let t = c .before .before .before .before in
+    let l = loop t in
+    let k = next (l .loop .inv) (t .loop-test .taken) in let r = k .read in let z = c .before .before .before .size .ensures _ _ (k .stands) in omega (arith, r .ok .0)
 
 loop-again : tie.Need-loop-again Inv-loop μ-loop
-loop-again c = let k = next (c .before .before .before .before .before .loop .inv) (c .before .before .before .before .loop-test .taken) in spot-past _ (c .before .before .before .before .before .loop .inv) (c .before .before .before .before .loop-test .taken) (c .before .before .before .size .ensures _ _ (k .stands)) (k .read .kind) (c .run-len .result) (c .run-len .ensures) (c .before .if1 .left)
+loop-again c =
+    let t = c .before .before .before .before in
+    let l = loop t in
+    let k = next (l .loop .inv) (t .loop-test .taken) in spot-past _ (l .loop .inv) (t .loop-test .taken) (c .before .before .before .size .ensures _ _ (k .stands)) (k .read .kind) (c .run-len .result) (c .run-len .ensures) (c .before .if1 .left)
 
 returns-2 : tie.Need-returns-2 Inv-loop μ-loop
 unfolding spotFrom

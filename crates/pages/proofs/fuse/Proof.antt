@@ -5,6 +5,10 @@ use borrow.Author.Needs.{needs}
 use Rattle.pages.proofs.fuse.Statement.{statement}
 use Rattle.pages.proofs.fuse.Tie as tie
 
+-- The places that answers speak of, each from the next one.
+abbrev start : tie.After-erase → tie.Start
+start c = c .before .before .before
+
 mul-m : tie.Need-mul-m
 mul-m c = search needs
 
@@ -33,16 +37,28 @@ mul-erase-rest : tie.Need-mul-erase-rest
 mul-erase-rest c = search needs
 
 sub-erase-rest : tie.Need-sub-erase-rest
-sub-erase-rest c = let h = c .before .before .before .before .before .pre in let r = erased-long _ _ _ _ (h .0) (h .1) (h .2) (h .3) (h .4) _ (c .before .before .erase .ensures) in omega arith
+sub-erase-rest c =
+    let e = c .before .before in
+    let s = start e in
+    let h = s .pre in let r = erased-long _ _ _ _ (h .0) (h .1) (h .2) (h .3) (h .4) _ (e .erase .ensures) in omega arith
 
 part-erase-rest-start : tie.Need-part-erase-rest-start
-part-erase-rest-start c = let h = c .before .before .before .before .before .pre in let r = erased-long _ _ _ _ (h .0) (h .1) (h .2) (h .3) (h .4) _ (c .before .before .erase .ensures) in omega arith
+part-erase-rest-start c =
+    let e = c .before .before in
+    let s = start e in
+    let h = s .pre in let r = erased-long _ _ _ _ (h .0) (h .1) (h .2) (h .3) (h .4) _ (e .erase .ensures) in omega arith
 
 part-erase-rest-end : tie.Need-part-erase-rest-end
-part-erase-rest-end c = let h = c .before .before .before .before .before .pre in let r = erased-long _ _ _ _ (h .0) (h .1) (h .2) (h .3) (h .4) _ (c .before .before .erase .ensures) in omega arith
+part-erase-rest-end c =
+    let e = c .before .before in
+    let s = start e in
+    let h = s .pre in let r = erased-long _ _ _ _ (h .0) (h .1) (h .2) (h .3) (h .4) _ (e .erase .ensures) in omega arith
 
 erase-rest-requires : tie.Need-erase-rest-requires
-erase-rest-requires c κs = let h = c .before .before .before .before .before .before .pre in (c .before .before .before .before .before .before .args .after, rest-part _ _ _ _ (h .0) (h .1) (h .2) (h .3) (h .4) _ (c .before .before .before .erase .ensures))
+erase-rest-requires c κs =
+    let e = c .before .before .before in
+    let s = start e in
+    let h = s .pre in (s .args .after, rest-part _ _ _ _ (h .0) (h .1) (h .2) (h .3) (h .4) _ (e .erase .ensures))
 
 add-put-run : tie.Need-add-put-run
 add-put-run c = search needs
@@ -51,7 +67,10 @@ add-put-run-2 : tie.Need-add-put-run-2
 add-put-run-2 c = search needs
 
 put-run-requires : tie.Need-put-run-requires
-put-run-requires c κs = let h = c .before .before .before .before .before .before .before .before .before .before .pre in fuse-blank _ _ _ _ (h .0) (h .1) (h .2) (h .3) (h .4) _ (c .before .before .before .before .before .before .before .erase .ensures) _ (c .before .before .before .erase-rest .ensures)
+put-run-requires c κs =
+    let e = c .before .before .before .before .before .before .before in
+    let s = start e in
+    let h = s .pre in fuse-blank _ _ _ _ (h .0) (h .1) (h .2) (h .3) (h .4) _ (e .erase .ensures) _ (c .before .before .before .erase-rest .ensures)
 
 same-length : tie.Need-same-length
 same-length c = search needs

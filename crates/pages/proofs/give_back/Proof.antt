@@ -5,6 +5,10 @@ use borrow.Author.Needs.{needs}
 use Rattle.pages.proofs.give_back.Statement.{statement}
 use Rattle.pages.proofs.give_back.Tie as tie
 
+-- The places that answers speak of, each from the next one.
+abbrev start : tie.After-run-behind → tie.Start
+start c = c .before .before .before
+
 run-behind-requires : tie.Need-run-behind-requires
 run-behind-requires c κs = let h = c .before .before .pre in (h .0, (c .before .before .args .before, h .1 .1 .0, h .1 .1 .1, h .1 .1 .2))
 
@@ -39,13 +43,18 @@ part-fuse-end : tie.Need-part-fuse-end
 part-fuse-end c = let h = c .before .before .before .pre in let q = given-inside (h .0) (h .1 .0) (h .1 .1 .1) (h .1 .1 .2) (h .1 .1 .3) in omega (arith, c .run-behind .ensures _ _ (h .1 .1 .1) (h .1 .1 .2))
 
 fuse-requires : tie.Need-fuse-requires
-fuse-requires c κs = let h = c .before .before .before .before .pre in let q = given-inside (h .0) (h .1 .0) (h .1 .1 .1) (h .1 .1 .2) (h .1 .1 .3) in let e = c .before .run-behind .ensures _ _ (h .1 .1 .1) (h .1 .1 .2) in (h .1 .1 .0, h .1 .1 .2, q .4, omega (arith, e), given-words (h .0) (h .1 .0) (h .1 .1 .1) (h .1 .1 .2) (h .1 .1 .3) _ e)
+fuse-requires c κs =
+    let s = start (c .before) in
+    let h = s .pre in let q = given-inside (h .0) (h .1 .0) (h .1 .1 .1) (h .1 .1 .2) (h .1 .1 .3) in let e = c .before .run-behind .ensures _ _ (h .1 .1 .1) (h .1 .1 .2) in (h .1 .1 .0, h .1 .1 .2, q .4, omega (arith, e), given-words (h .0) (h .1 .0) (h .1 .1 .1) (h .1 .1 .2) (h .1 .1 .3) _ e)
 
 same-length : tie.Need-same-length
 same-length c = search needs
 
 returns : tie.Need-returns
-returns c = let h = c .before .before .before .before .before .before .before .pre in given-put (h .0) (h .1 .0) (h .1 .1 .1) (h .1 .1 .2) (h .1 .1 .3) _ (c .before .before .before .before .run-behind .ensures _ _ (h .1 .1 .1) (h .1 .1 .2)) _ (c .before .before .fuse .ensures)
+returns c =
+    let r = c .before .before .before .before in
+    let s = start r in
+    let h = s .pre in given-put (h .0) (h .1 .0) (h .1 .1 .1) (h .1 .1 .2) (h .1 .1 .3) _ (r .run-behind .ensures _ _ (h .1 .1 .1) (h .1 .1 .2)) _ (c .before .before .fuse .ensures)
 
 pub give-back-spec : {M : Type 1} → statement M
 give-back-spec =

@@ -11,7 +11,9 @@ clear-requires : tie.Need-clear-requires
 clear-requires c κs = search needs
 
 put-run-requires : tie.Need-put-run-requires
-put-run-requires c κs = zero-blank _ 2 _ (c .before .before .before .clear .ensures ∙ ap zeros (c .before .before .before .before .before .before .pre .0)) (c .before .before .before .before .before .before .pre .1) (c .before .before .before .before .before .before .pre .2)
+put-run-requires c κs =
+    let s = c .before .before .before .before .before .before in
+    zero-blank _ 2 _ (c .before .before .before .clear .ensures ∙ ap zeros (s .pre .0)) (s .pre .1) (s .pre .2)
 
 same-length : tie.Need-same-length
 same-length c = search needs

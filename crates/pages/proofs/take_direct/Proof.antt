@@ -34,7 +34,9 @@ same-length : tie.Need-same-length
 same-length c = search needs
 
 returns : tie.Need-returns
-returns c = let h = c .before .before .before .before .before .pre in run-put (h .0) (h .1 .1) (omega (arith, h .1 .2, h .1 .3)) _ (direct _ _) _ (c .before .before .cut-direct .ensures)
+returns c =
+    let s = c .before .before .before .before .before in
+    let h = s .pre in run-put (h .0) (h .1 .1) (omega (arith, h .1 .2, h .1 .3)) _ (direct _ _) _ (c .before .before .cut-direct .ensures)
 
 pub take-direct-spec : {M : Type 1} → statement M
 take-direct-spec =

@@ -5,17 +5,19 @@ use mathlib.Core.Bool.{cond}
 use mathlib.Core.Path.{sym, _∙_, ap}
 use native.Mathlib.Omega.{arith}
 use borrow.Author.Needs.{needs}
+use Rattle.zone.specs.Encoding.{zoneWords}
+use Rattle.model.specs.Numbers.{zonePages}
 use Rattle.pages.proofs.zone_size.Statement.{statement}
 use Rattle.pages.proofs.zone_size.Tie as tie
 
 returns : tie.Need-returns
-returns c = rw (lt-leb 8 (c .before .before .args .left) (c .if1 .taken))
+returns c = rw (lt-leb zonePages (c .before .before .args .left) (c .if1 .taken))
 
 mul-e : tie.Need-mul-e
 mul-e c = search needs
 
 slice-aggregate-check : tie.Need-slice-aggregate-check
-slice-aggregate-check c = sym (length-take-le 4160 (c .before .before .before .args .words .now) (omega (arith, c .before .before .before .pre .0, c .before .if1 .left)))
+slice-aggregate-check c = sym (length-take-le zoneWords (c .before .before .before .args .words .now) (omega (arith, c .before .before .before .pre .0, c .before .if1 .left)))
 
 check-requires : tie.Need-check-requires
 check-requires c κs = search needs
@@ -24,7 +26,7 @@ pages-if-requires : tie.Need-pages-if-requires
 pages-if-requires c κs = search needs
 
 returns-2 : tie.Need-returns-2
-returns-2 c = c .pages-if .ensures ∙ rw (le-leb 8 (c .before .before .before .before .before .args .left) (omega (arith, c .before .before .before .if1 .left))) (ap (λ t. cond t 8 0) (c .before .check .ensures))
+returns-2 c = c .pages-if .ensures ∙ rw (le-leb zonePages (c .before .before .before .before .before .args .left) (omega (arith, c .before .before .before .if1 .left))) (ap (λ t. cond t 8 0) (c .before .check .ensures))
 
 pub zone-size-spec : {M : Type 1} → statement M
 zone-size-spec =

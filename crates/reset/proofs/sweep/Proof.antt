@@ -16,20 +16,37 @@ Inv-loop words₀ n group p₀ before₀ count₀ words p before count = Sweep g
 abbrev μ-loop : tie.MeasureT-loop
 μ-loop words₀ n group p₀ before₀ count₀ words p before count = n - p
 
+-- The places that answers speak of, each from the next one.
+abbrev loop : tie.In-loop Inv-loop μ-loop → tie.At-loop Inv-loop μ-loop
+loop c = c .before
+
+abbrev start : tie.At-loop Inv-loop μ-loop → tie.Start Inv-loop μ-loop
+start c = c .before .before
+
 loop-holds : tie.Need-loop-holds Inv-loop μ-loop
 loop-holds c = sweep-start _ (c .before .pre .0)
 
 sweep-at-requires : tie.Need-sweep-at-requires Inv-loop μ-loop
-sweep-at-requires c κs = (c .before .before .before .before .pre .1, c .before .loop-test .taken, (_, _, _, c .before .before .loop .inv))
+sweep-at-requires c κs =
+    let l = loop (c .before) in
+    let s = start l in
+    (s .pre .1, c .before .loop-test .taken, (_, _, _, l .loop .inv))
 
 add-count : tie.Need-add-count Inv-loop μ-loop
-add-count c = let s = c .before .before .before .sweep-at .ensures .0 _ _ _ (c .before .before .before .before .before .before .loop .inv) in omega (arith, s .counted, few-in-all (c .before .before .before .before .before .before .before .before .args .group) (c .before .before .before .before .before .before .before .before .pre .0))
+add-count c =
+    let l = loop (c .before .before .before .before .before) in
+    let s₁ = start l in
+    let s = c .before .before .before .sweep-at .ensures .0 _ _ _ (l .loop .inv) in omega (arith, s .counted, few-in-all (s₁ .args .group) (s₁ .pre .0))
 
 loop-less : tie.Need-loop-less Inv-loop μ-loop
-loop-less c = omega (arith, c .before .before .before .before .before .loop-test .taken, c .before .before .before .sweep-at .ensures .1)
+loop-less c =
+    let t = c .before .before .before .before .before in
+    omega (arith, t .loop-test .taken, c .before .before .before .sweep-at .ensures .1)
 
 loop-again : tie.Need-loop-again Inv-loop μ-loop
-loop-again c = c .before .before .before .sweep-at .ensures .0 _ _ _ (c .before .before .before .before .before .before .loop .inv)
+loop-again c =
+    let l = loop (c .before .before .before .before .before) in
+    c .before .before .before .sweep-at .ensures .0 _ _ _ (l .loop .inv)
 
 same-length : tie.Need-same-length Inv-loop μ-loop
 same-length c = good-long (c .before .loop .inv .good) (c .before .before .before .pre .0)

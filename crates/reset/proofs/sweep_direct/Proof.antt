@@ -4,20 +4,33 @@ use borrow.Author.Needs.{needs}
 use Rattle.reset.proofs.sweep_direct.Statement.{statement}
 use Rattle.reset.proofs.sweep_direct.Tie as tie
 
+-- The places that answers speak of, each from the next one.
+abbrev start : tie.After-give-back → tie.Start
+start c = c .before .before .before
+
 give-back-requires : tie.Need-give-back-requires
 give-back-requires c κs = search needs
 
 sub-behind-run : tie.Need-sub-behind-run
-sub-behind-run c = let h = c .before .before .before .before .before .before .pre in direct-low (h .0) (h .1) (c .before .before .before .give-back .ensures)
+sub-behind-run c =
+    let g = c .before .before .before in
+    let s = start g in
+    let h = s .pre in direct-low (h .0) (h .1) (g .give-back .ensures)
 
 behind-run-requires : tie.Need-behind-run-requires
-behind-run-requires c κs = let h = c .before .before .before .before .before .before .pre in let e = c .before .before .before .give-back .ensures in (direct-good (h .0) (h .1) e, direct-run (h .0) (h .1) e)
+behind-run-requires c κs =
+    let g = c .before .before .before in
+    let s = start g in
+    let h = s .pre in let e = g .give-back .ensures in (direct-good (h .0) (h .1) e, direct-run (h .0) (h .1) e)
 
 same-length : tie.Need-same-length
 same-length c = search needs
 
 returns : tie.Need-returns
-returns c = let h = c .before .before .before .before .before .before .before .pre in direct-gone (h .0) (h .1) (c .before .before .before .before .give-back .ensures) _ _ _ (c .behind-run .ensures)
+returns c =
+    let g = c .before .before .before .before in
+    let s = start g in
+    let h = s .pre in direct-gone (h .0) (h .1) (g .give-back .ensures) _ _ _ (c .behind-run .ensures)
 
 pub sweep-direct-spec : {M : Type 1} → statement M
 sweep-direct-spec =

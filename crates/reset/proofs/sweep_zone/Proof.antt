@@ -14,6 +14,22 @@ Inv-loop words₀ n p before group touched i₀ count₀ words i count = ZoneWal
 abbrev μ-loop : tie.MeasureT-loop
 μ-loop words₀ n p before group touched i₀ count₀ words i count = touched - i
 
+-- The places that answers speak of, each from the next one.
+abbrev loop : tie.In-loop Inv-loop μ-loop → tie.At-loop Inv-loop μ-loop
+loop c = c .before
+
+abbrev start : tie.At-loop Inv-loop μ-loop → tie.Start Inv-loop μ-loop
+start c = c .before .before .before .before
+
+abbrev turn : tie.After-zone-owner Inv-loop μ-loop → tie.In-loop Inv-loop μ-loop
+turn c = c .before .before
+
+abbrev zone-owner : tie.Else1 Inv-loop μ-loop → tie.After-zone-owner Inv-loop μ-loop
+zone-owner c = c .before
+
+abbrev else1 : tie.After-chunk-back Inv-loop μ-loop → tie.Else1 Inv-loop μ-loop
+else1 c = c .before .before
+
 zone-touched-requires : tie.Need-zone-touched-requires Inv-loop μ-loop
 zone-touched-requires c κs = let h = c .before .before .pre in (h .1 .3 .good .lent, zone-begun (h .1 .3))
 
@@ -21,37 +37,90 @@ loop-holds : tie.Need-loop-holds Inv-loop μ-loop
 loop-holds c = let h = c .before .before .before .pre in walk-start (h .1 .3) _ (c .zone-touched .ensures)
 
 zone-owner-requires : tie.Need-zone-owner-requires Inv-loop μ-loop
-zone-owner-requires c κs = let h = c .before .before .before .before .before .before .pre in let a = c .before .before .loop .inv in (walk-good (h .1 .3) a .lent, walk-here (h .1 .3) a)
+zone-owner-requires c κs =
+    let l = loop (c .before) in
+    let s = start l in
+    let h = s .pre in let a = l .loop .inv in (walk-good (h .1 .3) a .lent, walk-here (h .1 .3) a)
 
 add-i : tie.Need-add-i Inv-loop μ-loop
-add-i c = omega (arith, c .before .before .before .before .loop .inv .most, c .before .before .before .loop-test .taken)
+add-i c =
+    let t = turn (c .before) in
+    let l = loop t in
+    omega (arith, l .loop .inv .most, t .loop-test .taken)
 
 loop-less : tie.Need-loop-less Inv-loop μ-loop
 loop-less c = omega (arith, c .before .before .before .loop-test .taken)
 
 loop-again : tie.Need-loop-again Inv-loop μ-loop
-loop-again c = let h = c .before .before .before .before .before .before .before .before .pre in let a = c .before .before .before .before .loop .inv in walk-skip (h .1 .3) a _ (c .before .zone-owner .ensures) (c .before .before .before .loop-test .taken) (omega (arith, h .0, c .if1 .taken))
+loop-again c =
+    let t = turn (c .before) in
+    let l = loop t in
+    let s = start l in
+    let h = s .pre in let a = l .loop .inv in walk-skip (h .1 .3) a _ (c .before .zone-owner .ensures) (t .loop-test .taken) (omega (arith, h .0, c .if1 .taken))
 
 add-count : tie.Need-add-count Inv-loop μ-loop
-add-count c = omega (arith, c .before .before .before .before .loop .inv .most, c .before .before .before .before .loop .inv .few, c .before .before .before .loop-test .taken)
+add-count c =
+    let t = turn (c .before) in
+    let l = loop t in
+    omega (arith, l .loop .inv .most, l .loop .inv .few, t .loop-test .taken)
 
 chunk-back-requires : tie.Need-chunk-back-requires Inv-loop μ-loop
-chunk-back-requires c κs = let h = c .before .before .before .before .before .before .before .before .before .pre in let a = c .before .before .before .before .before .loop .inv in (walk-good (h .1 .3) a, walk-live (h .1 .3) a _ (c .before .before .zone-owner .ensures) (c .before .before .before .before .loop-test .taken) (omega (arith, h .0, c .before .if1 .left)))
+chunk-back-requires c κs =
+    let z = zone-owner (c .before) in
+    let t = turn z in
+    let l = loop t in
+    let s = start l in
+    let h = s .pre in let a = l .loop .inv in (walk-good (h .1 .3) a, walk-live (h .1 .3) a _ (z .zone-owner .ensures) (t .loop-test .taken) (omega (arith, h .0, c .before .if1 .left)))
 
 loop-again-2 : tie.Need-loop-again-2 Inv-loop μ-loop
-loop-again-2 c = let h = c .before .before .before .before .before .before .before .before .before .before .before .before .before .pre in let a = c .before .before .before .before .before .before .before .before .before .loop .inv in let e = c .before .before .before .before .before .before .zone-owner .ensures in let d = c .before .before .before .chunk-back .ensures in walk-stays (h .1 .3) a _ e (c .before .before .before .before .before .before .before .before .loop-test .taken) (h .0) (c .before .before .before .before .before .if1 .left) (d .0) (c .before .before .before .chunk-back .result) (not-false _ (c .if2 .left)) (d .1)
+loop-again-2 c =
+    let c₁ = c .before .before .before in
+    let e₁ = else1 c₁ in
+    let z = zone-owner e₁ in
+    let t = turn z in
+    let l = loop t in
+    let s = start l in
+    let h = s .pre in let a = l .loop .inv in let e = z .zone-owner .ensures in let d = c₁ .chunk-back .ensures in walk-stays (h .1 .3) a _ e (t .loop-test .taken) (h .0) (e₁ .if1 .left) (d .0) (c₁ .chunk-back .result) (not-false _ (c .if2 .left)) (d .1)
 
 sub-behind-run : tie.Need-sub-behind-run Inv-loop μ-loop
-sub-behind-run c = let h = c .before .before .before .before .before .before .before .before .before .before .before .before .before .before .pre in walk-low (h .1 .3) (c .before .before .before .before .before .before .before .before .before .before .loop .inv) _ (c .before .before .before .before .before .before .before .zone-owner .ensures) (c .before .before .before .before .before .before .before .before .before .loop-test .taken) (h .0) (c .before .before .before .before .before .before .if1 .left) (c .before .before .before .before .chunk-back .ensures .0) (c .before .before .before .before .chunk-back .result) (not-true _ (c .before .if2 .taken)) (c .before .before .before .before .chunk-back .ensures .1)
+sub-behind-run c =
+    let c₁ = c .before .before .before .before in
+    let e = else1 c₁ in
+    let z = zone-owner e in
+    let t = turn z in
+    let l = loop t in
+    let s = start l in
+    let h = s .pre in walk-low (h .1 .3) (l .loop .inv) _ (z .zone-owner .ensures) (t .loop-test .taken) (h .0) (e .if1 .left) (c₁ .chunk-back .ensures .0) (c₁ .chunk-back .result) (not-true _ (c .before .if2 .taken)) (c₁ .chunk-back .ensures .1)
 
 behind-run-requires : tie.Need-behind-run-requires Inv-loop μ-loop
-behind-run-requires c κs = let h = c .before .before .before .before .before .before .before .before .before .before .before .before .before .before .pre in let a = c .before .before .before .before .before .before .before .before .before .before .loop .inv in let e = c .before .before .before .before .before .before .before .zone-owner .ensures in let d = c .before .before .before .before .chunk-back .ensures in (walk-gone-good (h .1 .3) a _ e (c .before .before .before .before .before .before .before .before .before .loop-test .taken) (h .0) (c .before .before .before .before .before .before .if1 .left) (d .0) (c .before .before .before .before .chunk-back .result) (not-true _ (c .before .if2 .taken)) (d .1), walk-run (h .1 .3) a _ e (c .before .before .before .before .before .before .before .before .before .loop-test .taken) (h .0) (c .before .before .before .before .before .before .if1 .left) (d .0) (c .before .before .before .before .chunk-back .result) (not-true _ (c .before .if2 .taken)) (d .1))
+behind-run-requires c κs =
+    let c₁ = c .before .before .before .before in
+    let e₁ = else1 c₁ in
+    let z = zone-owner e₁ in
+    let t = turn z in
+    let l = loop t in
+    let s = start l in
+    let h = s .pre in let a = l .loop .inv in let e = z .zone-owner .ensures in let d = c₁ .chunk-back .ensures in (walk-gone-good (h .1 .3) a _ e (t .loop-test .taken) (h .0) (e₁ .if1 .left) (d .0) (c₁ .chunk-back .result) (not-true _ (c .before .if2 .taken)) (d .1), walk-run (h .1 .3) a _ e (t .loop-test .taken) (h .0) (e₁ .if1 .left) (d .0) (c₁ .chunk-back .result) (not-true _ (c .before .if2 .taken)) (d .1))
 
 same-length : tie.Need-same-length Inv-loop μ-loop
-same-length c = let h = c .before .before .before .before .before .before .before .before .before .before .before .before .before .before .before .pre in let a = c .before .before .before .before .before .before .before .before .before .before .before .loop .inv in let e = c .before .before .before .before .before .before .before .before .zone-owner .ensures in let d = c .before .before .before .before .before .chunk-back .ensures in walk-gone-long (h .1 .3) a _ e (c .before .before .before .before .before .before .before .before .before .before .loop-test .taken) (h .0) (c .before .before .before .before .before .before .before .if1 .left) (d .0) (c .before .before .before .before .before .chunk-back .result) (not-true _ (c .before .before .if2 .taken)) (d .1)
+same-length c =
+    let c₁ = c .before .before .before .before .before in
+    let e₁ = else1 c₁ in
+    let z = zone-owner e₁ in
+    let t = turn z in
+    let l = loop t in
+    let s = start l in
+    let h = s .pre in let a = l .loop .inv in let e = z .zone-owner .ensures in let d = c₁ .chunk-back .ensures in walk-gone-long (h .1 .3) a _ e (t .loop-test .taken) (h .0) (e₁ .if1 .left) (d .0) (c₁ .chunk-back .result) (not-true _ (c .before .before .if2 .taken)) (d .1)
 
 returns : tie.Need-returns Inv-loop μ-loop
-returns c = let h = c .before .before .before .before .before .before .before .before .before .before .before .before .before .before .before .pre in let a = c .before .before .before .before .before .before .before .before .before .before .before .loop .inv in let e = c .before .before .before .before .before .before .before .before .zone-owner .ensures in let d = c .before .before .before .before .before .chunk-back .ensures in walk-gone (h .1 .3) a _ e (c .before .before .before .before .before .before .before .before .before .before .loop-test .taken) (h .0) (c .before .before .before .before .before .before .before .if1 .left) (d .0) (c .before .before .before .before .before .chunk-back .result) (not-true _ (c .before .before .if2 .taken)) (d .1) _ _ _ (c .behind-run .ensures)
+returns c =
+    let c₁ = c .before .before .before .before .before in
+    let e₁ = else1 c₁ in
+    let z = zone-owner e₁ in
+    let t = turn z in
+    let l = loop t in
+    let s = start l in
+    let h = s .pre in let a = l .loop .inv in let e = z .zone-owner .ensures in let d = c₁ .chunk-back .ensures in walk-gone (h .1 .3) a _ e (t .loop-test .taken) (h .0) (e₁ .if1 .left) (d .0) (c₁ .chunk-back .result) (not-true _ (c .before .before .if2 .taken)) (d .1) _ _ _ (c .behind-run .ensures)
 
 add-i-2 : tie.Need-add-i-2 Inv-loop μ-loop
 add-i-2 c = search needs
@@ -60,13 +129,19 @@ loop-less-2 : tie.Need-loop-less-2 Inv-loop μ-loop
 loop-less-2 c = search needs
 
 add-next : tie.Need-add-next Inv-loop μ-loop
-add-next c = let h = c .before .before .before .before .before .pre in omega (arith, walk-few (h .1 .3) (c .before .loop .inv))
+add-next c =
+    let s = start (c .before) in
+    let h = s .pre in omega (arith, walk-few (h .1 .3) (c .before .loop .inv))
 
 same-length-2 : tie.Need-same-length-2 Inv-loop μ-loop
-same-length-2 c = let h = c .before .before .before .before .before .pre in walk-long (h .1 .3) (c .before .loop .inv)
+same-length-2 c =
+    let s = start (c .before) in
+    let h = s .pre in walk-long (h .1 .3) (c .before .loop .inv)
 
 returns-2 : tie.Need-returns-2 Inv-loop μ-loop
-returns-2 c = let h = c .before .before .before .before .before .pre in (λ t x k q. walk-done (h .1 .3) (c .before .loop .inv) (h .0) (c .loop-test .left) _ refl t x k q, omega arith)
+returns-2 c =
+    let s = start (c .before) in
+    let h = s .pre in (λ t x k q. walk-done (h .1 .3) (c .before .loop .inv) (h .0) (c .loop-test .left) _ refl t x k q, omega arith)
 
 pub sweep-zone-spec : {M : Type 1} → statement M
 sweep-zone-spec =

@@ -34,7 +34,9 @@ loop-less : tie.Need-loop-less Inv-loop μ-loop
 loop-less c = search needs
 
 loop-again : tie.Need-loop-again Inv-loop μ-loop
-loop-again c = (omega arith, or-more (c .before .before .before .args .s .now) (c .before .before .loop .i) 0 (c .before .before .loop .seen) (omega arith) (c .before .before .loop .inv .1))
+loop-again c =
+    let l = c .before .before in
+    (omega arith, or-more (c .before .before .before .args .s .now) (l .loop .i) 0 (l .loop .seen) (omega arith) (l .loop .inv .1))
 
 returns : tie.Need-returns Inv-loop μ-loop
 returns c = every-done isZero _ _ (c .loop-test .left) (c .before .loop .inv .1)

@@ -18,6 +18,10 @@ Inv-loop s i₀ i = (i ≤ length s) × (every isZero (take i s) ≡ true)
 abbrev μ-loop : tie.MeasureT-loop
 μ-loop s i₀ i = length s - i
 
+-- The places that answers speak of, each from the next one.
+abbrev start : tie.At-loop Inv-loop μ-loop → tie.Start Inv-loop μ-loop
+start c = c .before .before
+
 loop-holds : tie.Need-loop-holds Inv-loop μ-loop
 loop-holds c = (omega arith, every-nil isZero)
 
@@ -44,8 +48,10 @@ block-is-zero-requires c κs = search needs
 
 returns : tie.Need-returns Inv-loop μ-loop
 returns c =
-    let s = c .before .before .before .before .before .before .args .s .now in
-    let i = c .before .before .before .before .loop .i in
+    let l = c .before .before .before .before in
+    let s₁ = start l in
+    let s = s₁ .args .s .now in
+    let i = l .loop .i in
     sym (every-block-not isZero s i (i + 64 - i) (sym (c .before .block-is-zero .ensures) ∙ not-true _ (c .if1 .taken)))
 
 loop-less : tie.Need-loop-less Inv-loop μ-loop
@@ -53,10 +59,12 @@ loop-less c = search needs
 
 loop-again : tie.Need-loop-again Inv-loop μ-loop
 loop-again c =
-    let s = c .before .before .before .before .before .before .args .s .now in
-    let i = c .before .before .before .before .loop .i in (
+    let l = c .before .before .before .before in
+    let s₁ = start l in
+    let s = s₁ .args .s .now in
+    let i = l .loop .i in (
       omega arith,
-      every-block isZero s i (i + 64 - i) (i + 64) (omega arith) (c .before .before .before .before .loop .inv .1) (sym (c .before .block-is-zero .ensures) ∙ not-false _ (c .if1 .left)),
+      every-block isZero s i (i + 64 - i) (i + 64) (omega arith) (l .loop .inv .1) (sym (c .before .block-is-zero .ensures) ∙ not-false _ (c .if1 .left)),
     )
 
 mul-block-is-zero-2 : tie.Need-mul-block-is-zero-2 Inv-loop μ-loop
@@ -76,9 +84,11 @@ block-is-zero-requires-2 c κs = search needs
 
 returns-2 : tie.Need-returns-2 Inv-loop μ-loop
 returns-2 c =
-    let s = c .before .before .before .before .before .args .s .now in
-    let i = c .before .before .before .loop .i in
-    c .block-is-zero2 .ensures ∙ every-block-last isZero s i (length s - i) (omega arith) (c .before .before .before .loop .inv .1)
+    let l = c .before .before .before in
+    let s₁ = start l in
+    let s = s₁ .args .s .now in
+    let i = l .loop .i in
+    c .block-is-zero2 .ensures ∙ every-block-last isZero s i (length s - i) (omega arith) (l .loop .inv .1)
 
 pub is-zero-spec : {M : Type 1} → statement M
 is-zero-spec =

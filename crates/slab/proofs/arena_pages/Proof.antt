@@ -1,4 +1,5 @@
 -- `arena_pages` meets its contract. Assumes nothing.
+use Rattle.model.specs.Numbers.{headerWords}
 use Rattle.slab.proofs.Acting.{header-there, pages-none, pages-some}
 use Rattle.metadata.proofs.States.{state-read}
 use borrow.Author.Tests.{not-true, not-false}
@@ -11,7 +12,7 @@ check-requires : tie.Need-check-requires
 check-requires c κs = search needs
 
 slice-aggregate-pages : tie.Need-slice-aggregate-pages
-slice-aggregate-pages c = header-there _ (sym (c .before .before .check .ensures) ∙ not-false _ (c .before .if1 .left)) 1024 refl
+slice-aggregate-pages c = header-there _ (sym (c .before .before .check .ensures) ∙ not-false _ (c .before .if1 .left)) headerWords refl
 
 pages-requires : tie.Need-pages-requires
 pages-requires c κs = state-read _ (sym (c .before .before .check .ensures) ∙ not-false _ (c .before .if1 .left)) .header

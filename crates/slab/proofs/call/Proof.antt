@@ -4,6 +4,22 @@ use borrow.Author.Needs.{needs}
 use Rattle.slab.proofs.call.Statement.{statement}
 use Rattle.slab.proofs.call.Tie as tie
 
+-- The places that answers speak of, each from the next one.
+abbrev else1 : tie.After-operation → tie.Else1
+else1 c = c .before .before
+
+abbrev arena-pages : tie.Else1 → tie.After-arena-pages
+arena-pages c = c .before
+
+abbrev else1-before-operation2 : tie.After-operation2 → tie.Else1
+else1-before-operation2 c = c .before .before
+
+abbrev else1-before-enum-told : tie.After-enum-told → tie.Else1
+else1-before-enum-told c = c .before .before
+
+abbrev start : tie.After-arena-pages → tie.Start
+start c = c .before .before .before
+
 arena-pages-requires : tie.Need-arena-pages-requires
 arena-pages-requires c κs = search needs
 
@@ -17,37 +33,55 @@ enum-known-operation : tie.Need-enum-known-operation
 enum-known-operation c = search needs
 
 allocate-in-requires : tie.Need-allocate-in-requires
-allocate-in-requires c κs = arena-of _ _ (c .before .before .before .before .before .arena-pages .ensures) (c .before .before .before .before .if1 .left)
+allocate-in-requires c κs =
+    let e = else1 (c .before .before) in
+    let a = arena-pages e in
+    arena-of _ _ (a .arena-pages .ensures) (e .if1 .left)
 
 enum-known-operation-2 : tie.Need-enum-known-operation-2
 enum-known-operation-2 c = search needs
 
 free-in-requires : tie.Need-free-in-requires
-free-in-requires c κs = arena-of _ _ (c .before .before .before .before .before .arena-pages .ensures) (c .before .before .before .before .if1 .left)
+free-in-requires c κs =
+    let e = else1-before-operation2 (c .before .before) in
+    let a = arena-pages e in
+    arena-of _ _ (a .arena-pages .ensures) (e .if1 .left)
 
 enum-told : tie.Need-enum-told
 enum-told c = search needs
 
 reset-in-requires : tie.Need-reset-in-requires
-reset-in-requires c κs = arena-of _ _ (c .before .before .before .before .arena-pages .ensures) (c .before .before .before .if1 .left)
+reset-in-requires c κs =
+    let e = else1-before-enum-told (c .before) in
+    let a = arena-pages e in
+    arena-of _ _ (a .arena-pages .ensures) (e .if1 .left)
 
 same-length-2 : tie.Need-same-length-2
 same-length-2 c = search needs
 
 returns-2 : tie.Need-returns-2
-returns-2 c = same-call _ (c .before .before .before .before .before .before .before .before .before .before .before .args .call) _ (c .before .before .before .before .before .operation .given .1) _ _ (c .before .before .allocate-in .ensures)
+returns-2 c =
+    let o = c .before .before .before .before .before in
+    let s = start (arena-pages (else1 o)) in
+    same-call _ (s .args .call) _ (o .operation .given .1) _ _ (c .before .before .allocate-in .ensures)
 
 same-length-3 : tie.Need-same-length-3
 same-length-3 c = search needs
 
 returns-3 : tie.Need-returns-3
-returns-3 c = same-call _ (c .before .before .before .before .before .before .before .before .before .before .before .args .call) _ (c .before .before .before .before .before .operation2 .given .1) _ _ (c .before .before .free-in .ensures)
+returns-3 c =
+    let o = c .before .before .before .before .before in
+    let s = start (arena-pages (else1-before-operation2 o)) in
+    same-call _ (s .args .call) _ (o .operation2 .given .1) _ _ (c .before .before .free-in .ensures)
 
 same-length-4 : tie.Need-same-length-4
 same-length-4 c = search needs
 
 returns-4 : tie.Need-returns-4
-returns-4 c = same-call _ (c .before .before .before .before .before .before .before .before .before .before .args .call) _ (c .before .before .before .before .enum-told .given .1) _ _ (c .before .before .reset-in .ensures)
+returns-4 c =
+    let e = c .before .before .before .before in
+    let s = start (arena-pages (else1-before-enum-told e)) in
+    same-call _ (s .args .call) _ (e .enum-told .given .1) _ _ (c .before .before .reset-in .ensures)
 
 pub call-spec : {M : Type 1} → statement M
 call-spec =

@@ -1,10 +1,27 @@
 -- `init` meets its contract. Assumes nothing.
+use Rattle.model.specs.Numbers.{headerWords}
 use Rattle.slab.proofs.Fresh.{set-up-done, front-there, no-pages, many-pages, few-words}
 use mathlib.Core.Path.{sym}
 use native.Mathlib.Omega.{arith}
 use borrow.Author.Needs.{needs}
 use Rattle.slab.proofs.init.Statement.{statement}
 use Rattle.slab.proofs.init.Tie as tie
+
+-- The places that answers speak of, each from the next one.
+abbrev words-for : tie.Else3 → tie.After-words-for
+words-for c = c .before
+
+abbrev else2 : tie.After-words-for → tie.Else2
+else2 c = c .before
+
+abbrev else1 : tie.Else2 → tie.Else1
+else1 c = c .before
+
+abbrev start : tie.Else1 → tie.Start
+start c = c .before .before
+
+abbrev else3 : tie.After-set-up → tie.Else3
+else3 c = c .before .before
 
 returns : tie.Need-returns
 returns c = no-pages _ _ (c .if1 .taken)
@@ -22,10 +39,16 @@ slice-relend-prefix-set-up : tie.Need-slice-relend-prefix-set-up
 slice-relend-prefix-set-up c = search needs
 
 slice-aggregate-set-up : tie.Need-slice-aggregate-set-up
-slice-aggregate-set-up c = sym (front-there 1024 (c .before .before .before .before .before .before .args .meta .now) (omega (arith, c .before .before .words-for .ensures)))
+slice-aggregate-set-up c =
+    let w = words-for (c .before) in
+    let s = start (else1 (else2 w)) in
+    sym (front-there headerWords (s .args .meta .now) (omega (arith, w .words-for .ensures)))
 
 set-up-requires : tie.Need-set-up-requires
-set-up-requires c κs = search (front-there 1024 (c .before .before .before .before .before .before .args .meta .now) (omega (arith, c .before .before .words-for .ensures)))
+set-up-requires c κs =
+    let w = words-for (c .before) in
+    let s = start (else1 (else2 w)) in
+    search (front-there headerWords (s .args .meta .now) (omega (arith, w .words-for .ensures)))
 
 sub-set-up : tie.Need-sub-set-up
 sub-set-up c = search needs
@@ -43,7 +66,13 @@ same-length : tie.Need-same-length
 same-length c = search needs
 
 returns-4 : tie.Need-returns-4
-returns-4 c = set-up-done _ _ (c .before .before .before .before .before .before .before .before .before .before .before .if1 .left) (c .before .before .before .before .before .before .before .before .before .before .if2 .left) _ (c .before .before .before .before .before .before .before .before .before .words-for .ensures) (c .before .before .before .before .before .before .before .before .if3 .left) _ _ (c .before .before .before .before .before .before .set-up .ensures) (c .before .before .set-up2 .ensures)
+returns-4 c =
+    let s = c .before .before .before .before .before .before in
+    let e = else3 s in
+    let w = words-for e in
+    let e₁ = else2 w in
+    let e₂ = else1 e₁ in
+    set-up-done _ _ (e₂ .if1 .left) (e₁ .if2 .left) _ (w .words-for .ensures) (e .if3 .left) _ _ (s .set-up .ensures) (c .before .before .set-up2 .ensures)
 
 pub init-spec : {M : Type 1} → statement M
 init-spec =

@@ -4,6 +4,10 @@ use borrow.Author.Needs.{needs}
 use Rattle.slab.proofs.reset_in.Statement.{statement}
 use Rattle.slab.proofs.reset_in.Tie as tie
 
+-- The places that answers speak of, each from the next one.
+abbrev start : tie.After-words-for → tie.Start
+start c = c .before .before
+
 words-for-requires : tie.Need-words-for-requires
 words-for-requires c κs = arena-few (c .before .pre)
 
@@ -20,7 +24,10 @@ same-length : tie.Need-same-length
 same-length c = search needs
 
 returns : tie.Need-returns
-returns c = let h = c .before .before .before .before .before .before .pre in let e = c .before .before .before .before .words-for .ensures in let r = c .before .before .reset .ensures in arena-served h _ e _ _ _ (r .1) (r .0)
+returns c =
+    let w = c .before .before .before .before in
+    let s = start w in
+    let h = s .pre in let e = w .words-for .ensures in let r = c .before .before .reset .ensures in arena-served h _ e _ _ _ (r .1) (r .0)
 
 pub reset-in-spec : {M : Type 1} → statement M
 reset-in-spec =

@@ -6,6 +6,13 @@ use borrow.Author.Needs.{needs}
 use Rattle.slab.proofs.trim.Statement.{statement}
 use Rattle.slab.proofs.trim.Tie as tie
 
+-- The places that answers speak of, each from the next one.
+abbrev else1 : tie.After-words-for → tie.Else1
+else1 c = c .before
+
+abbrev arena-pages : tie.Else1 → tie.After-arena-pages
+arena-pages c = c .before
+
 arena-pages-requires : tie.Need-arena-pages-requires
 arena-pages-requires c κs = search needs
 
@@ -31,7 +38,11 @@ same-length-2 : tie.Need-same-length-2
 same-length-2 c = search needs
 
 returns-2 : tie.Need-returns-2
-returns-2 c = let h = arena-of _ _ (c .before .before .before .before .before .before .arena-pages .ensures) (c .before .before .before .before .before .if1 .left) in let e = c .before .before .before .before .words-for .ensures in let r = c .before .before .trim-all .ensures in arena-served h _ e _ _ _ (r .1) (ap Counted (r .0))
+returns-2 c =
+    let w = c .before .before .before .before in
+    let e₁ = else1 w in
+    let a = arena-pages e₁ in
+    let h = arena-of _ _ (a .arena-pages .ensures) (e₁ .if1 .left) in let e = w .words-for .ensures in let r = c .before .before .trim-all .ensures in arena-served h _ e _ _ _ (r .1) (ap Counted (r .0))
 
 pub trim-spec : {M : Type 1} → statement M
 trim-spec =

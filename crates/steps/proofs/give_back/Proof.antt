@@ -22,13 +22,17 @@ part-give-back-end : tie.Need-part-give-back-end
 part-give-back-end c = search needs
 
 give-back-requires : tie.Need-give-back-requires
-give-back-requires c κs = let h = c .before .before .pre in (body-holds (h .0 .0) _ (h .0 .1), (in-body (h .0 .0) (λ m. Apart false m) (h .1 .0), in-body (h .0 .0) (λ m. (x : Segment Zone) × Stands m (c .before .before .args .at) (c .before .before .args .before) x × (pages x ≡ c .before .before .args .len) × (runPages x ≡ 0)) (h .1 .1)))
+give-back-requires c κs =
+    let s = c .before .before in
+    let h = s .pre in (body-holds (h .0 .0) _ (h .0 .1), (in-body (h .0 .0) (λ m. Apart false m) (h .1 .0), in-body (h .0 .0) (λ m. (x : Segment Zone) × Stands m (s .args .at) (s .args .before) x × (pages x ≡ s .args .len) × (runPages x ≡ 0)) (h .1 .1)))
 
 same-length : tie.Need-same-length
 same-length c = search needs
 
 returns : tie.Need-returns
-returns c = let h = c .before .before .before .before .before .pre in body-back (h .0 .0) _ (λ m. release (c .before .before .before .before .before .args .at * 4096) m) (release-total (h .1 .1 .1) (has-pages (h .0 .0) (h .1 .1 .1))) (c .before .before .give-back .ensures)
+returns c =
+    let s = c .before .before .before .before .before in
+    let h = s .pre in body-back (h .0 .0) _ (λ m. release (s .args .at * 4096) m) (release-total (h .1 .1 .1) (has-pages (h .0 .0) (h .1 .1 .1))) (c .before .before .give-back .ensures)
 
 pub give-back-spec : {M : Type 1} → statement M
 give-back-spec =

@@ -19,13 +19,17 @@ part-take-direct-end : tie.Need-part-take-direct-end
 part-take-direct-end c = search needs
 
 take-direct-requires : tie.Need-take-direct-requires
-take-direct-requires c κs = let h = c .before .before .pre in (body-holds (h .0 .0) _ (h .0 .1), in-body (h .0 .0) (λ m. (b : ℕ) × Stands m (c .before .before .args .at) b (run (c .before .before .args .len)) × (0 < c .before .before .args .need) × (c .before .before .args .need ≤ c .before .before .args .len)) (h .1))
+take-direct-requires c κs =
+    let s = c .before .before in
+    let h = s .pre in (body-holds (h .0 .0) _ (h .0 .1), in-body (h .0 .0) (λ m. (b : ℕ) × Stands m (s .args .at) b (run (s .args .len)) × (0 < s .args .need) × (s .args .need ≤ s .args .len)) (h .1))
 
 same-length : tie.Need-same-length
 same-length c = search needs
 
 returns : tie.Need-returns
-returns c = let h = c .before .before .before .before .before .pre in body-back (h .0 .0) _ (λ m. carve (record { page = c .before .before .before .before .before .args .at; size = c .before .before .before .before .before .args .len }) (c .before .before .before .before .before .args .need) (direct (c .before .before .before .before .before .args .need) (c .before .before .before .before .before .args .group)) m) (carve-total (h .1 .1) (c .before .before .before .before .before .args .need) (direct (c .before .before .before .before .before .args .need) (c .before .before .before .before .before .args .group)) refl (h .1 .2) (h .1 .3)) (c .before .before .take-direct .ensures)
+returns c =
+    let s = c .before .before .before .before .before in
+    let h = s .pre in body-back (h .0 .0) _ (λ m. carve (record { page = s .args .at; size = s .args .len }) (s .args .need) (direct (s .args .need) (s .args .group)) m) (carve-total (h .1 .1) (s .args .need) (direct (s .args .need) (s .args .group)) refl (h .1 .2) (h .1 .3)) (c .before .before .take-direct .ensures)
 
 pub take-direct-spec : {M : Type 1} → statement M
 take-direct-spec =

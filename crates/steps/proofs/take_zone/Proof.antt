@@ -3,6 +3,7 @@ use native.Mathlib.Omega.{arith}
 use mathlib.Core.Path.{refl}
 use Prim.Native.Nat.{ℕ, _<_, _≤_}
 use Rattle.pages.specs.Places.{Stands}
+use Rattle.model.specs.Numbers.{zonePages}
 use Rattle.model.specs.Pages.{carve}
 use Rattle.model.specs.Zone.{newZone}
 use Rattle.model.specs.Arena.{run, zone}
@@ -21,13 +22,17 @@ part-take-zone-end : tie.Need-part-take-zone-end
 part-take-zone-end c = search needs
 
 take-zone-requires : tie.Need-take-zone-requires
-take-zone-requires c κs = let h = c .before .before .pre in (body-holds (h .0 .0) _ (h .0 .1), in-body (h .0 .0) (λ m. (b : ℕ) × Stands m (c .before .before .args .at) b (run (c .before .before .args .len)) × (8 ≤ c .before .before .args .len) × (0 < c .before .before .args .group)) (h .1))
+take-zone-requires c κs =
+    let s = c .before .before in
+    let h = s .pre in (body-holds (h .0 .0) _ (h .0 .1), in-body (h .0 .0) (λ m. (b : ℕ) × Stands m (s .args .at) b (run (s .args .len)) × (8 ≤ s .args .len) × (0 < s .args .group)) (h .1))
 
 same-length : tie.Need-same-length
 same-length c = search needs
 
 returns : tie.Need-returns
-returns c = let h = c .before .before .before .before .before .pre in body-back (h .0 .0) _ (λ m. carve (record { page = c .before .before .before .before .before .args .at; size = c .before .before .before .before .before .args .len }) 8 (zone (newZone (c .before .before .before .before .before .args .class) (c .before .before .before .before .before .args .group))) m) (carve-total (h .1 .1) 8 (zone (newZone (c .before .before .before .before .before .args .class) (c .before .before .before .before .before .args .group))) refl (omega arith) (h .1 .2)) (c .before .before .take-zone .ensures)
+returns c =
+    let s = c .before .before .before .before .before in
+    let h = s .pre in body-back (h .0 .0) _ (λ m. carve (record { page = s .args .at; size = s .args .len }) zonePages (zone (newZone (s .args .class) (s .args .group))) m) (carve-total (h .1 .1) 8 (zone (newZone (s .args .class) (s .args .group))) refl (omega arith) (h .1 .2)) (c .before .before .take-zone .ensures)
 
 pub take-zone-spec : {M : Type 1} → statement M
 take-zone-spec =

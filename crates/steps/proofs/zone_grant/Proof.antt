@@ -7,6 +7,10 @@ use borrow.Author.Needs.{needs}
 use Rattle.steps.proofs.zone_grant.Statement.{statement}
 use Rattle.steps.proofs.zone_grant.Tie as tie
 
+-- The places that answers speak of, each from the next one.
+abbrev start : tie.After-zone-start → tie.Start
+start c = c .before .before
+
 zone-start-requires : tie.Need-zone-start-requires
 zone-start-requires c κs = let h = c .before .pre in part-page (h .0) _ (h .1)
 
@@ -32,7 +36,10 @@ same-length : tie.Need-same-length
 same-length c = search needs
 
 returns : tie.Need-returns
-returns c = let h = c .before .before .before .before .before .before .pre in let a = c .before .before .before .before .zone-start .ensures in let e = c .before .before .grant .ensures in (e .0 ∙ ap (λ z. nextChunk z) (part-is (h .0) _ (h .1) _ a), part-put (h .0) _ (h .1) _ a (λ z. granted (c .before .before .before .before .before .before .args .group) z) _ (e .1))
+returns c =
+    let z₁ = c .before .before .before .before in
+    let s = start z₁ in
+    let h = s .pre in let a = z₁ .zone-start .ensures in let e = c .before .before .grant .ensures in (e .0 ∙ ap (λ z. nextChunk z) (part-is (h .0) _ (h .1) _ a), part-put (h .0) _ (h .1) _ a (λ z. granted (s .args .group) z) _ (e .1))
 
 pub zone-grant-spec : {M : Type 1} → statement M
 zone-grant-spec =

@@ -29,7 +29,9 @@ owner-requires : tie.Need-owner-requires
 owner-requires c κs = let h = c .before .before .before .pre in part-zone (h .0) _ (h .1) _ (c .before .zone-start .ensures)
 
 returns : tie.Need-returns
-returns c = let h = c .before .before .before .before .pre in c .owner .ensures ∙ ap (λ z. getD (z .owners) (c .before .before .before .before .args .chunk) 0) (part-is (h .0) _ (h .1) _ (c .before .before .zone-start .ensures))
+returns c =
+    let s = c .before .before .before .before in
+    let h = s .pre in c .owner .ensures ∙ ap (λ z. getD (z .owners) (s .args .chunk) 0) (part-is (h .0) _ (h .1) _ (c .before .before .zone-start .ensures))
 
 pub zone-owner-spec : {M : Type 1} → statement M
 zone-owner-spec =

@@ -9,6 +9,10 @@ use borrow.Author.Needs.{needs}
 use Rattle.steps.proofs.zone_put_back.Statement.{statement}
 use Rattle.steps.proofs.zone_put_back.Tie as tie
 
+-- The places that answers speak of, each from the next one.
+abbrev start : tie.After-zone-start → tie.Start
+start c = c .before .before
+
 zone-start-requires : tie.Need-zone-start-requires
 zone-start-requires c κs = let h = c .before .pre in part-page (h .0) _ (h .1)
 
@@ -34,7 +38,10 @@ same-length : tie.Need-same-length
 same-length c = search needs
 
 returns : tie.Need-returns
-returns c = let h = c .before .before .before .before .before .before .pre in let a = c .before .before .before .before .zone-start .ensures in part-put (h .0) _ (h .1) _ a (λ z. putBack (c .before .before .before .before .before .before .args .chunk) z) _ (c .before .before .put-back .ensures)
+returns c =
+    let z₁ = c .before .before .before .before in
+    let s = start z₁ in
+    let h = s .pre in let a = z₁ .zone-start .ensures in part-put (h .0) _ (h .1) _ a (λ z. putBack (s .args .chunk) z) _ (c .before .before .put-back .ensures)
 
 pub zone-put-back-spec : {M : Type 1} → statement M
 zone-put-back-spec =

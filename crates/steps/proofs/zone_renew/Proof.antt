@@ -6,6 +6,10 @@ use borrow.Author.Needs.{needs}
 use Rattle.steps.proofs.zone_renew.Statement.{statement}
 use Rattle.steps.proofs.zone_renew.Tie as tie
 
+-- The places that answers speak of, each from the next one.
+abbrev start : tie.After-zone-start → tie.Start
+start c = c .before .before
+
 zone-start-requires : tie.Need-zone-start-requires
 zone-start-requires c κs = let h = c .before .pre in part-page (h .0) _ (h .1)
 
@@ -31,7 +35,10 @@ same-length : tie.Need-same-length
 same-length c = search needs
 
 returns : tie.Need-returns
-returns c = let h = c .before .before .before .before .before .before .pre in let a = c .before .before .before .before .zone-start .ensures in part-put (h .0) _ (h .1) _ a (λ _. newZone (c .before .before .before .before .before .before .args .class) (c .before .before .before .before .before .before .args .group)) _ (c .before .before .set-up .ensures)
+returns c =
+    let z = c .before .before .before .before in
+    let s = start z in
+    let h = s .pre in let a = z .zone-start .ensures in part-put (h .0) _ (h .1) _ a (λ _. newZone (s .args .class) (s .args .group)) _ (c .before .before .set-up .ensures)
 
 pub zone-renew-spec : {M : Type 1} → statement M
 zone-renew-spec =

@@ -15,6 +15,13 @@ Inv-loop out₀ at s i₀ k₀ out i k = (i ≤ length s) × (length out ≡ len
 abbrev μ-loop : tie.MeasureT-loop
 μ-loop out₀ at s i₀ k₀ out i k = length s - i
 
+-- The places that answers speak of, each from the next one.
+abbrev loop-before-turn : tie.In-loop Inv-loop μ-loop → tie.At-loop Inv-loop μ-loop
+loop-before-turn c = c .before
+
+abbrev start : tie.At-loop Inv-loop μ-loop → tie.Start Inv-loop μ-loop
+start c = c .before .before .before
+
 loop-holds : tie.Need-loop-holds Inv-loop μ-loop
 loop-holds c = (omega arith, refl, left-one _)
 
@@ -22,7 +29,11 @@ shared-slice-read-put-byte : tie.Need-shared-slice-read-put-byte Inv-loop μ-loo
 shared-slice-read-put-byte c = search needs
 
 put-byte-requires : tie.Need-put-byte-requires Inv-loop μ-loop
-put-byte-requires c κs = left-bounded (left-next _ _ (c .before .before .loop-test .taken) (c .before .before .before .loop .inv .2)) (c .before .before .before .before .before .before .pre)
+put-byte-requires c κs =
+    let t = c .before .before in
+    let l = loop-before-turn t in
+    let s = start l in
+    left-bounded (left-next _ _ (t .loop-test .taken) (l .loop .inv .2)) (s .pre)
 
 add-i : tie.Need-add-i Inv-loop μ-loop
 add-i c = search needs
@@ -31,7 +42,10 @@ loop-less : tie.Need-loop-less Inv-loop μ-loop
 loop-less c = omega arith
 
 loop-again : tie.Need-loop-again Inv-loop μ-loop
-loop-again c = (omega arith, c .before .before .put-byte .kept .0 ∙ c .before .before .before .before .before .before .loop .inv .1, left-step (left-next _ _ (c .before .before .before .before .before .loop-test .taken) (c .before .before .before .before .before .before .loop .inv .2)) (c .before .before .put-byte .ensures))
+loop-again c =
+    let t = c .before .before .before .before .before in
+    let l = loop-before-turn t in
+    (omega arith, c .before .before .put-byte .kept .0 ∙ l .loop .inv .1, left-step (left-next _ _ (t .loop-test .taken) (l .loop .inv .2)) (c .before .before .put-byte .ensures))
 
 same-length : tie.Need-same-length Inv-loop μ-loop
 same-length c = c .before .loop .inv .1

@@ -18,14 +18,28 @@ Inv-loop out₀ at numbers n i₀ k₀ out i k = (i ≤ length numbers) × (leng
 abbrev μ-loop : tie.MeasureT-loop
 μ-loop out₀ at numbers n i₀ k₀ out i k = length numbers - i
 
+-- The places that answers speak of, each from the next one.
+abbrev start : tie.Then1 Inv-loop μ-loop → tie.Start Inv-loop μ-loop
+start c = c .before .before .before
+
+abbrev loop-before-turn : tie.In-loop Inv-loop μ-loop → tie.At-loop Inv-loop μ-loop
+loop-before-turn c = c .before
+
+abbrev start-before-loop : tie.At-loop Inv-loop μ-loop → tie.Start Inv-loop μ-loop
+start-before-loop c = c .before .before .before .before
+
 put-byte-requires : tie.Need-put-byte-requires Inv-loop μ-loop
-put-byte-requires c κs = omega (arith, ap length (line-none (c .before .before .before .before .args .numbers .now) (c .before .if1 .taken)))
+put-byte-requires c κs =
+    let s = start (c .before) in
+    omega (arith, ap length (line-none (s .args .numbers .now) (c .before .if1 .taken)))
 
 same-length : tie.Need-same-length Inv-loop μ-loop
 same-length c = search needs
 
 returns : tie.Need-returns Inv-loop μ-loop
-returns c = wrote-as (sym (line-none _ (c .before .before .before .before .if1 .taken))) (c .before .before .put-byte .ensures)
+returns c =
+    let t = c .before .before .before .before in
+    wrote-as (sym (line-none _ (t .if1 .taken))) (c .before .before .put-byte .ensures)
 
 loop-holds : tie.Need-loop-holds Inv-loop μ-loop
 loop-holds c = (omega arith, refl, left-line _ (c .if1 .left))
@@ -43,7 +57,11 @@ end-of-requires : tie.Need-end-of-requires Inv-loop μ-loop
 end-of-requires c κs = search needs
 
 put-field-requires : tie.Need-put-field-requires Inv-loop μ-loop
-put-field-requires c κs = left-bounded (left-number _ _ (c .before .before .before .loop-test .taken) (c .end-of .ensures) (c .before .before .before .before .loop .inv .2)) (c .before .before .before .before .before .before .before .before .pre)
+put-field-requires c κs =
+    let t = c .before .before .before in
+    let l = loop-before-turn t in
+    let s = start-before-loop l in
+    left-bounded (left-number _ _ (t .loop-test .taken) (c .end-of .ensures) (l .loop .inv .2)) (s .pre)
 
 add-i : tie.Need-add-i Inv-loop μ-loop
 add-i c = search needs
@@ -52,7 +70,10 @@ loop-less : tie.Need-loop-less Inv-loop μ-loop
 loop-less c = omega arith
 
 loop-again : tie.Need-loop-again Inv-loop μ-loop
-loop-again c = (omega arith, c .before .before .put-field .kept .0 ∙ c .before .before .before .before .before .before .before .loop .inv .1, left-step (left-number _ _ (c .before .before .before .before .before .before .loop-test .taken) (c .before .before .before .end-of .ensures) (c .before .before .before .before .before .before .before .loop .inv .2)) (c .before .before .put-field .ensures))
+loop-again c =
+    let t = c .before .before .before .before .before .before in
+    let l = loop-before-turn t in
+    (omega arith, c .before .before .put-field .kept .0 ∙ l .loop .inv .1, left-step (left-number _ _ (t .loop-test .taken) (c .before .before .before .end-of .ensures) (l .loop .inv .2)) (c .before .before .put-field .ensures))
 
 same-length-2 : tie.Need-same-length-2 Inv-loop μ-loop
 same-length-2 c = c .before .loop .inv .1

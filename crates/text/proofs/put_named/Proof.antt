@@ -5,20 +5,39 @@ use Rattle.text.proofs.Left.{left-step, left-bounded, left-done}
 use Rattle.text.proofs.put_named.Statement.{statement}
 use Rattle.text.proofs.put_named.Tie as tie
 
+-- The places that answers speak of, each from the next one.
+abbrev start : tie.After-put-bytes → tie.Start
+start c = c .before .before .before .before
+
+abbrev put-bytes : tie.After-put-byte → tie.After-put-bytes
+put-bytes c = c .before .before .before .before
+
 put-bytes-requires : tie.Need-put-bytes-requires
-put-bytes-requires c κs = left-bounded (left-named {l = c .before .before .before .args .out .now} _ (c .before .before .before .args .n)) (c .before .before .before .pre)
+put-bytes-requires c κs =
+    let s = c .before .before .before in
+    left-bounded (left-named {l = s .args .out .now} _ (s .args .n)) (s .pre)
 
 put-byte-requires : tie.Need-put-byte-requires
-put-byte-requires c κs = left-bounded (left-step (left-named _ (c .before .before .before .before .before .before .before .args .n)) (c .before .before .before .put-bytes .ensures)) (c .before .before .before .before .before .before .before .pre)
+put-byte-requires c κs =
+    let p = c .before .before .before in
+    let s = start p in
+    left-bounded (left-step (left-named _ (s .args .n)) (p .put-bytes .ensures)) (s .pre)
 
 put-field-requires : tie.Need-put-field-requires
-put-field-requires c κs = left-bounded (left-step (left-step (left-named _ _) (c .before .before .before .before .before .before .before .put-bytes .ensures)) (c .before .before .before .put-byte .ensures)) (c .before .before .before .before .before .before .before .before .before .before .before .pre)
+put-field-requires c κs =
+    let p = c .before .before .before in
+    let p₁ = put-bytes p in
+    let s = start p₁ in
+    left-bounded (left-step (left-step (left-named _ _) (p₁ .put-bytes .ensures)) (p .put-byte .ensures)) (s .pre)
 
 same-length : tie.Need-same-length
 same-length c = search needs
 
 returns : tie.Need-returns
-returns c = left-done (left-step (left-step (left-step (left-named _ _) (c .before .before .before .before .before .before .before .before .before .before .put-bytes .ensures)) (c .before .before .before .before .before .before .put-byte .ensures)) (c .before .before .put-field .ensures))
+returns c =
+    let p = c .before .before .before .before .before .before in
+    let p₁ = put-bytes p in
+    left-done (left-step (left-step (left-step (left-named _ _) (p₁ .put-bytes .ensures)) (p .put-byte .ensures)) (c .before .before .put-field .ensures))
 
 pub put-named-spec : {M : Type 1} → statement M
 put-named-spec =

@@ -5,6 +5,10 @@ use Rattle.text.proofs.Fields.{field-none, field-past, field-other, fie
 use Rattle.text.proofs.read_field.Statement.{statement}
 use Rattle.text.proofs.read_field.Tie as tie
 
+-- The places that answers speak of, each from the next one.
+abbrev read-number : tie.After-value → tie.After-read-number
+read-number c = c .before .before
+
 read-number-requires : tie.Need-read-number-requires
 read-number-requires c κs = search needs
 
@@ -18,19 +22,28 @@ returns : tie.Need-returns
 returns c = field-none _ _ _ (sym (c .before .before .read-number .ensures) ∙ c .enum-told .given .1)
 
 returns-2 : tie.Need-returns-2
-returns-2 c = field-past _ _ _ _ _ (sym (c .before .before .before .before .read-number .ensures) ∙ c .before .before .value .given .1) (c .if1 .taken)
+returns-2 c =
+    let v = c .before .before in
+    let r = read-number v in
+    field-past _ _ _ _ _ (sym (r .read-number .ensures) ∙ v .value .given .1) (c .if1 .taken)
 
 shared-slice-read-if2 : tie.Need-shared-slice-read-if2
 shared-slice-read-if2 c = search needs
 
 returns-3 : tie.Need-returns-3
-returns-3 c = field-other _ _ _ _ _ (sym (c .before .before .before .before .before .before .read-number .ensures) ∙ c .before .before .before .before .value .given .1) (c .before .before .if1 .left) (c .if2 .taken)
+returns-3 c =
+    let v = c .before .before .before .before in
+    let r = read-number v in
+    field-other _ _ _ _ _ (sym (r .read-number .ensures) ∙ v .value .given .1) (c .before .before .if1 .left) (c .if2 .taken)
 
 add-t7 : tie.Need-add-t7
 add-t7 c = search needs
 
 returns-4 : tie.Need-returns-4
-returns-4 c = field-ended _ _ _ _ _ (sym (c .before .before .before .before .before .before .read-number .ensures) ∙ c .before .before .before .before .value .given .1) (c .before .before .if1 .left) (c .if2 .left)
+returns-4 c =
+    let v = c .before .before .before .before in
+    let r = read-number v in
+    field-ended _ _ _ _ _ (sym (r .read-number .ensures) ∙ v .value .given .1) (c .before .before .if1 .left) (c .if2 .left)
 
 pub read-field-spec : {M : Type 1} → statement M
 read-field-spec =

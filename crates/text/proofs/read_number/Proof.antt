@@ -18,6 +18,19 @@ Inv-loop s at first v₀ i₀ v i = (i ≤ length s) × (v ≤ largest) × (numb
 abbrev μ-loop : tie.MeasureT-loop
 μ-loop s at first v₀ i₀ v i = length s - i
 
+-- The places that answers speak of, each from the next one.
+abbrev start : tie.Else1 Inv-loop μ-loop → tie.Start Inv-loop μ-loop
+start c = c .before .before
+
+abbrev turn : tie.After-is-digit2 Inv-loop μ-loop → tie.In-loop Inv-loop μ-loop
+turn c = c .before .before
+
+abbrev loop-before-turn : tie.In-loop Inv-loop μ-loop → tie.At-loop Inv-loop μ-loop
+loop-before-turn c = c .before
+
+abbrev else1 : tie.At-loop Inv-loop μ-loop → tie.Else1 Inv-loop μ-loop
+else1 c = c .before .before .before .before .before
+
 returns : tie.Need-returns Inv-loop μ-loop
 returns c = none-past _ _ (c .if1 .taken)
 
@@ -40,7 +53,10 @@ add-i : tie.Need-add-i Inv-loop μ-loop
 add-i c = search needs
 
 loop-holds : tie.Need-loop-holds Inv-loop μ-loop
-loop-holds c = let e = sym (c .before .before .is-digit .ensures) ∙ not-false _ (c .before .if2 .left) in let d = digit-range (getD (c .before .before .before .before .before .before .args .s .now) (c .before .before .before .before .before .before .args .at) 0) e in (omega arith, omega (arith, c .wide .ensures, d .1), begins _ _ (c .before .before .before .before .if1 .left) e (c .wide .ensures))
+loop-holds c =
+    let e₁ = c .before .before .before .before in
+    let s₁ = start e₁ in
+    let e = sym (c .before .before .is-digit .ensures) ∙ not-false _ (c .before .if2 .left) in let d = digit-range (getD (s₁ .args .s .now) (s₁ .args .at) 0) e in (omega arith, omega (arith, c .wide .ensures, d .1), begins _ _ (e₁ .if1 .left) e (c .wide .ensures))
 
 shared-slice-read-b : tie.Need-shared-slice-read-b Inv-loop μ-loop
 shared-slice-read-b c = search needs
@@ -52,10 +68,17 @@ cast-t17 : tie.Need-cast-t17 Inv-loop μ-loop
 cast-t17 c = omega arith
 
 returns-3 : tie.Need-returns-3 Inv-loop μ-loop
-returns-3 c = on-stop _ _ _ (c .before .before .before .loop-test .taken) (sym (c .before .is-digit2 .ensures) ∙ not-true _ (c .if3 .taken)) (c .before .before .before .before .loop .inv .1) ∙ c .before .before .before .before .loop .inv .2
+returns-3 c =
+    let t = turn (c .before) in
+    let l = loop-before-turn t in
+    on-stop _ _ _ (t .loop-test .taken) (sym (c .before .is-digit2 .ensures) ∙ not-true _ (c .if3 .taken)) (l .loop .inv .1) ∙ l .loop .inv .2
 
 returns-4 : tie.Need-returns-4 Inv-loop μ-loop
-returns-4 c = on-zero _ (c .before .before .before .before .before .loop .v) _ (c .before .before .before .before .loop-test .taken) (sym (c .before .before .is-digit2 .ensures) ∙ not-false _ (c .before .if3 .left)) (omega (arith, c .if4 .taken)) ∙ c .before .before .before .before .before .loop .inv .2
+returns-4 c =
+    let i = c .before .before in
+    let t = turn i in
+    let l = loop-before-turn t in
+    on-zero _ (l .loop .v) _ (t .loop-test .taken) (sym (i .is-digit2 .ensures) ∙ not-false _ (c .before .if3 .left)) (omega (arith, c .if4 .taken)) ∙ l .loop .inv .2
 
 mul-v : tie.Need-mul-v Inv-loop μ-loop
 mul-v c = omega arith
@@ -67,10 +90,18 @@ wide-requires-2 : tie.Need-wide-requires-2 Inv-loop μ-loop
 wide-requires-2 c κs = search needs
 
 add-v : tie.Need-add-v Inv-loop μ-loop
-add-v c = omega (arith, c .wide2 .ensures, digit-range (getD (c .before .before .before .before .before .before .before .before .before .before .before .before .before .args .s .now) (c .before .before .before .before .before .before .loop .i) 0) (sym (c .before .before .before .is-digit2 .ensures) ∙ not-false _ (c .before .before .if3 .left)) .1)
+add-v c =
+    let i₁ = c .before .before .before in
+    let l = loop-before-turn (turn i₁) in
+    let s₁ = start (else1 l) in
+    omega (arith, c .wide2 .ensures, digit-range (getD (s₁ .args .s .now) (l .loop .i) 0) (sym (i₁ .is-digit2 .ensures) ∙ not-false _ (c .before .before .if3 .left)) .1)
 
 returns-5 : tie.Need-returns-5 Inv-loop μ-loop
-returns-5 c = on-large _ (c .before .before .before .before .before .before .before .loop .v) _ (c .before .before .before .before .before .before .loop-test .taken) (sym (c .before .before .before .before .is-digit2 .ensures) ∙ not-false _ (c .before .before .before .if3 .left)) (c .before .wide2 .ensures) (omega (arith, c .if5 .taken)) ∙ c .before .before .before .before .before .before .before .loop .inv .2
+returns-5 c =
+    let i = c .before .before .before .before in
+    let t = turn i in
+    let l = loop-before-turn t in
+    on-large _ (l .loop .v) _ (t .loop-test .taken) (sym (i .is-digit2 .ensures) ∙ not-false _ (c .before .before .before .if3 .left)) (c .before .wide2 .ensures) (omega (arith, c .if5 .taken)) ∙ l .loop .inv .2
 
 add-i-2 : tie.Need-add-i-2 Inv-loop μ-loop
 add-i-2 c = search needs
@@ -79,7 +110,11 @@ loop-less : tie.Need-loop-less Inv-loop μ-loop
 loop-less c = omega arith
 
 loop-again : tie.Need-loop-again Inv-loop μ-loop
-loop-again c = (omega arith, omega arith, on-more _ _ _ (c .before .before .before .before .before .before .loop-test .taken) (sym (c .before .before .before .before .is-digit2 .ensures) ∙ not-false _ (c .before .before .before .if3 .left)) (c .before .wide2 .ensures) (c .before .before .if4 .left) ∙ c .before .before .before .before .before .before .before .loop .inv .2)
+loop-again c =
+    let i = c .before .before .before .before in
+    let t = turn i in
+    let l = loop-before-turn t in
+    (omega arith, omega arith, on-more _ _ _ (t .loop-test .taken) (sym (i .is-digit2 .ensures) ∙ not-false _ (c .before .before .before .if3 .left)) (c .before .wide2 .ensures) (c .before .before .if4 .left) ∙ l .loop .inv .2)
 
 cast-t20 : tie.Need-cast-t20 Inv-loop μ-loop
 cast-t20 c = omega arith

@@ -16,6 +16,10 @@ Inv-loop fragment from line₀ len₀ over₀ i₀ line len over i = Feeding fra
 abbrev μ-loop : tie.MeasureT-loop
 μ-loop fragment from line₀ len₀ over₀ i₀ line len over i = length fragment - i
 
+-- The places that answers speak of, each from the next one.
+abbrev loop-before-turn : tie.In-loop Inv-loop μ-loop → tie.At-loop Inv-loop μ-loop
+loop-before-turn c = c .before
+
 loop-holds : tie.Need-loop-holds Inv-loop μ-loop
 loop-holds c = let h : length (c .before .before .args .reader .line) ≡ 64 = search needs in feeding-none _ _ _ _ _ (sym h) (c .before .before .pre)
 
@@ -32,7 +36,10 @@ add-t17 : tie.Need-add-t17 Inv-loop μ-loop
 add-t17 c = search needs
 
 returns : tie.Need-returns Inv-loop μ-loop
-returns c = feeding-lf (c .before .before .before .before .before .loop .inv) (c .before .before .before .before .loop-test .taken) (c .before .before .if1 .taken) (c .before .held-line .ensures) (c .new-reader .ensures)
+returns c =
+    let t = c .before .before .before .before in
+    let l = loop-before-turn t in
+    feeding-lf (l .loop .inv) (t .loop-test .taken) (c .before .before .if1 .taken) (c .before .held-line .ensures) (c .new-reader .ensures)
 
 add-i : tie.Need-add-i Inv-loop μ-loop
 add-i c = search needs
@@ -47,13 +54,19 @@ loop-less : tie.Need-loop-less Inv-loop μ-loop
 loop-less c = omega arith
 
 loop-again : tie.Need-loop-again Inv-loop μ-loop
-loop-again c = feeding-byte (c .before .before .before .before .loop .inv) (c .before .before .before .loop-test .taken) (c .before .if1 .left) (c .if2 .taken)
+loop-again c =
+    let t = c .before .before .before in
+    let l = loop-before-turn t in
+    feeding-byte (l .loop .inv) (t .loop-test .taken) (c .before .if1 .left) (c .if2 .taken)
 
 loop-less-2 : tie.Need-loop-less-2 Inv-loop μ-loop
 loop-less-2 c = omega arith
 
 loop-again-2 : tie.Need-loop-again-2 Inv-loop μ-loop
-loop-again-2 c = feeding-over (c .before .before .before .before .loop .inv) (c .before .before .before .loop-test .taken) (c .before .if1 .left) (c .if2 .left)
+loop-again-2 c =
+    let t = c .before .before .before in
+    let l = loop-before-turn t in
+    feeding-over (l .loop .inv) (t .loop-test .taken) (c .before .if1 .left) (c .if2 .left)
 
 returns-2 : tie.Need-returns-2 Inv-loop μ-loop
 returns-2 c = feeding-end (c .before .loop .inv) (c .loop-test .left)

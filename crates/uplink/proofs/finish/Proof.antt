@@ -21,7 +21,9 @@ held-line-requires : tie.Need-held-line-requires
 held-line-requires c κs = search needs
 
 returns-3 : tie.Need-returns-3
-returns-3 c = let h : length (c .before .before .before .before .args .reader .line) ≡ 64 = search needs in (c .before .before .before .new-reader .ensures .0, c .before .before .before .new-reader .ensures .1, ap Whole (c .held-line .ensures) ∙ last-part _ (c .before .before .if1 .left) (c .before .if2 .left) (sym h) (c .before .before .before .before .pre))
+returns-3 c =
+    let s = c .before .before .before .before in
+    let h : length (s .args .reader .line) ≡ 64 = search needs in (c .before .before .before .new-reader .ensures .0, c .before .before .before .new-reader .ensures .1, ap Whole (c .held-line .ensures) ∙ last-part _ (c .before .before .if1 .left) (c .before .if2 .left) (sym h) (s .pre))
 
 pub finish-spec : {M : Type 1} → statement M
 finish-spec =

@@ -14,11 +14,15 @@ returns-2 c = rw (ne-eqb (c .before .before .args .letter) 115 (c .before .if1 .
 
 returns-3 : tie.Need-returns-3
 unfolding lineOfOne
-returns-3 c = rw (ne-eqb (c .before .before .before .args .letter) 115 (c .before .before .if1 .left), ne-eqb (c .before .before .before .args .letter) 120 (c .before .if2 .left), eq-eqb (c .before .before .before .args .letter) 98 (c .if3 .taken))
+returns-3 c =
+    let s = c .before .before .before in
+    rw (ne-eqb (s .args .letter) 115 (c .before .before .if1 .left), ne-eqb (s .args .letter) 120 (c .before .if2 .left), eq-eqb (s .args .letter) 98 (c .if3 .taken))
 
 returns-4 : tie.Need-returns-4
 unfolding lineOfOne
-returns-4 c = rw (ne-eqb (c .before .before .before .args .letter) 115 (c .before .before .if1 .left), ne-eqb (c .before .before .before .args .letter) 120 (c .before .if2 .left), ne-eqb (c .before .before .before .args .letter) 98 (c .if3 .left))
+returns-4 c =
+    let s = c .before .before .before in
+    rw (ne-eqb (s .args .letter) 115 (c .before .before .if1 .left), ne-eqb (s .args .letter) 120 (c .before .if2 .left), ne-eqb (s .args .letter) 98 (c .if3 .left))
 
 pub line-of-one-spec : {M : Type 1} → statement M
 line-of-one-spec = tie.close (tie.spec returns returns-2 returns-3 returns-4)

@@ -10,6 +10,13 @@ use Rattle.uplink.proofs.Answers.{pair-bounded, pair-short}
 use Rattle.uplink.proofs.put_block.Statement.{statement}
 use Rattle.uplink.proofs.put_block.Tie as tie
 
+-- The places that answers speak of, each from the next one.
+abbrev wide : tie.After-wide2 → tie.After-wide
+wide c = c .before
+
+abbrev start : tie.After-wide → tie.Start
+start c = c .before .before
+
 wide-requires : tie.Need-wide-requires
 wide-requires c κs = search needs
 
@@ -20,13 +27,19 @@ slice-aggregate-put-line : tie.Need-slice-aggregate-put-line
 slice-aggregate-put-line c = search needs
 
 put-line-requires : tie.Need-put-line-requires
-put-line-requires c κs = pair-bounded _ _ _ (c .before .before .before .before .before .pre) (omega arith) (omega arith)
+put-line-requires c κs =
+    let s = start (wide (c .before .before)) in
+    pair-bounded _ _ _ (s .pre) (omega arith) (omega arith)
 
 same-length : tie.Need-same-length
 same-length c = search needs
 
 returns : tie.Need-returns
-returns c = (wrote-as (ap (λ (n : ℕ). line (n ∷ c .before .before .before .before .before .wide2 .result ∷ [])) (c .before .before .before .before .before .before .wide .ensures) ∙ ap (λ (n : ℕ). line (c .before .before .before .before .before .before .before .before .args .group ∷ n ∷ [])) (c .before .before .before .before .before .wide2 .ensures)) (c .before .before .put-line .ensures), pair-short _ _ (c .before .before .put-line .ensures) (omega arith) (omega arith))
+returns c =
+    let w = c .before .before .before .before .before in
+    let w₁ = wide w in
+    let s = start w₁ in
+    (wrote-as (ap (λ (n : ℕ). line (n ∷ w .wide2 .result ∷ [])) (w₁ .wide .ensures) ∙ ap (λ (n : ℕ). line (s .args .group ∷ n ∷ [])) (w .wide2 .ensures)) (c .before .before .put-line .ensures), pair-short _ _ (c .before .before .put-line .ensures) (omega arith) (omega arith))
 
 pub put-block-spec : {M : Type 1} → statement M
 put-block-spec =

@@ -5,6 +5,13 @@ use Rattle.uplink.proofs.Parsing.{second-none, second-other, second-mis
 use Rattle.uplink.proofs.read_second.Statement.{statement}
 use Rattle.uplink.proofs.read_second.Tie as tie
 
+-- The places that answers speak of, each from the next one.
+abbrev else2 : tie.After-read-number → tie.Else2
+else2 c = c .before
+
+abbrev else1 : tie.Else2 → tie.Else1
+else1 c = c .before .before
+
 returns : tie.Need-returns
 returns c = second-none _ _ _ (c .if1 .taken)
 
@@ -27,13 +34,25 @@ enum-known-second : tie.Need-enum-known-second
 enum-known-second c = search needs
 
 returns-3 : tie.Need-returns-3
-returns-3 c = second-last _ _ _ (c .before .before .before .before .before .before .before .if1 .left) (c .before .before .before .before .before .if2 .left) (sym (c .before .before .before .before .read-number .ensures) ∙ c .before .before .second .given .1) (c .if3 .taken)
+returns-3 c =
+    let r = c .before .before .before .before in
+    let e = else2 r in
+    let e₁ = else1 e in
+    second-last _ _ _ (e₁ .if1 .left) (e .if2 .left) (sym (r .read-number .ensures) ∙ c .before .before .second .given .1) (c .if3 .taken)
 
 returns-4 : tie.Need-returns-4
-returns-4 c = second-missing _ _ _ (c .before .before .before .before .before .if1 .left) (c .before .before .before .if2 .left) (sym (c .before .before .read-number .ensures) ∙ c .enum-told .given .1)
+returns-4 c =
+    let r = c .before .before in
+    let e = else2 r in
+    let e₁ = else1 e in
+    second-missing _ _ _ (e₁ .if1 .left) (e .if2 .left) (sym (r .read-number .ensures) ∙ c .enum-told .given .1)
 
 returns-5 : tie.Need-returns-5
-returns-5 c = second-more _ _ _ (c .before .before .before .before .before .before .before .if1 .left) (c .before .before .before .before .before .if2 .left) (sym (c .before .before .before .before .read-number .ensures) ∙ c .before .before .second .given .1) (c .if3 .left)
+returns-5 c =
+    let r = c .before .before .before .before in
+    let e = else2 r in
+    let e₁ = else1 e in
+    second-more _ _ _ (e₁ .if1 .left) (e .if2 .left) (sym (r .read-number .ensures) ∙ c .before .before .second .given .1) (c .if3 .left)
 
 pub read-second-spec : {M : Type 1} → statement M
 read-second-spec =

@@ -15,6 +15,13 @@ Inv-loop slots limit class₀ i₀ class i = (i ≤ length slots) × (legalSlots
 abbrev μ-loop : tie.MeasureT-loop
 μ-loop slots limit class₀ i₀ class i = length slots - i
 
+-- The places that answers speak of, each from the next one.
+abbrev loop-before-turn : tie.In-loop Inv-loop μ-loop → tie.At-loop Inv-loop μ-loop
+loop-before-turn c = c .before
+
+abbrev start-before-loop : tie.At-loop Inv-loop μ-loop → tie.Start Inv-loop μ-loop
+start-before-loop c = c .before .before
+
 loop-holds : tie.Need-loop-holds Inv-loop μ-loop
 loop-holds c = (omega arith, refl)
 
@@ -44,17 +51,23 @@ is-zero-requires c κs = search needs
 
 returns : tie.Need-returns Inv-loop μ-loop
 returns c =
-    let start = c .before .before .before .before .before .before .before in
-    let turn = c .before .before .before .before .before .loop in
+    let t = c .before .before .before .before in
+    let l = loop-before-turn t in
+    let s = start-before-loop l in
+    let start = s in
+    let turn = l .loop in
     c .is-zero .ensures
-    ∙ legal-zero (start .args .limit) (turn .class) (start .args .slots .now) (turn .i) (c .before .before .before .before .loop-test .taken) (c .before .before .if1 .taken)
+    ∙ legal-zero (start .args .limit) (turn .class) (start .args .slots .now) (turn .i) (t .loop-test .taken) (c .before .before .if1 .taken)
     ∙ turn .inv .1
 
 returns-2 : tie.Need-returns-2 Inv-loop μ-loop
 returns-2 c =
-    let start = c .before .before .before .before .before .before in
-    let turn = c .before .before .before .before .loop in
-    legal-large (start .args .limit) (turn .class) (start .args .slots .now) (turn .i) (c .before .before .before .loop-test .taken) (c .before .if1 .left) (c .if2 .taken)
+    let t = c .before .before .before in
+    let l = loop-before-turn t in
+    let s = start-before-loop l in
+    let start = s in
+    let turn = l .loop in
+    legal-large (start .args .limit) (turn .class) (start .args .slots .now) (turn .i) (t .loop-test .taken) (c .before .if1 .left) (c .if2 .taken)
     ∙ turn .inv .1
 
 sub-next : tie.Need-sub-next Inv-loop μ-loop
@@ -62,9 +75,12 @@ sub-next c = search needs
 
 returns-3 : tie.Need-returns-3 Inv-loop μ-loop
 returns-3 c =
-    let start = c .before .before .before .before .before .before .before in
-    let turn = c .before .before .before .before .before .loop in
-    legal-falls (start .args .limit) (turn .class) (start .args .slots .now) (turn .i) (c .before .before .before .before .loop-test .taken) (c .before .before .if1 .left) (c .before .if2 .left) (c .if3 .taken)
+    let t = c .before .before .before .before in
+    let l = loop-before-turn t in
+    let s = start-before-loop l in
+    let start = s in
+    let turn = l .loop in
+    legal-falls (start .args .limit) (turn .class) (start .args .slots .now) (turn .i) (t .loop-test .taken) (c .before .before .if1 .left) (c .before .if2 .left) (c .if3 .taken)
     ∙ turn .inv .1
 
 add-i : tie.Need-add-i Inv-loop μ-loop
@@ -75,10 +91,13 @@ loop-less c = search needs
 
 loop-again : tie.Need-loop-again Inv-loop μ-loop
 loop-again c =
-    let start = c .before .before .before .before .before .before .before in
-    let turn = c .before .before .before .before .before .loop in (
+    let t = c .before .before .before .before in
+    let l = loop-before-turn t in
+    let s = start-before-loop l in
+    let start = s in
+    let turn = l .loop in (
       omega arith,
-      legal-next (start .args .limit) (turn .class) (start .args .slots .now) (turn .i) (c .before .before .before .before .loop-test .taken) (c .before .before .if1 .left) (c .before .if2 .left) (c .if3 .left)
+      legal-next (start .args .limit) (turn .class) (start .args .slots .now) (turn .i) (t .loop-test .taken) (c .before .before .if1 .left) (c .before .if2 .left) (c .if3 .left)
           ∙ turn .inv .1,
     )
 

@@ -18,6 +18,10 @@ Inv-loop slots low high n₀ i₀ n i = (i ≤ length slots) × (n ≤ i) × (n 
 abbrev μ-loop : tie.MeasureT-loop
 μ-loop slots low high n₀ i₀ n i = length slots - i
 
+-- The places that answers speak of, each from the next one.
+abbrev start-before-loop : tie.At-loop Inv-loop μ-loop → tie.Start Inv-loop μ-loop
+start-before-loop c = c .before .before
+
 loop-holds : tie.Need-loop-holds Inv-loop μ-loop
 loop-holds c = (omega arith, omega arith, sym (count-nil (holds (c .before .args .low) (c .before .args .high))))
 
@@ -41,11 +45,13 @@ loop-less c = search needs
 
 loop-again : tie.Need-loop-again Inv-loop μ-loop
 loop-again c =
-    let start = c .before .before .before .before .before .before in
+    let l = c .before .before .before .before in
+    let s₁ = start-before-loop l in
+    let start = s₁ in
     let s : List ℕ = start .args .slots .now in
-    let i : ℕ = c .before .before .before .before .loop .i in
+    let i : ℕ = l .loop .i in
     let h : i < length s = omega arith in
-    let was = c .before .before .before .before .loop .inv in
+    let was = l .loop .inv in
     let test = holds (start .args .low) (start .args .high) in
     let found = sym (c .before .holds .ensures) in (
       omega arith,

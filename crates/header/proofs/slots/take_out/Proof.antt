@@ -6,17 +6,30 @@ use Rattle.header.proofs.Scans.{closed-put}
 use Rattle.header.proofs.slots.take_out.Statement.{statement}
 use Rattle.header.proofs.slots.take_out.Tie as tie
 
+-- The places that answers speak of, each from the next one.
+abbrev start-before-gather : tie.After-gather → tie.Start
+start-before-gather c = c .before .before .before
+
 gather-requires : tie.Need-gather-requires
 gather-requires c κs = search needs
 
 mul-clear : tie.Need-mul-clear
-mul-clear c = let start = c .before .before .before .before .before in omega (arith, c .before .before .gather .ensures .0, length-remove (start .args .v) (start .args .slots .now))
+mul-clear c =
+    let g = c .before .before in
+    let s = start-before-gather g in
+    let start = s in omega (arith, g .gather .ensures .0, length-remove (start .args .v) (start .args .slots .now))
 
 sub-clear : tie.Need-sub-clear
-sub-clear c = let start = c .before .before .before .before .before in omega (arith, c .before .before .gather .ensures .0, length-remove (start .args .v) (start .args .slots .now))
+sub-clear c =
+    let g = c .before .before in
+    let s = start-before-gather g in
+    let start = s in omega (arith, g .gather .ensures .0, length-remove (start .args .v) (start .args .slots .now))
 
 part-clear-start : tie.Need-part-clear-start
-part-clear-start c = let start = c .before .before .before .before .before in omega (arith, c .before .before .gather .ensures .0, length-remove (start .args .v) (start .args .slots .now))
+part-clear-start c =
+    let g = c .before .before in
+    let s = start-before-gather g in
+    let start = s in omega (arith, g .gather .ensures .0, length-remove (start .args .v) (start .args .slots .now))
 
 part-clear-end : tie.Need-part-clear-end
 part-clear-end c = search needs
@@ -29,8 +42,10 @@ same-length c = search needs
 
 returns : tie.Need-returns
 returns c =
-    let start = c .before .before .before .before .before .before .before .before .before in
-    let gathered = c .before .before .before .before .before .before .gather in
+    let g = c .before .before .before .before .before .before in
+    let s = start-before-gather g in
+    let start = s in
+    let gathered = g .gather in
     closed-put (start .args .v) (start .args .slots .now) (gathered .last .0) _ _ (gathered .kept .0) (gathered .ensures .0) (gathered .ensures .1) (c .before .before .clear .ensures)
 
 pub take-out-spec : {M : Type 1} → statement M
