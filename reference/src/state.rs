@@ -66,20 +66,20 @@ impl Zone {
         chunk_count(self.class)
     }
 
-    /// How many chunks are live: in a legal zone those below k that are not
-    /// on the chain. No count over the owners, as every return asks this.
+    /// How many chunks are live: counted by their owners, so that neither k
+    /// nor the chain has a say in it.
     pub fn live_chunks(&self) -> u32 {
-        self.handed_out.saturating_sub(self.chain.len() as u32)
+        self.owners.iter().flatten().count() as u32
     }
 
     /// Whether every chunk is live, so that the zone belongs on no list.
     pub fn is_full(&self) -> bool {
-        self.live_chunks() == self.chunk_count()
+        self.owners.iter().all(Option::is_some)
     }
 
     /// Whether no chunk is live.
     pub fn is_idle(&self) -> bool {
-        self.live_chunks() == 0
+        self.owners.iter().all(Option::is_none)
     }
 }
 
