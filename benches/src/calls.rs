@@ -13,13 +13,15 @@
 //! 1 if a bar is missed.
 
 mod arenas;
+mod bars;
 mod resets;
 mod single;
 
 use arenas::{arenas, Arena};
+use bars::remark;
 use reference::listing::LONGEST;
 use reference::state::State;
-use resets::{reset_of, returns_of};
+use resets::{reset_of, returns_of, PAGES, SIZE};
 use single::{clock, time_of};
 use std::process::ExitCode;
 use tests::calls::{allocate, free, init, listing, query, reset, trim};
@@ -28,8 +30,8 @@ use tests::layout::encode;
 
 /// The greatest ratio of a call to the check, for the calls that have a bar.
 const CALL_BAR: f64 = 1.5;
-/// The greatest ratio of a reset to single returns.
-const RESET_BAR: f64 = 1.0 / 50.0;
+/// A reset takes at most one part in so many of what single returns take.
+const RESET_PARTS: f64 = 50.0;
 /// The greatest ratio of a reset of twice the blocks.
 const TWICE_BAR: f64 = 2.5;
 /// The chunks of the reset.
@@ -184,20 +186,13 @@ impl Measured {
         } = self;
         let met = ratio <= CALL_BAR;
         let said = match self.barred {
-            true => remark(met, "1.5"),
+            true => remark(met, CALL_BAR),
             false => String::new(),
         };
         println!(
             "{pages:>5}  {arena:<12}{call:<16}{call_ns:>12.0}{check_ns:>12.0}{ratio:>8.2}  {said}"
         );
         met || !self.barred
-    }
-}
-
-fn remark(met: bool, bar: &str) -> String {
-    match met {
-        true => format!("bar met (at most {bar})"),
-        false => format!("bar MISSED (at most {bar})"),
     }
 }
 
@@ -221,24 +216,24 @@ fn main() -> ExitCode {
 fn resets() -> bool {
     let (whole, half) = (reset_of(CHUNKS), reset_of(CHUNKS / 2));
     let singly = returns_of(CHUNKS);
-    let (share, growth) = (whole / singly, whole / half);
-    let (share_met, growth_met) = (share <= RESET_BAR, growth <= TWICE_BAR);
+    let (parts, growth) = (singly / whole, whole / half);
+    let (parts_met, growth_met) = (parts >= RESET_PARTS, growth <= TWICE_BAR);
     println!(
-        "\nA reset of chunks of 8 bytes in 256 pages, in ms; single returns: a sample scaled up"
+        "\nA reset of chunks of {SIZE} bytes in {PAGES} pages, in ms; single returns: a sample \
+         scaled up"
     );
     println!(
-        "{CHUNKS} chunks {:.2}, by single returns {:.0}, ratio 1/{:.0}: {}",
+        "{CHUNKS} chunks {:.2}, by single returns {:.0}, ratio 1/{parts:.0}: {}",
         whole / 1e6,
         singly / 1e6,
-        1.0 / share,
-        remark(share_met, "1/50")
+        remark(parts_met, format_args!("1/{RESET_PARTS}"))
     );
     println!(
         "{CHUNKS} chunks {:.2}, {} chunks {:.2}, ratio {growth:.2}: {}",
         whole / 1e6,
         CHUNKS / 2,
         half / 1e6,
-        remark(growth_met, "2.5")
+        remark(growth_met, TWICE_BAR)
     );
-    share_met && growth_met
+    parts_met && growth_met
 }

@@ -1,5 +1,6 @@
 //! The states measured, with their bars.
 
+use crate::bars::remark;
 use reference::histories::Xorshift;
 use reference::sizes::{chunk_count, ZONE_PAGES};
 use reference::state::{State, Zone};
@@ -38,8 +39,7 @@ impl Case {
     pub fn remark(&self, ratio: f64) -> String {
         match self.bar {
             None => "no bar".to_string(),
-            Some(bar) if self.misses(ratio) => format!("bar MISSED (at most {bar})"),
-            Some(bar) => format!("bar met (at most {bar})"),
+            Some(bar) => remark(!self.misses(ratio), bar),
         }
     }
 }

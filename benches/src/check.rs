@@ -7,6 +7,7 @@
 //! of many repetitions, so that other programs on the machine disturb them little; a second run
 //! shows by how much.
 
+mod bars;
 mod cases;
 mod timing;
 

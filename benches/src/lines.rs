@@ -1,9 +1,10 @@
-//! How long the bench program takes for a million lines, beside as many checks of its words.
+//! How long the bench program takes for many lines, beside as many checks of its words.
 //!
 //!     cargo run --release --offline --locked -p benches --bin lines
 //!
-//! The lines are calls of the mixed profile in 24 pages, which take all 13,504 words. The program
-//! reads them from a file and writes to /dev/null; its start and its end are part of its time.
+//! The lines are calls of the mixed profile in as many pages as the program's words are enough for.
+//! The program reads them from a file and writes to /dev/null; its start and its end are part of its
+//! time.
 //!
 //! A call reads all words before it does anything, so the checks are the least that the program can
 //! take; the bar says how much more it may. They are made apart from it: the same calls are made
@@ -13,8 +14,10 @@
 //! The two take turns, since each takes seconds and other programs on the machine disturb whole runs
 //! of both; the middle one of the ratios counts. The exit status is 1 if the bar is missed.
 
+mod bars;
 mod single;
 
+use bars::remark;
 use reference::bench::WORDS;
 use reference::calls::Call;
 use reference::histories::Profile;
@@ -67,10 +70,7 @@ fn main() -> ExitCode {
     });
     let ratio = middle(ratios.collect());
     let met = ratio <= BAR;
-    println!(
-        "The middle ratio, {ratio:.2}: bar {} (at most {BAR})",
-        if met { "met" } else { "MISSED" }
-    );
+    println!("The middle ratio, {ratio:.2}: {}", remark(met, BAR));
     ExitCode::from(u8::from(!met))
 }
 

@@ -7,9 +7,9 @@ use tests::calls::{free, reset};
 use tests::layout::encode;
 
 /// The arena's pages.
-const PAGES: u32 = 256;
+pub const PAGES: u32 = 256;
 /// Bytes of each chunk, so that a zone has the most.
-const SIZE: u32 = 8;
+pub const SIZE: u32 = 8;
 /// How often a reset is measured.
 const REPETITIONS: u32 = 15;
 /// Points on the way from all chunks live to none at which single returns are measured.
