@@ -16,6 +16,7 @@
 
 pub mod calls;
 pub mod check;
+pub mod counts;
 pub mod layout;
 pub mod pair;
 pub mod program;

@@ -6,6 +6,7 @@ use reference::sizes::{CLASSES, MAX_PAGES};
 use reference::state::{State, Zone};
 use reference::validity::is_valid;
 use std::collections::HashMap;
+use tests::counts::Counts;
 use tests::layout::{decode, encode, used_words, MAGIC};
 use tests::states::{odd, reached, Plan};
 use tests::zones::{any_zone, zone_with};
@@ -180,30 +181,42 @@ fn encodings_written_by_hand() {
     assert_eq!(decode(&words_with(24, &written)), Some(state));
 }
 
-#[test]
-fn the_generator_makes_the_odd_states() {
-    let states: Vec<State> = (0..300)
-        .map(|seed| odd(1 + seed as u32 % 100, seed))
-        .collect();
-    let count = |test: &dyn Fn(&State) -> bool| states.iter().filter(|state| test(state)).count();
-    let idle = |state: &State, start: &u32| state.zones[start].is_idle();
-    let listed_idle = |state: &State| {
+/// What a state is odd in, by name.
+type Oddity = (&'static str, fn(&State) -> bool);
+
+const ODDITIES: [Oddity; 7] = [
+    ("a direct block of one page", |state| {
+        state.direct.values().any(|block| block.pages == 1)
+    }),
+    ("a zone with nothing handed out", |state| {
+        state.zones.values().any(|zone| zone.handed_out == 0)
+    }),
+    ("a full zone", |state| {
+        state.zones.values().any(Zone::is_full)
+    }),
+    ("a long chain", |state| {
+        state.zones.values().any(|zone| zone.chain.len() > 100)
+    }),
+    ("an empty list of two", |state| state.empty.len() == 2),
+    ("two idle zones on one list", |state| {
+        let idle = |start: &&u32| state.zones[*start].is_idle();
         let mut lists = state.lists.iter();
-        lists.any(|list| list.iter().filter(|start| idle(state, start)).count() > 1)
-    };
-    let descends = |state: &State| {
+        lists.any(|list| list.iter().filter(idle).count() > 1)
+    }),
+    ("a list that descends", |state| {
         let mut lists = state.lists.iter();
         lists.any(|list| list.iter().zip(list.iter().skip(1)).any(|(a, b)| a > b))
-    };
-    let any_zone_is = |state: &State, test: fn(&Zone) -> bool| state.zones.values().any(test);
-    let counts = [
-        count(&|state| state.direct.values().any(|block| block.pages == 1)),
-        count(&|state| any_zone_is(state, |zone| zone.handed_out == 0)),
-        count(&|state| any_zone_is(state, Zone::is_full)),
-        count(&|state| any_zone_is(state, |zone| zone.chain.len() > 100)),
-        count(&|state| state.empty.len() == 2),
-        count(&listed_idle),
-        count(&descends),
-    ];
-    assert!(counts.iter().all(|count| *count > 20), "{counts:?}");
+    }),
+];
+
+#[test]
+fn the_generator_makes_the_odd_states() {
+    let mut counts = Counts::default();
+    for seed in 0..300 {
+        let state = odd(1 + seed as u32 % 100, seed);
+        for (name, is_odd) in ODDITIES {
+            counts.count(name, u32::from(is_odd(&state)));
+        }
+    }
+    counts.expect(21, &ODDITIES.map(|(name, _)| name));
 }

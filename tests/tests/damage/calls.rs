@@ -6,15 +6,14 @@ use crate::edits;
 use crate::pool;
 use crate::subject::Subject;
 use crate::surgery;
-use crate::Edit;
+use crate::{damage, Edit};
 use reference::calls::{Allocator, Call};
 use reference::histories::Xorshift;
 use reference::listing::LONGEST;
 use reference::sizes::chunk_size;
 use reference::state::State;
-use std::io::Write;
-use std::thread;
 use tests::calls::{serve, told};
+use tests::counts::{on_all_processors, Counts};
 use tests::layout::{decode, encode};
 
 /// Cases of each kind in each part, in arenas of 1 to 40 pages.
@@ -29,125 +28,74 @@ const CASES: [(&str, u32, Edit); 4] = [
 const LARGE_CASES: u32 = 1_500;
 
 /// Parts with seeds of their own, which run beside each other.
-const PARTS: u64 = 2;
+const PARTS: u32 = 2;
 
-/// What came of the cases.
-#[derive(Default)]
-struct Outcomes {
-    cases: u32,
-    /// Refused by 3.
-    stateless: u32,
-    /// Not refused at all.
-    served: u32,
-    differences: Vec<String>,
-}
+/// All calls that were made, those refused by 3, and those not refused at all.
+const MADE: &str = "calls";
+const STATELESS: &str = "calls: no 3";
+const SERVED: &str = "calls: served";
 
 #[test]
 fn calls_on_damaged_words_do_what_the_second_program_does() {
-    let parts: Vec<Outcomes> = thread::scope(|scope| {
-        let parts: Vec<_> = (0..PARTS)
-            .map(|seed| scope.spawn(move || part(seed)))
-            .collect();
-        let done = parts.into_iter().map(|part| part.join());
-        done.map(|part| part.expect("no part panics")).collect()
-    });
-    let sum = |count: fn(&Outcomes) -> u32| parts.iter().map(count).sum::<u32>();
-    let cases = sum(|part| part.cases);
-    let stateless = sum(|part| part.stateless);
-    let served = sum(|part| part.served);
-    let differences: Vec<&String> = parts.iter().flat_map(|part| &part.differences).collect();
-    // Not by print!, which a test that passes keeps to itself.
-    writeln!(
-        std::io::stdout(),
-        "\ncalls: {cases} cases, {stateless} refused by 3, {served} served, {} differences",
-        differences.len()
-    )
-    .expect("standard output takes the line");
-    let first: Vec<&&String> = differences.iter().take(10).collect();
-    assert!(first.is_empty(), "{first:#?}");
-    assert!(cases >= 280_000);
-    assert!(stateless > 80_000 && served > 25_000);
+    let counts = on_all_processors(PARTS, part);
+    counts.print("Calls on damaged words");
+    counts.expect_no_fault();
+    counts.expect(280_000, &[MADE]);
+    counts.expect(80_000, &[STATELESS]);
+    counts.expect(25_000, &[SERVED]);
 }
 
 /// All kinds once, from one seed.
-fn part(seed: u64) -> Outcomes {
-    let mut random = Xorshift::new(seed + 4_000);
-    let mut outcomes = Outcomes::default();
+fn part(seed: u32, counts: &mut Counts) {
+    let mut random = Xorshift::new(u64::from(seed) + 4_000);
     let mut small = pool::small();
     let mut large = pool::large();
     for (name, cases, edit) in CASES {
-        damage(name, &mut outcomes, &mut small, cases, &mut random, edit);
-        damage(
-            name,
-            &mut outcomes,
-            &mut large,
-            LARGE_CASES,
-            &mut random,
-            edit,
-        );
-    }
-    outcomes
-}
-
-/// So many cases by an edit, on one subject after the other.
-fn damage(
-    name: &str,
-    outcomes: &mut Outcomes,
-    pool: &mut [Subject],
-    cases: u32,
-    random: &mut Xorshift,
-    edit: Edit,
-) {
-    let end = outcomes.cases + cases;
-    while outcomes.cases < end {
-        let at = random.below(pool.len() as u32) as usize;
-        let subject = &mut pool[at];
-        // Several on one subject, while its words are near.
-        for _ in 0..16 {
-            edit(subject, random);
-            if subject.is_changed() && outcomes.cases < end {
-                let count = match random.below(8) {
-                    0 => subject.len(),
-                    _ => subject.used(),
-                };
-                outcomes.judge(name, subject, count, random);
-            }
-            subject.restore();
+        for (pool, cases) in [(&mut small, cases), (&mut large, LARGE_CASES)] {
+            damage(pool, cases, &mut random, edit, |subject, count, random| {
+                judge(counts, name, subject, count, random)
+            });
         }
     }
 }
 
-impl Outcomes {
-    /// Makes one call on the first `count` words.
-    fn judge(&mut self, name: &str, subject: &mut Subject, count: usize, random: &mut Xorshift) {
-        let found = decode(&subject.twin()[..count]);
-        let call = any_call(found.as_ref().unwrap_or(&subject.state), random);
-        let mut second = match found {
-            Some(state) => Allocator::picturing(count, state),
-            None => Allocator::zeroed(count),
-        };
-        let ours = serve(subject.lend(count), call);
-        let theirs = told(second.serve(call));
-        let (words, twin) = (subject.words(), subject.twin());
-        let as_expected = match second.state() {
-            Some(state) if theirs.is_ok() => {
-                let own = encode(state);
-                words.starts_with(&own) && words[own.len()..] == twin[own.len()..]
-            }
-            _ => words == twin,
-        };
-        if ours != theirs || !as_expected {
-            self.differences.push(format!(
+/// Makes one call on the first `count` words, and takes back what it did to them.
+fn judge(
+    counts: &mut Counts,
+    name: &str,
+    subject: &mut Subject,
+    count: usize,
+    random: &mut Xorshift,
+) {
+    let found = decode(&subject.twin()[..count]);
+    let call = any_call(found.as_ref().unwrap_or(&subject.state), random);
+    let mut second = match found {
+        Some(state) => Allocator::picturing(count, state),
+        None => Allocator::zeroed(count),
+    };
+    let ours = serve(subject.lend(count), call);
+    let theirs = told(second.serve(call));
+    let (words, twin) = (subject.words(), subject.twin());
+    let as_expected = match second.state() {
+        Some(state) if theirs.is_ok() => {
+            let own = encode(state);
+            words.starts_with(&own) && words[own.len()..] == twin[own.len()..]
+        }
+        _ => words == twin,
+    };
+    if ours != theirs || !as_expected {
+        counts.fault(|| {
+            format!(
                 "{name}: {call:?} on {count} words: {ours:?}, not {theirs:?}, words as expected \
                  {as_expected}; {}",
                 subject.describe()
-            ));
-        }
-        subject.undo();
-        self.cases += 1;
-        self.stateless += u32::from(theirs == Err(3));
-        self.served += u32::from(theirs.is_ok());
+            )
+        });
     }
+    subject.undo();
+    counts.count(MADE, 1);
+    counts.count(STATELESS, u32::from(theirs == Err(3)));
+    counts.count(SERVED, u32::from(theirs.is_ok()));
 }
 
 /// A call that a state is likely to serve: about its blocks, its classes, its groups.

@@ -16,11 +16,10 @@ mod surgery;
 mod tally;
 
 use reference::histories::Xorshift;
-use std::io::Write;
 use subject::Subject;
 use tally::Tally;
 
-/// All cases together.
+/// All cases of the check together.
 const CASES: u32 = 1_000_000;
 
 /// A damage to a subject; where it does not apply it changes nothing.
@@ -36,6 +35,23 @@ const SMALL: [(&str, u32, Edit); 6] = [
     ("surgery", 140_000, surgery::operate),
 ];
 
+/// The kinds of damage that the check has to have met.
+const KINDS: [&str; 13] = [
+    "as made",
+    "each class",
+    "each word",
+    "header",
+    "large arenas",
+    "lengths",
+    "random edits",
+    "random words",
+    "segment heads",
+    "surgery",
+    "swaps",
+    "zone heads",
+    "zone slots",
+];
+
 #[test]
 fn the_check_and_the_second_reading_agree() {
     let mut random = Xorshift::new(3);
@@ -47,30 +63,23 @@ fn the_check_and_the_second_reading_agree() {
     as_made(&mut tally, &mut small);
     for (name, cases, edit) in SMALL {
         tally.begin(name);
-        damage(&mut tally, &mut small, cases, &mut random, edit);
+        check_damaged(&mut tally, &mut small, cases, &mut random, edit);
     }
     shapes::lengths(&mut tally, &mut small, 40_000, &mut random);
     shapes::random_words(&mut tally, 30_000, &mut random);
     large(&mut tally, &mut random);
     tally.begin("random edits");
-    let rest = CASES.saturating_sub(tally.cases());
-    damage(
-        &mut tally,
-        &mut small,
-        rest,
-        &mut random,
-        edits::random_edits,
-    );
-    // Not by print!, which a test that passes keeps to itself.
-    write!(std::io::stdout(), "\n{tally}").expect("standard output takes the table");
-    assert_eq!(
-        tally.differences(),
-        0,
-        "differences; the first ones stand above"
-    );
-    assert_eq!(tally.cases(), CASES);
+    let rest = CASES.saturating_sub(tally.counts().get(tally::CASES));
+    let edit = edits::random_edits;
+    check_damaged(&mut tally, &mut small, rest, &mut random, edit);
+    let counts = tally.counts();
+    counts.print("The check on damaged words");
+    counts.expect_no_fault();
+    assert_eq!(counts.get(tally::CASES), CASES);
+    counts.expect(700, &KINDS);
+    counts.expect(50_000, &["random edits", tally::LEGAL]);
     // A check that refuses all, or accepts all, must not come near to passing.
-    assert!(rest > 50_000 && tally.legal() > 50_000 && tally.legal() < CASES - 500_000);
+    assert!(counts.get(tally::LEGAL) < CASES - 500_000);
 }
 
 /// Each word of the smallest arenas changed in turn.
@@ -95,9 +104,9 @@ fn each_class(tally: &mut Tally, random: &mut Xorshift) {
     for class in 0..64 {
         let mut zones = pool::one_zone(class);
         as_made(tally, &mut zones);
-        damage(tally, &mut zones, 200, random, edits::zone_slots);
-        damage(tally, &mut zones, 200, random, edits::zone_heads);
-        damage(tally, &mut zones, 100, random, surgery::operate);
+        check_damaged(tally, &mut zones, 200, random, edits::zone_slots);
+        check_damaged(tally, &mut zones, 200, random, edits::zone_heads);
+        check_damaged(tally, &mut zones, 100, random, surgery::operate);
     }
 }
 
@@ -106,9 +115,9 @@ fn large(tally: &mut Tally, random: &mut Xorshift) {
     tally.begin("large arenas");
     let mut pool = pool::large();
     as_made(tally, &mut pool);
-    damage(tally, &mut pool, 14_000, random, edits::any_edit);
-    damage(tally, &mut pool, 14_000, random, edits::random_edits);
-    damage(tally, &mut pool, 12_000, random, surgery::operate);
+    check_damaged(tally, &mut pool, 14_000, random, edits::any_edit);
+    check_damaged(tally, &mut pool, 14_000, random, edits::random_edits);
+    check_damaged(tally, &mut pool, 12_000, random, surgery::operate);
 }
 
 /// Words with no damage: exactly as many as are used, one more, and all there are.
@@ -120,24 +129,44 @@ fn as_made(tally: &mut Tally, pool: &mut [Subject]) {
     }
 }
 
-/// So many cases by an edit that changes something, on one subject after the other.
-fn damage(tally: &mut Tally, pool: &mut [Subject], cases: u32, random: &mut Xorshift, edit: Edit) {
-    let end = tally.cases() + cases;
-    while tally.cases() < end {
+/// So many cases by an edit, for the check.
+fn check_damaged(
+    tally: &mut Tally,
+    pool: &mut [Subject],
+    cases: u32,
+    random: &mut Xorshift,
+    edit: Edit,
+) {
+    damage(pool, cases, random, edit, |subject, count, _| {
+        tally.judge(subject, count)
+    });
+}
+
+/// So many cases by an edit that changes something, on one subject after the other. Each is judged
+/// with a number of its words, and put right again.
+fn damage(
+    pool: &mut [Subject],
+    cases: u32,
+    random: &mut Xorshift,
+    edit: Edit,
+    mut judge: impl FnMut(&mut Subject, usize, &mut Xorshift),
+) {
+    let mut left = cases;
+    while left > 0 {
         let at = random.below(pool.len() as u32) as usize;
         let subject = &mut pool[at];
         // Several on one subject, while its words are near.
         for _ in 0..32 {
             edit(subject, random);
-            if subject.is_changed() && tally.cases() < end {
+            if subject.is_changed() && left > 0 {
                 let count = match random.below(8) {
                     0 => subject.len(),
                     _ => subject.used(),
                 };
-                tally.judge(subject, count);
-            } else {
-                subject.restore();
+                judge(subject, count, random);
+                left -= 1;
             }
+            subject.restore();
         }
     }
 }

@@ -11,15 +11,12 @@
 //!
 //! The tests print what their histories came upon. They are the same in every run.
 
-mod counts;
+mod kinds;
 
-use counts::Counts;
 use reference::calls::{Answer, Call};
 use reference::histories::{Granted, History, Profile, Xorshift};
 use reference::listing::LONGEST;
-use std::io::Write;
-use std::sync::atomic::{AtomicU32, Ordering};
-use std::thread;
+use tests::counts::{on_all_processors, Counts};
 use tests::layout::{encode, used_words};
 use tests::pair::{noise, Pair};
 use tests::states::odd;
@@ -37,72 +34,18 @@ const SIZES: [u32; 10] = [1, 8, 16, 24, 24, 32, 32, 40, 255, 256];
 
 #[test]
 fn histories_that_begin_with_an_init() {
-    let counts = all(2_000, from_init);
-    print("From an init", &counts);
-    assert!(counts.get("calls") >= 2_000 * CALLS);
-    counts.expect_each(300);
+    let counts = on_all_processors(2_000, from_init);
+    counts.print("From an init");
+    counts.expect(2_000 * CALLS, &[kinds::CALLS]);
+    counts.expect_just(300, &kinds::ALL);
 }
 
 #[test]
 fn histories_that_begin_with_any_valid_state() {
-    let counts = all(400, from_any_state);
-    print("From any valid state", &counts);
-    assert!(counts.get("calls") >= 400 * CALLS);
-    counts.expect_each(50);
-}
-
-/// Not by print!, which a test that passes keeps to itself.
-fn print(title: &str, counts: &Counts) {
-    write!(std::io::stdout(), "\n{title}\n{counts}").expect("standard output takes the table");
-}
-
-/// The numbers of the histories still to come, which the threads share.
-struct Left {
-    next: AtomicU32,
-    end: u32,
-}
-
-impl Left {
-    fn take(&self) -> Option<u32> {
-        let number = self.next.fetch_add(1, Ordering::Relaxed);
-        (number < self.end).then_some(number)
-    }
-}
-
-/// Ends the other threads too when one fails.
-struct Guard<'a>(&'a Left);
-
-impl Drop for Guard<'_> {
-    fn drop(&mut self) {
-        if thread::panicking() {
-            self.0.next.store(self.0.end, Ordering::Relaxed);
-        }
-    }
-}
-
-/// So many histories, each told by its number, on all processors.
-fn all(histories: u32, one: fn(u32, &mut Counts)) -> Counts {
-    let left = Left {
-        next: AtomicU32::new(0),
-        end: histories,
-    };
-    let work = || {
-        let guard = Guard(&left);
-        let mut counts = Counts::default();
-        while let Some(number) = guard.0.take() {
-            one(number, &mut counts);
-        }
-        counts
-    };
-    let mut counts = Counts::default();
-    thread::scope(|scope| {
-        let threads = thread::available_parallelism().map_or(1, |count| count.get());
-        let workers: Vec<_> = (0..threads).map(|_| scope.spawn(work)).collect();
-        for worker in workers {
-            counts.add(worker.join().expect("a history failed, as said above"));
-        }
-    });
-    counts
+    let counts = on_all_processors(400, from_any_state);
+    counts.print("From any valid state");
+    counts.expect(400 * CALLS, &[kinds::CALLS]);
+    counts.expect_just(50, &kinds::ALL);
 }
 
 fn from_init(number: u32, counts: &mut Counts) {
@@ -160,7 +103,7 @@ fn follow(
             _ => history.next_call(),
         };
         let answer = pair.serve(call);
-        counts.answer(&call, &answer);
+        counts.count(&kinds::of_answer(&call, &answer), 1);
         if let Ok(answer) = answer {
             history.observe(&call, &answer);
         }
@@ -170,10 +113,10 @@ fn follow(
         }
         if made % WORDS == 0 {
             pair.compare();
-            counts.state(pair.state());
+            kinds::count_state(counts, pair.state());
         }
     }
-    counts.count("calls", calls);
+    counts.count(kinds::CALLS, calls);
     let live = history.live();
     assert_eq!(live.len(), pair.state().live_blocks().len());
     for block in live.iter().take(asked) {
@@ -182,7 +125,7 @@ fn follow(
             let begins = matches!(answer, Ok(Answer::Held { group, .. }) if group == block.group);
             assert_eq!(begins, offset == block.offset);
         }
-        counts.count("live blocks asked for at the end", 1);
+        counts.count(kinds::ASKED, 1);
     }
     pair.compare();
 }
