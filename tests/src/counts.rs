@@ -107,7 +107,7 @@ pub fn on_all_processors(jobs: u32, one: impl Fn(u32, &mut Counts) + Sync) -> Co
     let mut counts = Counts::default();
     thread::scope(|scope| {
         let threads = thread::available_parallelism().map_or(1, |count| count.get());
-        let workers: Vec<_> = (0..threads).map(|_| scope.spawn(&work)).collect();
+        let workers: Vec<_> = (0..threads).map(|_| scope.spawn(work)).collect();
         for worker in workers {
             counts.add(worker.join().expect("a job failed, as said above"));
         }
