@@ -20,6 +20,7 @@
 pub mod bench;
 pub mod blocks;
 pub mod calls;
+pub mod cases;
 pub mod histories;
 pub mod lines;
 pub mod listing;

@@ -19,9 +19,9 @@ fn reference(arguments: &[&str], input: &[u8]) -> Output {
 
 #[test]
 fn the_session_on_standard_streams() {
-    let output = reference(&[], include_bytes!("data/session.in"));
+    let output = reference(&[], include_bytes!("../../examples/session.txt"));
     assert_eq!(output.status.code(), Some(0));
-    assert_eq!(output.stdout, include_bytes!("data/session.out"));
+    assert_eq!(output.stdout, include_bytes!("../../examples/session.out"));
     assert_eq!(output.stderr, b"");
 }
 

@@ -1,5 +1,5 @@
 //! The grammar of the bench program's lines: every kind of line that is no
-//! call, and the calls that look odd and are one.
+//! call.
 
 mod common;
 
@@ -134,12 +134,6 @@ fn malformed_lines_before_the_first_start_are_not_refused() {
 }
 
 #[test]
-fn calls_before_the_first_start_are_refused_by_3() {
-    let output = bench("q 1 100\nr 1 0\nx 1\nt\nb 0\np\nq 0 0\nr 13 1\nx 0\n");
-    assert_eq!(output, "no 3\n".repeat(9));
-}
-
-#[test]
 fn numbers_above_32_bits_are_malformed() {
     for number in TOO_BIG {
         let kinds = ["s #", "q # 8", "q 1 #", "r # 0", "r 1 #", "x #", "b #"];
@@ -149,32 +143,6 @@ fn numbers_above_32_bits_are_malformed() {
             assert_eq!(output, "ok\n?\n", "{line}");
         }
     }
-}
-
-#[test]
-fn the_largest_number_is_refused_by_its_call() {
-    let largest = "4294967295";
-    let cases = [
-        ("s #", "no 1"),
-        ("q # 8", "no 4"),
-        ("q 1 #", "no 5"),
-        ("q # #", "no 4"),
-        ("r # 0", "no 4"),
-        ("r 1 #", "no 7"),
-        ("x #", "no 4"),
-        ("b #", "no 7"),
-    ];
-    for (kind, answer) in cases {
-        let line = kind.replace('#', largest);
-        let output = bench(&format!("s 24\n{line}\n"));
-        assert_eq!(output, format!("ok\n{answer}\n"), "{line}");
-    }
-}
-
-#[test]
-fn zero_alone_is_a_number() {
-    let output = bench("s 0\ns 24\nq 0 8\nq 1 0\nq 1 8\nr 1 0\nx 0\nb 0\n");
-    assert_eq!(output, "no 1\nok\nno 4\nno 5\nat 0\nok\nno 4\nno 7\n");
 }
 
 #[test]
@@ -287,30 +255,4 @@ fn every_byte_in_place_of_the_space() {
         let line = [b's', byte, b'2', b'4', b'\n'];
         assert_eq!(bench_bytes(&line), expected, "byte {byte}");
     }
-}
-
-#[test]
-fn a_larger_start_is_refused_by_2_and_keeps_the_state() {
-    let output = bench("s 24\nq 1 9000\ns 25\ns 256\ns 257\nb 0\n");
-    assert_eq!(output, "ok\nat 0\nno 2\nno 2\nno 1\n1 12288\n");
-}
-
-#[test]
-fn counts_of_zero_are_written() {
-    let output = bench("s 24\np\nx 1\nt\n");
-    assert_eq!(output, "ok\nruns 1\n0 24\ndirect 0\nzones 0\nok 0\nok 0\n");
-    let output = bench("s 3\nq 1 12288\np\n");
-    assert_eq!(output, "ok\nat 0\nruns 0\ndirect 1\n0 3 1\nzones 0\n");
-}
-
-#[test]
-fn the_listing_shows_every_zone() {
-    // A full zone, one with room, one that is idle on its list.
-    let script = format!(
-        "s 24\n{}q 1 1\nq 2 100\nr 2 65536\np\n",
-        "q 1 8191\n".repeat(4)
-    );
-    let output = bench(&script);
-    let end = "ok\nruns 0\ndirect 0\nzones 3\n0 63 4\n8 0 1\n16 12 0\n";
-    assert!(output.ends_with(end), "{output}");
 }

@@ -1,5 +1,5 @@
-//! Document 01's "Numbers for no": each number in its place in the order, and
-//! nothing changed by any of them.
+//! Refusals that cases/ cannot have: on books that picture no legal state for
+//! several reasons, of a listing's buffer, and those of histories.
 
 mod common;
 
@@ -51,45 +51,6 @@ fn give(group: u32, offset: u32) -> Call {
 }
 
 #[test]
-fn start_tests_1_then_2() {
-    // Number of words, page count, refusal; each wrong page count also finds
-    // too few words.
-    let cases = [
-        (0, 0, 1),
-        (0, 257, 1),
-        (13_504, 0, 1),
-        (200_000, 257, 1),
-        (200_000, u32::MAX, 1),
-        (0, 1, 2),
-        (1_543, 1, 2),
-        (13_503, 24, 2),
-        (13_504, 25, 2),
-        (13_504, 256, 2),
-        (134_143, 256, 2),
-    ];
-    for (words, pages, number) in cases {
-        let mut allocator = Allocator::zeroed(words);
-        assert_refused(&mut allocator, Call::Init { pages }, number);
-    }
-}
-
-#[test]
-fn start_is_served_with_just_enough_words() {
-    for (words, pages) in [(1_544, 1), (13_504, 24), (134_144, 256)] {
-        let mut allocator = Allocator::zeroed(words);
-        assert_eq!(allocator.init(pages), Ok(()));
-        assert_eq!(*state(&allocator), State::fresh(pages));
-    }
-}
-
-#[test]
-fn a_refused_start_keeps_the_old_state() {
-    for (pages, number) in [(0, 1), (257, 1), (25, 2), (256, 2)] {
-        assert_refused(&mut full(), Call::Init { pages }, number);
-    }
-}
-
-#[test]
 fn start_on_used_or_unusable_books_forgets_them() {
     for mut allocator in unusable().into_iter().chain([full()]) {
         assert_eq!(allocator.init(23), Ok(()));
@@ -127,78 +88,6 @@ fn a_legal_state_on_just_enough_words_is_served() {
 }
 
 #[test]
-fn request_tests_4_then_5_then_6() {
-    // In the full arena nothing that needs pages can be granted, so every
-    // case would be refused by 6 if by nothing earlier.
-    let cases = [
-        (0, 0, 4),
-        (13, 2_000_000, 4),
-        (0, 9_000, 4),
-        (13, 9_000, 4),
-        (u32::MAX, 9_000, 4),
-        (256 + 1, 9_000, 4),
-        (1, 0, 5),
-        (12, 0, 5),
-        (1, 1_048_577, 5),
-        (1, u32::MAX, 5),
-        (1, 8, 6),
-        (12, 8_191, 6),
-        (1, 8_192, 6),
-        (1, 1_048_576, 6),
-    ];
-    for (group, size, number) in cases {
-        assert_refused(&mut full(), request(group, size), number);
-    }
-}
-
-#[test]
-fn a_chunk_from_the_list_needs_no_pages() {
-    assert_eq!(full().allocate(12, 97), Ok(208));
-}
-
-#[test]
-fn return_tests_4_then_7_then_8() {
-    let cases = [
-        (0, 0, 4),
-        (13, 0, 4),
-        (256 + 1, 0, 4),
-        (0, 5, 4),
-        (13, u32::MAX, 4),
-        (1, 5, 7),
-        (1, 208, 7),
-        (1, 32_760, 7),
-        (1, 98_304, 7),
-        (1, 1_048_576, 7),
-        (1, u32::MAX, 7),
-        (2, 0, 8),
-        (1, 104, 8),
-        (12, 32_768, 8),
-        (3, 36_864, 7),
-        (2, 36_864, 7),
-    ];
-    for (group, offset, number) in cases {
-        assert_refused(&mut full(), give(group, offset), number);
-    }
-}
-
-#[test]
-fn reset_tests_4() {
-    for group in [0, 13, 256 + 1, u32::MAX] {
-        assert_refused(&mut full(), Call::Reset { group }, 4);
-    }
-    assert_eq!(full().reset(12), Ok(0));
-}
-
-#[test]
-fn ask_tests_7() {
-    for offset in [1, 208, 32_760, 36_864, 98_304, 1_048_576, u32::MAX] {
-        assert_refused(&mut full(), Call::Query { offset }, 7);
-    }
-    assert_eq!(full().query(104), Ok((2, 104)));
-    assert_eq!(full().query(32_768), Ok((3, 65_536)));
-}
-
-#[test]
 fn listing_tests_12() {
     let expected = "runs 0\ndirect 1\n8 16 3\nzones 1\n0 12 2\n";
     for capacity in 0..expected.len() {
@@ -206,16 +95,6 @@ fn listing_tests_12() {
     }
     for capacity in [expected.len(), expected.len() + 1, usize::MAX] {
         assert_eq!(full().listing(capacity).as_deref(), Ok(expected));
-    }
-}
-
-#[test]
-fn groups_1_and_12_are_legal() {
-    let mut allocator = started(24);
-    for (group, offset) in [(1, 0), (12, 104)] {
-        assert_eq!(allocator.allocate(group, 100), Ok(offset));
-        assert_eq!(allocator.free(group, offset), Ok(()));
-        assert_eq!(allocator.reset(group), Ok(0));
     }
 }
 

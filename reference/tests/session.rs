@@ -6,8 +6,8 @@ use common::{bench, bench_bytes};
 use reference::bench::{run, Bench, WORDS};
 use std::io::{self, Read};
 
-const INPUT: &[u8] = include_bytes!("data/session.in");
-const OUTPUT: &[u8] = include_bytes!("data/session.out");
+const INPUT: &[u8] = include_bytes!("../../examples/session.txt");
+const OUTPUT: &[u8] = include_bytes!("../../examples/session.out");
 
 /// A reader that brings so many bytes with each read.
 struct Pieces<'a> {

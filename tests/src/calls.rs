@@ -5,6 +5,7 @@
 //! those.
 
 use reference::calls::{Answer, Call};
+use reference::lines::render;
 
 extern "C" {
     fn nostrimel_init(meta: *mut u32, words: usize, pages: u32) -> u32;
@@ -150,6 +151,14 @@ pub fn told(answer: Answer) -> Result<Answer, Number> {
     match answer {
         Answer::Refused(refusal) => Err(refusal.number()),
         served => Ok(served),
+    }
+}
+
+/// What the bench program writes for an answer.
+pub fn written(answer: &Result<Answer, Number>) -> String {
+    match answer {
+        Ok(answer) => render(answer),
+        Err(number) => format!("no {number}\n"),
     }
 }
 

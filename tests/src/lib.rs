@@ -4,7 +4,7 @@
 //! the bench program, which is held to what the second program writes.
 //!
 //!     cargo test --offline --locked -p tests                     all tests
-//!     cargo test --offline --locked -p tests --test edges        document 01's edges, a test each
+//!     cargo test --offline --locked -p tests --test edges        document 01's cases through C
 //!     cargo test --offline --locked -p tests --test histories    2,400 histories of calls
 //!     cargo test --offline --locked -p tests --test damage       damaged words: check and calls
 //!     cargo test --offline --locked -p tests --test arbitrary    words that never were a state

@@ -117,10 +117,6 @@ impl Pair {
         }
     }
 
-    pub fn free(&mut self, group: u32, offset: u32) -> Result<(), Number> {
-        self.call(Call::Free { group, offset }).map(|_| ())
-    }
-
     pub fn reset(&mut self, group: u32) -> Result<u32, Number> {
         self.counted(Call::Reset { group })
     }
@@ -148,19 +144,6 @@ impl Pair {
     /// The listing of a valid state, with room enough.
     pub fn text(&mut self) -> String {
         self.listing(LONGEST).expect("a listing")
-    }
-
-    /// Requests that are all granted; their offsets.
-    pub fn grant(&mut self, group: u32, size: u32, times: usize) -> Vec<u32> {
-        let grants = (0..times).map(|_| self.allocate(group, size));
-        grants.collect::<Result<_, _>>().expect("there is room")
-    }
-
-    /// Returns of a group's blocks in this order, all served.
-    pub fn free_all(&mut self, group: u32, offsets: &[u32]) {
-        for offset in offsets {
-            assert_eq!(self.free(group, *offset), Ok(()), "return of {offset}");
-        }
     }
 
     fn counted(&mut self, call: Call) -> Result<u32, Number> {

@@ -37,13 +37,6 @@ pub fn grant(allocator: &mut Allocator, group: u32, size: u32, times: usize) -> 
     grants.collect::<Result<_, _>>().expect("there is room")
 }
 
-/// Returns of the group's blocks, in this order.
-pub fn free_all(allocator: &mut Allocator, group: u32, offsets: &[u32]) {
-    for &offset in offsets {
-        assert_eq!(allocator.free(group, offset), Ok(()), "return of {offset}");
-    }
-}
-
 /// The free runs as pairs of start and page count.
 pub fn runs(allocator: &Allocator) -> Vec<(u32, u32)> {
     let pair = |run: &Run| (run.start, run.pages);

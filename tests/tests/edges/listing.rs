@@ -1,9 +1,10 @@
 //! The listing's buffer: one byte short, exactly long enough, longer. That all other bytes stay is
 //! seen to at every listing.
 
+use reference::listing::LONGEST;
 use reference::state::State;
 use tests::calls::listing;
-use tests::layout::encode;
+use tests::layout::{encode, used_words};
 use tests::pair::Pair;
 use tests::states::{odd, reached, zones_throughout, Plan};
 use tests::zones::zone_with;
@@ -98,4 +99,21 @@ fn the_most_runs_and_the_most_zones_are_listed() {
     let zones = zones_throughout(256, &zone_with(0, &[true; 4_096]));
     let text = Pair::over(encode(&zones)).text();
     assert!(text.starts_with("runs 0\ndirect 0\nzones 32\n0 0 4096\n8 0 4096\n"));
+}
+
+#[test]
+fn without_a_state_a_listing_is_refused_by_3_before_12() {
+    for mut pair in [Pair::zeroed(used_words(24)), Pair::noisy(used_words(24))] {
+        for capacity in [0, 1, LONGEST] {
+            assert_eq!(pair.listing(capacity), Err(3));
+        }
+    }
+}
+
+#[test]
+fn a_refused_listing_can_be_repeated() {
+    let mut pair = Pair::over(encode(&reached(32, 300, 1)));
+    for _ in 0..3 {
+        assert_eq!(pair.listing(10), Err(12));
+    }
 }

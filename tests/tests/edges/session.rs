@@ -1,23 +1,13 @@
 //! Document 01's whole session, by the calls.
 
-use reference::calls::{Answer, Call, Refusal};
-use reference::lines::{parse, render};
-use tests::calls::Number;
+use reference::bench::WORDS;
+use reference::calls::{Call, Refusal};
+use reference::lines::parse;
+use tests::calls::written;
 use tests::pair::Pair;
 
-const INPUT: &str = include_str!("../../../reference/tests/data/session.in");
-const OUTPUT: &str = include_str!("../../../reference/tests/data/session.out");
-
-/// The bench program's words.
-const WORDS: usize = 13_504;
-
-/// What the bench program would write.
-fn written(answer: Result<Answer, Number>) -> String {
-    match answer {
-        Ok(answer) => render(&answer),
-        Err(number) => format!("no {number}\n"),
-    }
-}
+const INPUT: &str = include_str!("../../../examples/session.txt");
+const OUTPUT: &str = include_str!("../../../examples/session.out");
 
 fn calls() -> impl Iterator<Item = Call> {
     let lines = INPUT.lines();
@@ -27,7 +17,7 @@ fn calls() -> impl Iterator<Item = Call> {
 #[test]
 fn the_session() {
     let mut pair = Pair::zeroed(WORDS);
-    let output: String = calls().map(|call| written(pair.call(call))).collect();
+    let output: String = calls().map(|call| written(&pair.call(call))).collect();
     assert_eq!(output, OUTPUT);
     assert_eq!(pair.query(104), Ok((2, 104)));
 }
@@ -36,7 +26,7 @@ fn the_session() {
 fn the_session_on_words_of_any_kind_and_number() {
     for more in [0, 1, 520, 5_000] {
         let mut pair = Pair::noisy(WORDS + more);
-        let output: String = calls().map(|call| written(pair.call(call))).collect();
+        let output: String = calls().map(|call| written(&pair.call(call))).collect();
         assert_eq!(output, OUTPUT);
     }
 }

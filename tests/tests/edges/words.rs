@@ -33,6 +33,16 @@ fn an_arena_of_n_pages_needs_1024_and_520_n_words() {
 }
 
 #[test]
+fn pages_0_and_257_are_refused_by_1_even_with_too_few_words() {
+    for lent in [0, 1, 1_024, used_words(1), used_words(256) + 600] {
+        for pages in [0, 257, 1 << 16, u32::MAX] {
+            assert_eq!(Pair::zeroed(lent).init(pages), Err(1));
+            assert_eq!(Pair::noisy(lent).init(pages), Err(1));
+        }
+    }
+}
+
+#[test]
 fn init_with_exactly_enough_words_is_served() {
     for pages in 1..=256 {
         assert_eq!(Pair::noisy(used_words(pages)).init(pages), Ok(()));

@@ -247,36 +247,6 @@ fn a_line_of_many_megabytes() {
 }
 
 #[test]
-fn the_largest_number_is_one() {
-    let cases = [
-        ("s 4294967295", "no 1"),
-        ("q 4294967295 8", "no 4"),
-        ("q 1 4294967295", "no 5"),
-        ("q 4294967295 4294967295", "no 4"),
-        ("r 4294967295 0", "no 4"),
-        ("r 1 4294967295", "no 7"),
-        ("x 4294967295", "no 4"),
-        ("b 4294967295", "no 7"),
-    ];
-    for (line, answer) in cases {
-        check_bytes(
-            format!("s 24\n{line}\n").as_bytes(),
-            &format!("ok\n{answer}\n"),
-            line,
-        );
-    }
-}
-
-#[test]
-fn zero_alone_is_a_number() {
-    check_bytes(
-        b"s 0\ns 24\nq 0 8\nq 1 0\nq 1 8\nb 0\nr 1 0\nx 0\nb 0\n",
-        "no 1\nok\nno 4\nno 5\nat 0\n1 8\nok\nno 4\nno 7\n",
-        "zeros",
-    );
-}
-
-#[test]
 fn the_last_line_counts_if_it_has_a_byte() {
     let cases: [(&[u8], &str); 12] = [
         (b"", ""),
