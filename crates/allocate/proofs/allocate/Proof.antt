@@ -25,7 +25,9 @@ group-ok-requires : tie.Need-group-ok-requires
 group-ok-requires c κs = search needs
 
 returns : tie.Need-returns
-returns c = let a = c .before .before .before .args in made (bad-group (decode (a .words .now)) (a .group) (a .size) (sym (c .before .group-ok .ensures) ∙ not-true _ (c .if1 .taken))) (refl, c .before .before .before .pre .lent .words)
+returns c =
+    let a = c .before .before .before .args in
+    made (bad-group (decode (a .words .now)) (a .group) (a .size) (sym (c .before .group-ok .ensures) ∙ not-true _ (c .if1 .taken))) (refl, c .before .before .before .pre .lent .words)
 
 size-ok-requires : tie.Need-size-ok-requires
 size-ok-requires c κs = search needs
@@ -35,7 +37,9 @@ returns-2 c =
     let e = else1 (c .before) in
     let g = group-ok e in
     let s = start g in
-    let a = s .args in made (bad-size (decode (a .words .now)) (a .group) (a .size) (sym (g .group-ok .ensures) ∙ not-false _ (e .if1 .left)) (sym (c .before .size-ok .ensures) ∙ not-true _ (c .if2 .taken))) (refl, s .pre .lent .words)
+    let a = s .args in
+    made (bad-size (decode (a .words .now)) (a .group) (a .size) (sym (g .group-ok .ensures) ∙ not-false _ (e .if1 .left)) (sym (c .before .size-ok .ensures) ∙ not-true _ (c .if2 .taken)))
+    (refl, s .pre .lent .words)
 
 supply-requires : tie.Need-supply-requires
 supply-requires c κs =
@@ -43,7 +47,10 @@ supply-requires c κs =
     let e = else1 s in
     let g = group-ok e in
     let s₁ = start g in
-    let a = s₁ .args in let t = sym (g .group-ok .ensures) ∙ not-false _ (e .if1 .left) in let u = sym (s .size-ok .ensures) ∙ not-false _ (c .before .if2 .left) in (s₁ .pre, (group-least (a .group) t, group-most (a .group) t, size-least (a .size) u, size-most (a .size) u))
+    let a = s₁ .args in
+    let t = sym (g .group-ok .ensures) ∙ not-false _ (e .if1 .left) in
+    let u = sym (s .size-ok .ensures) ∙ not-false _ (c .before .if2 .left) in
+    (s₁ .pre, (group-least (a .group) t, group-most (a .group) t, size-least (a .size) u, size-most (a .size) u))
 
 same-length : tie.Need-same-length
 same-length c = search needs
@@ -55,7 +62,9 @@ returns-3 c =
     let e₁ = else1 s in
     let g = group-ok e₁ in
     let s₁ = start g in
-    let a = s₁ .args in made (accepted (decode (a .words .now)) (a .group) (a .size) (sym (g .group-ok .ensures) ∙ not-false _ (e₁ .if1 .left)) (sym (s .size-ok .ensures) ∙ not-false _ (e .if2 .left))) (c .before .before .supply .ensures)
+    let a = s₁ .args in
+    made (accepted (decode (a .words .now)) (a .group) (a .size) (sym (g .group-ok .ensures) ∙ not-false _ (e₁ .if1 .left)) (sym (s .size-ok .ensures) ∙ not-false _ (e .if2 .left)))
+    (c .before .before .supply .ensures)
 
 pub allocate-spec : {M : Type 1} → statement M
 allocate-spec =

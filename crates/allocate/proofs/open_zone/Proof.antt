@@ -40,7 +40,9 @@ take-zone-requires c κs =
     let a = c .before .before in
     let f₁ = find-run a in
     let s = start f₁ in
-    let h = s .pre in let f = open-free (h .0) (h .1 .0) (h .1 .1) (sym (f₁ .find-run .ensures) ∙ a .at .given .1) in ((h .0 .good .lent, h .0 .good .pages), (f .behind, f .there, f .enough, h .0 .least))
+    let h = s .pre in
+    let f = open-free (h .0) (h .1 .0) (h .1 .1) (sym (f₁ .find-run .ensures) ∙ a .at .given .1) in
+    ((h .0 .good .lent, h .0 .good .pages), (f .behind, f .there, f .enough, h .0 .least))
 
 cast-start : tie.Need-cast-start
 cast-start c =
@@ -55,7 +57,10 @@ list-front-requires c κs =
     let a = at t in
     let f₁ = find-run a in
     let s = start f₁ in
-    let h = s .pre in let f = sym (f₁ .find-run .ensures) ∙ a .at .given .1 in let e = t .take-zone .ensures in (lent (open-words (h .0) (h .1 .0) (h .1 .1) f e), (omega (arith, h .0 .class), open-page (h .0) (h .1 .0) (h .1 .1) f, open-room (h .0) (h .1 .0) (h .1 .1) f e))
+    let h = s .pre in
+    let f = sym (f₁ .find-run .ensures) ∙ a .at .given .1 in
+    let e = t .take-zone .ensures in
+    (lent (open-words (h .0) (h .1 .0) (h .1 .1) f e), (omega (arith, h .0 .class), open-page (h .0) (h .1 .0) (h .1 .1) f, open-room (h .0) (h .1 .0) (h .1 .1) f e))
 
 mul-t17 : tie.Need-mul-t17
 mul-t17 c =
@@ -73,7 +78,9 @@ returns-2 c =
     let a = at t in
     let f₁ = find-run a in
     let s = start f₁ in
-    let h = s .pre in let f = sym (f₁ .find-run .ensures) ∙ a .at .given .1 in (open-answer (h .0) (h .1 .0) (h .1 .1) f, opened-words (h .0) (h .1 .0) (h .1 .1) f (t .take-zone .ensures) (c .before .before .list-front .ensures))
+    let h = s .pre in
+    let f = sym (f₁ .find-run .ensures) ∙ a .at .given .1 in
+    (open-answer (h .0) (h .1 .0) (h .1 .1) f, opened-words (h .0) (h .1 .0) (h .1 .1) f (t .take-zone .ensures) (c .before .before .list-front .ensures))
 
 pub open-zone-spec : {M : Type 1} → statement M
 open-zone-spec =

@@ -27,7 +27,10 @@ list-front-requires c κs =
     let z = c .before .before .before in
     let s = spare-behind z in
     let s₁ = start s in
-    let h = s₁ .pre in let e = s .spare-behind .ensures in let f = z .zone-renew .ensures in (lent (renewed-words (h .0) (h .1 .0) (h .1 .1) e f), (omega (arith, h .0 .class), renew-page (h .0) (h .1 .0) (h .1 .1), renewed-room (h .0) (h .1 .0) (h .1 .1) e f))
+    let h = s₁ .pre in
+    let e = s .spare-behind .ensures in
+    let f = z .zone-renew .ensures in
+    (lent (renewed-words (h .0) (h .1 .0) (h .1 .1) e f), (omega (arith, h .0 .class), renew-page (h .0) (h .1 .0) (h .1 .1), renewed-room (h .0) (h .1 .0) (h .1 .1) e f))
 
 mul-t14 : tie.Need-mul-t14
 mul-t14 c =

@@ -75,7 +75,9 @@ returns-2 c =
     let r = room z in
     let z₁ = zone-grant r in
     let s = start z₁ in
-    let h = s .pre in let e = z₁ .zone-grant .ensures in (serve-answer (h .0) (h .1) (e .0) (r .room .ensures), leaves (h .0) (h .1) (e .1) (z .zone-full .ensures) (not-false _ (e₁ .if1 .left)) (c .before .before .list-without .ensures))
+    let h = s .pre in
+    let e = z₁ .zone-grant .ensures in
+    (serve-answer (h .0) (h .1) (e .0) (r .room .ensures), leaves (h .0) (h .1) (e .1) (z .zone-full .ensures) (not-false _ (e₁ .if1 .left)) (c .before .before .list-without .ensures))
 
 pub serve-spec : {M : Type 1} → statement M
 serve-spec =

@@ -54,7 +54,8 @@ returns-2 : tie.Need-returns-2
 returns-2 c =
     let f = c .before .before .before .before in
     let s = start f in
-    let t = subst (Tells (decode (s .args .words .now)) (s .args .offset)) (c .before .before .at2 .given .1) (f .find-block .ensures) in ap (Block (c .before .before .at2 .given .0 .1 .1 .1 .1 .0)) (c .room .ensures) ∙ sym (ap described (t .0))
+    let t = subst (Tells (decode (s .args .words .now)) (s .args .offset)) (c .before .before .at2 .given .1) (f .find-block .ensures) in
+    ap (Block (c .before .before .at2 .given .0 .1 .1 .1 .1 .0)) (c .room .ensures) ∙ sym (ap described (t .0))
 
 returns-3 : tie.Need-returns-3
 returns-3 c =

@@ -108,14 +108,18 @@ group-requires c κs =
     let a = c .before .before .before .before .before in
     let f = find-segment a in
     let s = start f in
-    let h = held (s .pre) _ _ (f .find-segment .ensures) _ _ _ _ (a .at .given .1) in let t = held-direct h (c .before .before .if2 .left) in (body-holds (s .pre .lent) _ (s .pre .pages), in-body (s .pre .lent) (λ m. (b k g : ℕ) × Stands m (a .at .given .0 .0) b (direct k g)) (_, _, t .0, t .1))
+    let h = held (s .pre) _ _ (f .find-segment .ensures) _ _ _ _ (a .at .given .1) in
+    let t = held-direct h (c .before .before .if2 .left) in
+    (body-holds (s .pre .lent) _ (s .pre .pages), in-body (s .pre .lent) (λ m. (b k g : ℕ) × Stands m (a .at .given .0 .0) b (direct k g)) (_, _, t .0, t .1))
 
 returns-5 : tie.Need-returns-5
 returns-5 c =
     let a = c .before .before .before .before .before .before in
     let f = find-segment a in
     let s = start f in
-    let h = held (s .pre) _ _ (f .find-segment .ensures) _ _ _ _ (a .at .given .1) in held-whole h (c .before .before .before .if2 .left) (c .before .before .if3 .left) (c .group .result) (of-body (s .pre .lent) (λ m. (b k g : ℕ) → Stands m (a .at .given .0 .0) b (direct k g) → c .group .result ≡ g) (c .group .ensures))
+    let h = held (s .pre) _ _ (f .find-segment .ensures) _ _ _ _ (a .at .given .1) in
+    held-whole h (c .before .before .before .if2 .left) (c .before .before .if3 .left) (c .group .result)
+    (of-body (s .pre .lent) (λ m. (b k g : ℕ) → Stands m (a .at .given .0 .0) b (direct k g) → c .group .result ≡ g) (c .group .ensures))
 
 pub find-block-spec : {M : Type 1} → statement M
 find-block-spec =

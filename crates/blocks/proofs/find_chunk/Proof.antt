@@ -16,7 +16,10 @@ zone-class-requires : tie.Need-zone-class-requires
 zone-class-requires c κs = let h = c .before .pre in (h .0 .lent, zone-stands (decode (c .before .args .words .now)) _ _ (h .1 .0 .0) (h .1 .0 .1))
 
 room-requires : tie.Need-room-requires
-room-requires c κs = let h = c .before .before .pre in let s = decode (c .before .before .args .words .now) in omega (arith, c .zone-class .ensures, ap (λ y. y .class) (zone-is s _ _ (h .1 .0 .0) (h .1 .0 .1)), zone-valid s _ _ (h .1 .0 .0) (h .1 .0 .1) (h .0 .valid) .class)
+room-requires c κs =
+    let h = c .before .before .pre in
+    let s = decode (c .before .before .args .words .now) in
+    omega (arith, c .zone-class .ensures, ap (λ y. y .class) (zone-is s _ _ (h .1 .0 .0) (h .1 .0 .1)), zone-valid s _ _ (h .1 .0 .0) (h .1 .0 .1) (h .0 .valid) .class)
 
 rem-if1 : tie.Need-rem-if1
 rem-if1 c = omega (arith, c .room .ensures, room-pos (c .before .zone-class .result))
@@ -39,13 +42,17 @@ returns-2 : tie.Need-returns-2
 returns-2 c =
     let z = c .before .before .before .before in
     let s = start z in
-    let h = s .pre in found-dead _ (h .0 .valid) (h .1 .0 .0) (h .1 .0 .1) _ (h .1 .1) _ _ (z .zone-class .ensures) (c .before .before .before .room .ensures) _ (c .before .zone-owner .ensures) (omega (arith, c .if2 .taken))
+    let h = s .pre in
+    found-dead _ (h .0 .valid) (h .1 .0 .0) (h .1 .0 .1) _ (h .1 .1) _ _ (z .zone-class .ensures) (c .before .before .before .room .ensures) _ (c .before .zone-owner .ensures)
+    (omega (arith, c .if2 .taken))
 
 returns-3 : tie.Need-returns-3
 returns-3 c =
     let z = c .before .before .before .before in
     let s = start z in
-    let h = s .pre in found-live _ (h .0 .valid) (h .1 .0 .0) (h .1 .0 .1) _ (h .1 .1) _ _ (z .zone-class .ensures) (c .before .before .before .room .ensures) _ (c .before .zone-owner .ensures) (c .before .before .if1 .left) (c .if2 .left)
+    let h = s .pre in
+    found-live _ (h .0 .valid) (h .1 .0 .0) (h .1 .0 .1) _ (h .1 .1) _ _ (z .zone-class .ensures) (c .before .before .before .room .ensures) _ (c .before .zone-owner .ensures)
+    (c .before .before .if1 .left) (c .if2 .left)
 
 pub find-chunk-spec : {M : Type 1} → statement M
 find-chunk-spec =

@@ -25,21 +25,30 @@ enum-known-answer-4 : tie.Need-enum-known-answer-4
 enum-known-answer-4 c = search needs
 
 returns : tie.Need-returns
-returns c = let e = c .before .answer .given .1 in (sym (ap (λ x. reading x .refusal) e), (sym (ap (λ x. firstOr (c .before .before .before .args .first .now) (reading x .values)) e), sym (ap (λ x. secondOr (c .before .before .before .args .second .now) (reading x .values)) e)))
+returns c =
+    let e = c .before .answer .given .1 in
+    (sym (ap (λ x. reading x .refusal) e), (sym (ap (λ x. firstOr (c .before .before .before .args .first .now) (reading x .values)) e), sym (ap (λ x. secondOr (c .before .before .before .args .second .now) (reading x .values)) e)))
 
 returns-2 : tie.Need-returns-2
 returns-2 c =
     let s = c .before .before .before .before in
-    let e = c .before .before .answer2 .given .1 in (c .number .ensures ∙ sym (ap (λ x. reading x .refusal) e), (sym (ap (λ x. firstOr (s .args .first .now) (reading x .values)) e), sym (ap (λ x. secondOr (s .args .second .now) (reading x .values)) e)))
+    let e = c .before .before .answer2 .given .1 in
+    (c .number .ensures ∙ sym (ap (λ x. reading x .refusal) e), (sym (ap (λ x. firstOr (s .args .first .now) (reading x .values)) e), sym (ap (λ x. secondOr (s .args .second .now) (reading x .values)) e)))
 
 returns-3 : tie.Need-returns-3
-returns-3 c = let e = c .enum-told .given .1 in (sym (ap (λ x. reading x .refusal) e), (sym (ap (λ x. firstOr (c .before .before .args .first .now) (reading x .values)) e), sym (ap (λ x. secondOr (c .before .before .args .second .now) (reading x .values)) e)))
+returns-3 c =
+    let e = c .enum-told .given .1 in
+    (sym (ap (λ x. reading x .refusal) e), (sym (ap (λ x. firstOr (c .before .before .args .first .now) (reading x .values)) e), sym (ap (λ x. secondOr (c .before .before .args .second .now) (reading x .values)) e)))
 
 returns-4 : tie.Need-returns-4
-returns-4 c = let e = c .before .answer3 .given .1 in (sym (ap (λ x. reading x .refusal) e), (sym (ap (λ x. firstOr (c .before .before .before .args .first .now) (reading x .values)) e), sym (ap (λ x. secondOr (c .before .before .before .args .second .now) (reading x .values)) e)))
+returns-4 c =
+    let e = c .before .answer3 .given .1 in
+    (sym (ap (λ x. reading x .refusal) e), (sym (ap (λ x. firstOr (c .before .before .before .args .first .now) (reading x .values)) e), sym (ap (λ x. secondOr (c .before .before .before .args .second .now) (reading x .values)) e)))
 
 returns-5 : tie.Need-returns-5
-returns-5 c = let e = c .before .answer4 .given .1 in (sym (ap (λ x. reading x .refusal) e), (sym (ap (λ x. firstOr (c .before .before .before .args .first .now) (reading x .values)) e), sym (ap (λ x. secondOr (c .before .before .before .args .second .now) (reading x .values)) e)))
+returns-5 c =
+    let e = c .before .answer4 .given .1 in
+    (sym (ap (λ x. reading x .refusal) e), (sym (ap (λ x. firstOr (c .before .before .before .args .first .now) (reading x .values)) e), sym (ap (λ x. secondOr (c .before .before .before .args .second .now) (reading x .values)) e)))
 
 pub tell-both-spec : {M : Type 1} → statement M
 tell-both-spec =

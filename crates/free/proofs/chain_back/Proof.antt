@@ -47,7 +47,8 @@ list-front-requires c κs =
     let t = then1 z₁ in
     let z₂ = zone-full t in
     let s = start z₂ in
-    let h = s .pre in (mid-lent (h .0) (h .1) (z .zone-put-back .ensures), (omega (arith, z₁ .zone-class .ensures, live-class (h .0) (h .1)), live-page (h .0) (h .1), mid-room (h .0) (h .1) (z .zone-put-back .ensures) (sym (z₂ .zone-full .ensures) ∙ t .if1 .taken)))
+    let h = s .pre in
+    (mid-lent (h .0) (h .1) (z .zone-put-back .ensures), (omega (arith, z₁ .zone-class .ensures, live-class (h .0) (h .1)), live-page (h .0) (h .1), mid-room (h .0) (h .1) (z .zone-put-back .ensures) (sym (z₂ .zone-full .ensures) ∙ t .if1 .taken)))
 
 same-length : tie.Need-same-length
 same-length c = search needs

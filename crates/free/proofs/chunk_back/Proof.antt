@@ -97,7 +97,9 @@ returns-3 c =
     let c₂ = chain-back z in
     let z₁ = zone-class c₂ in
     let s = start z₁ in
-    let h = s .pre in back-gone (h .0) (h .1) (c₂ .chain-back .ensures) _ (z .zone-idle .ensures) (not-false _ (e₁ .if1 .left)) _ (z₁ .zone-class .ensures) _ (c₁ .count .ensures) (e .if2 .left) _ _ (c .before .before .retire .ensures)
+    let h = s .pre in
+    back-gone (h .0) (h .1) (c₂ .chain-back .ensures) _ (z .zone-idle .ensures) (not-false _ (e₁ .if1 .left)) _ (z₁ .zone-class .ensures) _ (c₁ .count .ensures) (e .if2 .left) _ _
+    (c .before .before .retire .ensures)
 
 pub chunk-back-spec : {M : Type 1} → statement M
 chunk-back-spec =

@@ -62,14 +62,18 @@ returns-3 c =
     let e = else2 f in
     let e₁ = else1 e in
     let s = start e₁ in
-    let t = subst (Tells (decode (s .args .words .now)) (s .args .offset)) (a .at .given .1) (f .find-block .ensures) in by-rule _ _ _ (free-other (decode (s .args .words .now)) (s .args .group) (s .args .offset) (group-good (s .args .group) (e₁ .if1 .left) (e .if2 .left)) _ (t .0) (omega (arith, c .if3 .taken, e₁ .if1 .left))) (s .pre .lent .words)
+    let t = subst (Tells (decode (s .args .words .now)) (s .args .offset)) (a .at .given .1) (f .find-block .ensures) in
+    by-rule _ _ _ (free-other (decode (s .args .words .now)) (s .args .group) (s .args .offset) (group-good (s .args .group) (e₁ .if1 .left) (e .if2 .left)) _ (t .0) (omega (arith, c .if3 .taken, e₁ .if1 .left))) (s .pre .lent .words)
 
 give-back-requires : tie.Need-give-back-requires
 give-back-requires c κs =
     let a = at (c .before) in
     let f = find-block a in
     let s₁ = start (else1 (else2 f)) in
-    let h = s₁ .pre in let s = decode (s₁ .args .words .now) in let t = subst (Tells s (s₁ .args .offset)) (a .at .given .1) (f .find-block .ensures) in ((h .lent, h .pages), (h .valid .apart, whole-stands s _ t))
+    let h = s₁ .pre in
+    let s = decode (s₁ .args .words .now) in
+    let t = subst (Tells s (s₁ .args .offset)) (a .at .given .1) (f .find-block .ensures) in
+    ((h .lent, h .pages), (h .valid .apart, whole-stands s _ t))
 
 enum-known-at-2 : tie.Need-enum-known-at-2
 enum-known-at-2 c = search needs
@@ -84,7 +88,8 @@ returns-4 c =
     let e = else2 f in
     let e₁ = else1 e in
     let s = start e₁ in
-    let t = subst (Tells (decode (s .args .words .now)) (s .args .offset)) (a .at2 .given .1) (f .find-block .ensures) in by-rule _ _ _ (free-other (decode (s .args .words .now)) (s .args .group) (s .args .offset) (group-good (s .args .group) (e₁ .if1 .left) (e .if2 .left)) _ (t .0) (omega (arith, c .if4 .taken, e₁ .if1 .left))) (s .pre .lent .words)
+    let t = subst (Tells (decode (s .args .words .now)) (s .args .offset)) (a .at2 .given .1) (f .find-block .ensures) in
+    by-rule _ _ _ (free-other (decode (s .args .words .now)) (s .args .group) (s .args .offset) (group-good (s .args .group) (e₁ .if1 .left) (e .if2 .left)) _ (t .0) (omega (arith, c .if4 .taken, e₁ .if1 .left))) (s .pre .lent .words)
 
 chunk-back-requires : tie.Need-chunk-back-requires
 chunk-back-requires c κs =
@@ -92,7 +97,10 @@ chunk-back-requires c κs =
     let f = find-block-before-at2 a in
     let e = else1 (else2 f) in
     let s₁ = start e in
-    let h = s₁ .pre in let s = decode (s₁ .args .words .now) in let t = subst (Tells s (s₁ .args .offset)) (a .at2 .given .1) (f .find-block .ensures) in (h, chunk-lives s _ _ t (omega (arith, c .before .if4 .left, e .if1 .left)))
+    let h = s₁ .pre in
+    let s = decode (s₁ .args .words .now) in
+    let t = subst (Tells s (s₁ .args .offset)) (a .at2 .given .1) (f .find-block .ensures) in
+    (h, chunk-lives s _ _ t (omega (arith, c .before .if4 .left, e .if1 .left)))
 
 same-length-3 : tie.Need-same-length-3
 same-length-3 c = search needs
@@ -103,7 +111,8 @@ returns-5 c =
     let e = else2 f in
     let e₁ = else1 e in
     let s = start e₁ in
-    let t = subst (Tells (decode (s .args .words .now)) (s .args .offset)) (c .enum-told .given .1) (f .find-block .ensures) in by-rule _ _ _ (free-none (decode (s .args .words .now)) (s .args .group) (s .args .offset) (group-good (s .args .group) (e₁ .if1 .left) (e .if2 .left)) t) (s .pre .lent .words)
+    let t = subst (Tells (decode (s .args .words .now)) (s .args .offset)) (c .enum-told .given .1) (f .find-block .ensures) in
+    by-rule _ _ _ (free-none (decode (s .args .words .now)) (s .args .group) (s .args .offset) (group-good (s .args .group) (e₁ .if1 .left) (e .if2 .left)) t) (s .pre .lent .words)
 
 same-length-4 : tie.Need-same-length-4
 same-length-4 c = search needs
@@ -116,7 +125,10 @@ returns-6 c =
     let e₁ = else2 f in
     let e₂ = else1 e₁ in
     let s₁ = start e₂ in
-    let s = decode (s₁ .args .words .now) in let t = subst (Tells s (s₁ .args .offset)) (a .at .given .1) (f .find-block .ensures) in by-rule _ _ _ (free-done (decode (s₁ .args .words .now)) (s₁ .args .group) (s₁ .args .offset) (group-good (s₁ .args .group) (e₂ .if1 .left) (e₁ .if2 .left)) _ (t .0) (e .if3 .left)) (c .before .before .give-back .ensures ∙ ap encode (sym (whole-freed s _ t)))
+    let s = decode (s₁ .args .words .now) in
+    let t = subst (Tells s (s₁ .args .offset)) (a .at .given .1) (f .find-block .ensures) in
+    by-rule _ _ _ (free-done (decode (s₁ .args .words .now)) (s₁ .args .group) (s₁ .args .offset) (group-good (s₁ .args .group) (e₂ .if1 .left) (e₁ .if2 .left)) _ (t .0) (e .if3 .left))
+    (c .before .before .give-back .ensures ∙ ap encode (sym (whole-freed s _ t)))
 
 same-length-5 : tie.Need-same-length-5
 same-length-5 c = search needs
@@ -129,7 +141,10 @@ returns-7 c =
     let e₁ = else2 f in
     let e₂ = else1 e₁ in
     let s₁ = start e₂ in
-    let s = decode (s₁ .args .words .now) in let t = subst (Tells s (s₁ .args .offset)) (a .at2 .given .1) (f .find-block .ensures) in by-rule _ _ _ (free-done (decode (s₁ .args .words .now)) (s₁ .args .group) (s₁ .args .offset) (group-good (s₁ .args .group) (e₂ .if1 .left) (e₁ .if2 .left)) _ (t .0) (e .if4 .left)) (c .before .before .chunk-back .ensures .0 ∙ ap encode (sym (chunk-freed s _ _ t)))
+    let s = decode (s₁ .args .words .now) in
+    let t = subst (Tells s (s₁ .args .offset)) (a .at2 .given .1) (f .find-block .ensures) in
+    by-rule _ _ _ (free-done (decode (s₁ .args .words .now)) (s₁ .args .group) (s₁ .args .offset) (group-good (s₁ .args .group) (e₂ .if1 .left) (e₁ .if2 .left)) _ (t .0) (e .if4 .left))
+    (c .before .before .chunk-back .ensures .0 ∙ ap encode (sym (chunk-freed s _ _ t)))
 
 pub free-spec : {M : Type 1} → statement M
 free-spec =

@@ -53,7 +53,9 @@ spare-front-requires c κs =
     let s = spare-count (c .before) in
     let l = list-without s in
     let s₁ = start l in
-    let h = s₁ .pre in let e = l .list-without .ensures in (off-lent (h .0) (h .1 .0) (h .1 .1) (h .1 .2) e, (zone-page (h .0) (h .1 .0) (h .1 .1) (h .1 .2), off-room (h .0) (h .1 .0) (h .1 .1) (h .1 .2) e (omega (arith, off-count (h .0) (h .1 .0) (h .1 .1) (h .1 .2) e _ (s .spare-count .ensures), c .before .if1 .taken))))
+    let h = s₁ .pre in
+    let e = l .list-without .ensures in
+    (off-lent (h .0) (h .1 .0) (h .1 .1) (h .1 .2) e, (zone-page (h .0) (h .1 .0) (h .1 .1) (h .1 .2), off-room (h .0) (h .1 .0) (h .1 .1) (h .1 .2) e (omega (arith, off-count (h .0) (h .1 .0) (h .1 .1) (h .1 .2) e _ (s .spare-count .ensures), c .before .if1 .taken))))
 
 same-length : tie.Need-same-length
 same-length c = search needs
@@ -64,13 +66,18 @@ returns c =
     let s = spare-count t in
     let l = list-without s in
     let s₁ = start l in
-    let h = s₁ .pre in let e = l .list-without .ensures in off-spared (h .0) (h .1 .0) (h .1 .1) (h .1 .2) e (omega (arith, off-count (h .0) (h .1 .0) (h .1 .1) (h .1 .2) e _ (s .spare-count .ensures), t .if1 .taken)) _ (c .before .before .spare-front .ensures)
+    let h = s₁ .pre in
+    let e = l .list-without .ensures in
+    off-spared (h .0) (h .1 .0) (h .1 .1) (h .1 .2) e (omega (arith, off-count (h .0) (h .1 .0) (h .1 .1) (h .1 .2) e _ (s .spare-count .ensures), t .if1 .taken)) _
+    (c .before .before .spare-front .ensures)
 
 give-back-requires : tie.Need-give-back-requires
 give-back-requires c κs =
     let l = list-without (spare-count-before-else1 (c .before)) in
     let s = start l in
-    let h = s .pre in let e = l .list-without .ensures in ((off-lent (h .0) (h .1 .0) (h .1 .1) (h .1 .2) e, off-total (h .0) (h .1 .0) (h .1 .1) (h .1 .2) e), (off-apart (h .0) (h .1 .0) (h .1 .1) (h .1 .2) e, off-stands (h .0) (h .1 .0) (h .1 .1) (h .1 .2) e))
+    let h = s .pre in
+    let e = l .list-without .ensures in
+    ((off-lent (h .0) (h .1 .0) (h .1 .1) (h .1 .2) e, off-total (h .0) (h .1 .0) (h .1 .1) (h .1 .2) e), (off-apart (h .0) (h .1 .0) (h .1 .1) (h .1 .2) e, off-stands (h .0) (h .1 .0) (h .1 .1) (h .1 .2) e))
 
 same-length-2 : tie.Need-same-length-2
 same-length-2 c = search needs
@@ -81,7 +88,10 @@ returns-2 c =
     let s = spare-count-before-else1 e₁ in
     let l = list-without s in
     let s₁ = start l in
-    let h = s₁ .pre in let e = l .list-without .ensures in off-released (h .0) (h .1 .0) (h .1 .1) (h .1 .2) e (omega (arith, off-count (h .0) (h .1 .0) (h .1 .1) (h .1 .2) e _ (s .spare-count .ensures), e₁ .if1 .left)) _ (c .before .before .give-back .ensures)
+    let h = s₁ .pre in
+    let e = l .list-without .ensures in
+    off-released (h .0) (h .1 .0) (h .1 .1) (h .1 .2) e (omega (arith, off-count (h .0) (h .1 .0) (h .1 .1) (h .1 .2) e _ (s .spare-count .ensures), e₁ .if1 .left)) _
+    (c .before .before .give-back .ensures)
 
 pub retire-spec : {M : Type 1} → statement M
 retire-spec =

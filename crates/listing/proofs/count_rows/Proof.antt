@@ -55,7 +55,8 @@ loop-less c =
 loop-again : tie.Need-loop-again Inv-loop μ-loop
 loop-again c =
     let l = c .before .before .before .before in
-    let k = count-next (l .loop .inv) (c .before .before .before .loop-test .taken) in count-more (l .loop .inv) (c .before .before .before .loop-test .taken) _ (c .before .same .ensures) _ (c .size .ensures _ _ (k .stands))
+    let k = count-next (l .loop .inv) (c .before .before .before .loop-test .taken) in
+    count-more (l .loop .inv) (c .before .before .before .loop-test .taken) _ (c .before .same .ensures) _ (c .size .ensures _ _ (k .stands))
 
 returns : tie.Need-returns Inv-loop μ-loop
 returns c = count-end (c .before .loop .inv) (c .loop-test .left)

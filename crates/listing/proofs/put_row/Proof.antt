@@ -71,7 +71,9 @@ put-zone-requires c κs =
     let t = c .before .before in
     let e = else1 t in
     let s = start e in
-    let r = read-at (s .pre .0) (s .pre .1 .2) in let h = zone-here r (sym (r .kind) ∙ e .if1 .left ∙ t .if2 .taken) in (h .good, bounded-as _ (text-zone r (e .if1 .left) (t .if2 .taken)) (s .pre .1 .3))
+    let r = read-at (s .pre .0) (s .pre .1 .2) in
+    let h = zone-here r (sym (r .kind) ∙ e .if1 .left ∙ t .if2 .taken) in
+    (h .good, bounded-as _ (text-zone r (e .if1 .left) (t .if2 .taken)) (s .pre .1 .3))
 
 same-length : tie.Need-same-length
 same-length c = search needs

@@ -50,7 +50,8 @@ loop-again : tie.Need-loop-again Inv-loop μ-loop
 loop-again c =
     let t = c .before .before .before .before .before in
     let l = loop-before-turn t in
-    let k = write-next (l .loop .inv) (t .loop-test .taken) in write-more (l .loop .inv) (t .loop-test .taken) _ (c .before .before .before .put-row .ensures _ _ (k .stands)) (c .size .ensures _ _ (k .stands))
+    let k = write-next (l .loop .inv) (t .loop-test .taken) in
+    write-more (l .loop .inv) (t .loop-test .taken) _ (c .before .before .before .put-row .ensures _ _ (k .stands)) (c .size .ensures _ _ (k .stands))
 
 same-length : tie.Need-same-length Inv-loop μ-loop
 same-length c = write-length (c .before .loop .inv)

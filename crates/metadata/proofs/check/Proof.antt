@@ -77,7 +77,8 @@ check-requires-2 c κs =
     let e = else2 p in
     let c₁ = check-before-else2 e in
     let s = start (else1 c₁) in
-    let h = check-header _ (sym (c₁ .check .ensures) ∙ not-false _ (e .if2 .left)) in (part-long (s .args .words .now) (p .pages .result) (p .pages .ensures) (omega (arith, c .before .if3 .left)), omega (arith, p .pages .ensures, h .fits .most))
+    let h = check-header _ (sym (c₁ .check .ensures) ∙ not-false _ (e .if2 .left)) in
+    (part-long (s .args .words .now) (p .pages .result) (p .pages .ensures) (omega (arith, c .before .if3 .left)), omega (arith, p .pages .ensures, h .fits .most))
 
 returns-4 : tie.Need-returns-4
 returns-4 c =
@@ -107,7 +108,8 @@ lists-fit-requires c κs =
     let e₁ = else2 p in
     let c₂ = check-before-else2 e₁ in
     let s = start (else1 c₂) in
-    let h = check-header _ (sym (c₂ .check .ensures) ∙ not-false _ (e₁ .if2 .left)) in (h, segments-hold (s .args .words .now) (p .pages .result) (p .pages .ensures) (omega (arith, e .if3 .left)) (omega (arith, p .pages .ensures, h .fits .most)) (sym (c₁ .check2 .ensures) ∙ not-false _ (c .before .before .if4 .left)))
+    let h = check-header _ (sym (c₂ .check .ensures) ∙ not-false _ (e₁ .if2 .left)) in
+    (h, segments-hold (s .args .words .now) (p .pages .result) (p .pages .ensures) (omega (arith, e .if3 .left)) (omega (arith, p .pages .ensures, h .fits .most)) (sym (c₁ .check2 .ensures) ∙ not-false _ (c .before .before .if4 .left)))
 
 returns-5 : tie.Need-returns-5
 returns-5 c =
@@ -116,7 +118,8 @@ returns-5 c =
     let p = pages e in
     let e₁ = else2 p in
     let c₂ = check-before-else2 e₁ in
-    c .lists-fit .ensures ∙ lists-decide _ _ (p .pages .ensures) (sym (c₂ .check .ensures) ∙ not-false _ (e₁ .if2 .left)) (omega (arith, e .if3 .left)) (sym (c₁ .check2 .ensures) ∙ not-false _ (c .before .before .before .if4 .left))
+    c .lists-fit .ensures ∙ lists-decide _ _ (p .pages .ensures) (sym (c₂ .check .ensures) ∙ not-false _ (e₁ .if2 .left)) (omega (arith, e .if3 .left))
+    (sym (c₁ .check2 .ensures) ∙ not-false _ (c .before .before .before .if4 .left))
 
 pub check-spec : {M : Type 1} → statement M
 check-spec =

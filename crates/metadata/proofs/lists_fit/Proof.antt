@@ -57,7 +57,9 @@ returns c =
     let s = spare-count l in
     let l₁ = listed s in
     let s₁ = start l₁ in
-    let k = fit-next (l .loop .inv) (t .loop-test .taken) in fit-no (l .loop .inv) (t .loop-test .taken) (sym (c .before .fits-at .ensures _ _ (k .stands)) ∙ not-true _ (c .if1 .taken)) ∙ ap (λ y. fitFrom (spareIn (s₁ .args .head .now)) (listsIn (s₁ .args .head .now)) y 0 0 (segmentsOf (s₁ .args .words .now))) (λ i. l₁ .listed .ensures i + s .spare-count .ensures i)
+    let k = fit-next (l .loop .inv) (t .loop-test .taken) in
+    fit-no (l .loop .inv) (t .loop-test .taken) (sym (c .before .fits-at .ensures _ _ (k .stands)) ∙ not-true _ (c .if1 .taken)) ∙ ap
+    (λ y. fitFrom (spareIn (s₁ .args .head .now)) (listsIn (s₁ .args .head .now)) y 0 0 (segmentsOf (s₁ .args .words .now))) (λ i. l₁ .listed .ensures i + s .spare-count .ensures i)
 
 open-at-requires : tie.Need-open-at-requires Inv-loop μ-loop
 open-at-requires c κs =
@@ -95,14 +97,18 @@ loop-again : tie.Need-loop-again Inv-loop μ-loop
 loop-again c =
     let t = c .before .before .before .before in
     let l = loop t in
-    let i = l .loop .inv in let k = fit-next i (t .loop-test .taken) in fit-more i (t .loop-test .taken) (sym (c .before .before .before .fits-at .ensures _ _ (k .stands)) ∙ not-false _ (c .before .before .if1 .left)) _ _ (c .before .open-at .ensures _ _ (k .stands)) (c .size .ensures _ _ (k .stands))
+    let i = l .loop .inv in
+    let k = fit-next i (t .loop-test .taken) in
+    fit-more i (t .loop-test .taken) (sym (c .before .before .before .fits-at .ensures _ _ (k .stands)) ∙ not-false _ (c .before .before .if1 .left)) _ _ (c .before .open-at .ensures _ _ (k .stands))
+    (c .size .ensures _ _ (k .stands))
 
 returns-2 : tie.Need-returns-2 Inv-loop μ-loop
 returns-2 c =
     let s = spare-count (c .before) in
     let l = listed s in
     let s₁ = start l in
-    fit-end (c .before .loop .inv) (c .loop-test .left) ∙ ap (λ y. fitFrom (spareIn (s₁ .args .head .now)) (listsIn (s₁ .args .head .now)) y 0 0 (segmentsOf (s₁ .args .words .now))) (λ i. l .listed .ensures i + s .spare-count .ensures i)
+    fit-end (c .before .loop .inv) (c .loop-test .left) ∙ ap (λ y. fitFrom (spareIn (s₁ .args .head .now)) (listsIn (s₁ .args .head .now)) y 0 0 (segmentsOf (s₁ .args .words .now)))
+    (λ i. l .listed .ensures i + s .spare-count .ensures i)
 
 pub lists-fit-spec : {M : Type 1} → statement M
 lists-fit-spec =

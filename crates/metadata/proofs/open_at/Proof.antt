@@ -35,10 +35,16 @@ part-zone-open-end : tie.Need-part-zone-open-end
 part-zone-open-end c = let r = read-at (c .before .before .before .pre .0) (c .before .before .before .pre .1 .2) in let h = zone-here r (sym (r .kind) ∙ c .if1 .left) in omega (arith, h .eight)
 
 zone-open-requires : tie.Need-zone-open-requires
-zone-open-requires c κs = let r = read-at (c .before .before .before .before .pre .0) (c .before .before .before .before .pre .1 .2) in let h = zone-here r (sym (r .kind) ∙ c .before .if1 .left) in h .good
+zone-open-requires c κs =
+    let r = read-at (c .before .before .before .before .pre .0) (c .before .before .before .before .pre .1 .2) in
+    let h = zone-here r (sym (r .kind) ∙ c .before .if1 .left) in
+    h .good
 
 returns-2 : tie.Need-returns-2
-returns-2 c = λ b x s. let r = read-at (c .before .before .before .before .before .pre .0) s in let h = zone-here r (sym (r .kind) ∙ c .before .before .if1 .left) in c .zone-open .ensures ∙ open-zone h
+returns-2 c =
+    λ b x s. let r = read-at (c .before .before .before .before .before .pre .0) s in
+    let h = zone-here r (sym (r .kind) ∙ c .before .before .if1 .left) in
+    c .zone-open .ensures ∙ open-zone h
 
 pub open-at-spec : {M : Type 1} → statement M
 open-at-spec =

@@ -38,7 +38,8 @@ returns-2 c =
     let e = c .before .before .before in
     let i = is-full e in
     let s = start i in
-    c .is-idle .ensures ∙ fits-spare (spareIn (s .args .head .now)) (listsIn (s .args .head .now)) (s .args .page) (zoneOf (s .args .part .now)) (sym (i .is-full .ensures) ∙ e .if1 .left) (sym (c .before .before .spare-contains .ensures) ∙ c .before .if2 .taken)
+    c .is-idle .ensures ∙ fits-spare (spareIn (s .args .head .now)) (listsIn (s .args .head .now)) (s .args .page) (zoneOf (s .args .part .now)) (sym (i .is-full .ensures) ∙ e .if1 .left)
+    (sym (c .before .before .spare-contains .ensures) ∙ c .before .if2 .taken)
 
 class-of-requires : tie.Need-class-of-requires
 class-of-requires c κs = search needs
@@ -53,7 +54,9 @@ returns-3 c =
     let e = c .before .before .before .before in
     let i = is-full e in
     let s = start i in
-    c .contains .ensures ∙ ap (λ k. stands (s .args .page) (getD (listsIn (s .args .head .now)) k [])) (c .before .class-of .ensures) ∙ fits-listed (spareIn (s .args .head .now)) (listsIn (s .args .head .now)) (s .args .page) (zoneOf (s .args .part .now)) (sym (i .is-full .ensures) ∙ e .if1 .left) (sym (c .before .before .before .spare-contains .ensures) ∙ c .before .before .if2 .left)
+    c .contains .ensures ∙ ap (λ k. stands (s .args .page) (getD (listsIn (s .args .head .now)) k [])) (c .before .class-of .ensures) ∙ fits-listed (spareIn (s .args .head .now))
+    (listsIn (s .args .head .now)) (s .args .page) (zoneOf (s .args .part .now)) (sym (i .is-full .ensures) ∙ e .if1 .left)
+    (sym (c .before .before .before .spare-contains .ensures) ∙ c .before .before .if2 .left)
 
 pub zone-fits-spec : {M : Type 1} → statement M
 zone-fits-spec =

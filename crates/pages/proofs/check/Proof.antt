@@ -94,7 +94,9 @@ loop-again c =
     let s = c .before .before .before in
     let t = turn s in
     let l = loop t in
-    let i = l .loop .inv in check-more i (t .loop-test .taken) _ (sized i (s .segment-size .ensures)) (c .before .before .if1 .left) (⊎-elim (λ w a e. eqb-false _ _ (w .1 .left) e) (λ w a e. true-false a (w .left)) (c .if2 .came)) _ refl
+    let i = l .loop .inv in
+    check-more i (t .loop-test .taken) _ (sized i (s .segment-size .ensures)) (c .before .before .if1 .left)
+    (⊎-elim (λ w a e. eqb-false _ _ (w .1 .left) e) (λ w a e. true-false a (w .left)) (c .if2 .came)) _ refl
 
 returns-3 : tie.Need-returns-3 Inv-loop μ-loop
 returns-3 c = check-end (c .before .loop .inv) (c .loop-test .left)

@@ -33,19 +33,22 @@ sub-put-rest : tie.Need-sub-put-rest
 sub-put-rest c =
     let s = c .before .before in
     let s₁ = start s in
-    let h = s₁ .pre in omega (arith, h .1, whole-length _ _ _ 8 (zone (newZone (s₁ .args .class) (s₁ .args .group))) (h .0) (omega arith) (h .1) (h .2) refl (zone-made (newZone (s₁ .args .class) (s₁ .args .group)) (s .set-up .ensures)))
+    let h = s₁ .pre in
+    omega (arith, h .1, whole-length _ _ _ 8 (zone (newZone (s₁ .args .class) (s₁ .args .group))) (h .0) (omega arith) (h .1) (h .2) refl (zone-made (newZone (s₁ .args .class) (s₁ .args .group)) (s .set-up .ensures)))
 
 part-put-rest-start : tie.Need-part-put-rest-start
 part-put-rest-start c =
     let s = c .before .before in
     let s₁ = start s in
-    let h = s₁ .pre in omega (arith, h .1, whole-length _ _ _ 8 (zone (newZone (s₁ .args .class) (s₁ .args .group))) (h .0) (omega arith) (h .1) (h .2) refl (zone-made (newZone (s₁ .args .class) (s₁ .args .group)) (s .set-up .ensures)))
+    let h = s₁ .pre in
+    omega (arith, h .1, whole-length _ _ _ 8 (zone (newZone (s₁ .args .class) (s₁ .args .group))) (h .0) (omega arith) (h .1) (h .2) refl (zone-made (newZone (s₁ .args .class) (s₁ .args .group)) (s .set-up .ensures)))
 
 part-put-rest-end : tie.Need-part-put-rest-end
 part-put-rest-end c =
     let s = c .before .before in
     let s₁ = start s in
-    let h = s₁ .pre in omega (arith, h .1, whole-length _ _ _ 8 (zone (newZone (s₁ .args .class) (s₁ .args .group))) (h .0) (omega arith) (h .1) (h .2) refl (zone-made (newZone (s₁ .args .class) (s₁ .args .group)) (s .set-up .ensures)))
+    let h = s₁ .pre in
+    omega (arith, h .1, whole-length _ _ _ 8 (zone (newZone (s₁ .args .class) (s₁ .args .group))) (h .0) (omega arith) (h .1) (h .2) refl (zone-made (newZone (s₁ .args .class) (s₁ .args .group)) (s .set-up .ensures)))
 
 sub-put-rest-2 : tie.Need-sub-put-rest-2
 sub-put-rest-2 c = search needs
@@ -54,7 +57,8 @@ put-rest-requires : tie.Need-put-rest-requires
 put-rest-requires c κs =
     let s = c .before .before .before in
     let s₁ = start s in
-    let h = s₁ .pre in (rest-zero _ _ _ 8 (zone (newZone (s₁ .args .class) (s₁ .args .group))) (h .0) (omega arith) (h .1) (h .2) refl (zone-made (newZone (s₁ .args .class) (s₁ .args .group)) (s .set-up .ensures)), omega (arith, h .2))
+    let h = s₁ .pre in
+    (rest-zero _ _ _ 8 (zone (newZone (s₁ .args .class) (s₁ .args .group))) (h .0) (omega arith) (h .1) (h .2) refl (zone-made (newZone (s₁ .args .class) (s₁ .args .group)) (s .set-up .ensures)), omega (arith, h .2))
 
 same-length : tie.Need-same-length
 same-length c = search needs
@@ -63,7 +67,9 @@ returns : tie.Need-returns
 returns c =
     let s = c .before .before .before .before .before .before in
     let s₁ = start s in
-    let h = s₁ .pre in cut-made _ _ _ 8 (zone (newZone (s₁ .args .class) (s₁ .args .group))) (h .0) (omega arith) (h .1) (h .2) refl (zone-made (newZone (s₁ .args .class) (s₁ .args .group)) (s .set-up .ensures)) _ (c .before .before .put-rest .ensures)
+    let h = s₁ .pre in
+    cut-made _ _ _ 8 (zone (newZone (s₁ .args .class) (s₁ .args .group))) (h .0) (omega arith) (h .1) (h .2) refl (zone-made (newZone (s₁ .args .class) (s₁ .args .group)) (s .set-up .ensures)) _
+    (c .before .before .put-rest .ensures)
 
 pub cut-zone-spec : {M : Type 1} → statement M
 cut-zone-spec =

@@ -61,7 +61,8 @@ loop-again : tie.Need-loop-again Inv-loop μ-loop
 loop-again c =
     let t = c .before .before .before .before in
     let l = loop t in
-    let k = next (l .loop .inv) (t .loop-test .taken) in spot-past _ (l .loop .inv) (t .loop-test .taken) (c .before .before .before .size .ensures _ _ (k .stands)) (k .read .kind) (c .run-len .result) (c .run-len .ensures) (c .before .if1 .left)
+    let k = next (l .loop .inv) (t .loop-test .taken) in
+    spot-past _ (l .loop .inv) (t .loop-test .taken) (c .before .before .before .size .ensures _ _ (k .stands)) (k .read .kind) (c .run-len .result) (c .run-len .ensures) (c .before .if1 .left)
 
 returns-2 : tie.Need-returns-2 Inv-loop μ-loop
 unfolding spotFrom

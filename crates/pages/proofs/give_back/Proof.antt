@@ -22,16 +22,25 @@ add-e : tie.Need-add-e
 add-e c = let h = c .before .before .before .pre in let q = given-inside (h .0) (h .1 .0) (h .1 .1 .1) (h .1 .1 .2) (h .1 .1 .3) in omega arith
 
 add-e-2 : tie.Need-add-e-2
-add-e-2 c = let h = c .before .before .before .pre in let q = given-inside (h .0) (h .1 .0) (h .1 .1 .1) (h .1 .1 .2) (h .1 .1 .3) in omega (arith, c .run-behind .ensures _ _ (h .1 .1 .1) (h .1 .1 .2))
+add-e-2 c =
+    let h = c .before .before .before .pre in
+    let q = given-inside (h .0) (h .1 .0) (h .1 .1 .1) (h .1 .1 .2) (h .1 .1 .3) in
+    omega (arith, c .run-behind .ensures _ _ (h .1 .1 .1) (h .1 .1 .2))
 
 mul-e : tie.Need-mul-e
 mul-e c = let h = c .before .before .before .pre in let q = given-inside (h .0) (h .1 .0) (h .1 .1 .1) (h .1 .1 .2) (h .1 .1 .3) in omega (arith, c .run-behind .ensures _ _ (h .1 .1 .1) (h .1 .1 .2))
 
 add-e-3 : tie.Need-add-e-3
-add-e-3 c = let h = c .before .before .before .pre in let q = given-inside (h .0) (h .1 .0) (h .1 .1 .1) (h .1 .1 .2) (h .1 .1 .3) in omega (arith, c .run-behind .ensures _ _ (h .1 .1 .1) (h .1 .1 .2))
+add-e-3 c =
+    let h = c .before .before .before .pre in
+    let q = given-inside (h .0) (h .1 .0) (h .1 .1 .1) (h .1 .1 .2) (h .1 .1 .3) in
+    omega (arith, c .run-behind .ensures _ _ (h .1 .1 .1) (h .1 .1 .2))
 
 mul-fuse : tie.Need-mul-fuse
-mul-fuse c = let h = c .before .before .before .pre in let q = given-inside (h .0) (h .1 .0) (h .1 .1 .1) (h .1 .1 .2) (h .1 .1 .3) in omega (arith, c .run-behind .ensures _ _ (h .1 .1 .1) (h .1 .1 .2))
+mul-fuse c =
+    let h = c .before .before .before .pre in
+    let q = given-inside (h .0) (h .1 .0) (h .1 .1 .1) (h .1 .1 .2) (h .1 .1 .3) in
+    omega (arith, c .run-behind .ensures _ _ (h .1 .1 .1) (h .1 .1 .2))
 
 sub-fuse : tie.Need-sub-fuse
 sub-fuse c = search needs
@@ -40,12 +49,18 @@ part-fuse-start : tie.Need-part-fuse-start
 part-fuse-start c = search needs
 
 part-fuse-end : tie.Need-part-fuse-end
-part-fuse-end c = let h = c .before .before .before .pre in let q = given-inside (h .0) (h .1 .0) (h .1 .1 .1) (h .1 .1 .2) (h .1 .1 .3) in omega (arith, c .run-behind .ensures _ _ (h .1 .1 .1) (h .1 .1 .2))
+part-fuse-end c =
+    let h = c .before .before .before .pre in
+    let q = given-inside (h .0) (h .1 .0) (h .1 .1 .1) (h .1 .1 .2) (h .1 .1 .3) in
+    omega (arith, c .run-behind .ensures _ _ (h .1 .1 .1) (h .1 .1 .2))
 
 fuse-requires : tie.Need-fuse-requires
 fuse-requires c κs =
     let s = start (c .before) in
-    let h = s .pre in let q = given-inside (h .0) (h .1 .0) (h .1 .1 .1) (h .1 .1 .2) (h .1 .1 .3) in let e = c .before .run-behind .ensures _ _ (h .1 .1 .1) (h .1 .1 .2) in (h .1 .1 .0, h .1 .1 .2, q .4, omega (arith, e), given-words (h .0) (h .1 .0) (h .1 .1 .1) (h .1 .1 .2) (h .1 .1 .3) _ e)
+    let h = s .pre in
+    let q = given-inside (h .0) (h .1 .0) (h .1 .1 .1) (h .1 .1 .2) (h .1 .1 .3) in
+    let e = c .before .run-behind .ensures _ _ (h .1 .1 .1) (h .1 .1 .2) in
+    (h .1 .1 .0, h .1 .1 .2, q .4, omega (arith, e), given-words (h .0) (h .1 .0) (h .1 .1 .1) (h .1 .1 .2) (h .1 .1 .3) _ e)
 
 same-length : tie.Need-same-length
 same-length c = search needs

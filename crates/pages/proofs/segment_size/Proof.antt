@@ -73,7 +73,8 @@ returns-4 c =
     let e₂ = else2 e₁ in
     let w = wide e₂ in
     let s = start (else1 w) in
-    tested 2 (s .args .words .now) _ _ _ (c .pages-if .ensures) (w .wide .ensures) (c .before .is-zero .ensures) ∙ size-run _ _ (λ e. e₂ .if2 .left (w .wide .ensures ∙ e)) (omega (arith, e₁ .if3 .left, w .wide .ensures)) (c .before .before .before .if4 .taken)
+    tested 2 (s .args .words .now) _ _ _ (c .pages-if .ensures) (w .wide .ensures) (c .before .is-zero .ensures) ∙ size-run _ _ (λ e. e₂ .if2 .left (w .wide .ensures ∙ e))
+    (omega (arith, e₁ .if3 .left, w .wide .ensures)) (c .before .before .before .if4 .taken)
 
 returns-5 : tie.Need-returns-5
 returns-5 c =
@@ -124,7 +125,8 @@ returns-8 c =
     let e₄ = else2 e₃ in
     let w = wide e₄ in
     let s = start (else1 w) in
-    tested 3 (s .args .words .now) _ _ _ (c .pages-if2 .ensures) (w .wide .ensures) (c .before .is-zero2 .ensures) ∙ size-direct _ _ (λ e. e₄ .if2 .left (w .wide .ensures ∙ e)) (omega (arith, e₃ .if3 .left, w .wide .ensures)) (e₂ .if5 .left) (group-some (s .args .words .now) (e₁ .if6 .left) (c .before .before .before .if7 .left))
+    tested 3 (s .args .words .now) _ _ _ (c .pages-if2 .ensures) (w .wide .ensures) (c .before .is-zero2 .ensures) ∙ size-direct _ _ (λ e. e₄ .if2 .left (w .wide .ensures ∙ e))
+    (omega (arith, e₃ .if3 .left, w .wide .ensures)) (e₂ .if5 .left) (group-some (s .args .words .now) (e₁ .if6 .left) (c .before .before .before .if7 .left))
 
 pub segment-size-spec : {M : Type 1} → statement M
 segment-size-spec =

@@ -28,7 +28,10 @@ part-cut-direct-end : tie.Need-part-cut-direct-end
 part-cut-direct-end c = let h = c .before .pre in let r = run-inside (h .0) (h .1 .1) (omega (arith, h .1 .2, h .1 .3)) in omega arith
 
 cut-direct-requires : tie.Need-cut-direct-requires
-cut-direct-requires c κs = let h = c .before .before .pre in let r = run-inside (h .0) (h .1 .1) (omega (arith, h .1 .2, h .1 .3)) in (run-part (h .0) (h .1 .1) (omega (arith, h .1 .2, h .1 .3)), omega (arith, h .1 .2, h .1 .3), omega (arith, h .1 .3), omega arith)
+cut-direct-requires c κs =
+    let h = c .before .before .pre in
+    let r = run-inside (h .0) (h .1 .1) (omega (arith, h .1 .2, h .1 .3)) in
+    (run-part (h .0) (h .1 .1) (omega (arith, h .1 .2, h .1 .3)), omega (arith, h .1 .2, h .1 .3), omega (arith, h .1 .3), omega arith)
 
 same-length : tie.Need-same-length
 same-length c = search needs

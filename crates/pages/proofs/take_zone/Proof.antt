@@ -28,7 +28,10 @@ part-cut-zone-end : tie.Need-part-cut-zone-end
 part-cut-zone-end c = let h = c .before .pre in let r = run-inside (h .0) (h .1 .1) (omega (arith, h .1 .2)) in omega arith
 
 cut-zone-requires : tie.Need-cut-zone-requires
-cut-zone-requires c κs = let h = c .before .before .pre in let r = run-inside (h .0) (h .1 .1) (omega (arith, h .1 .2)) in (run-part (h .0) (h .1 .1) (omega (arith, h .1 .2)), h .1 .2, omega arith, h .1 .3)
+cut-zone-requires c κs =
+    let h = c .before .before .pre in
+    let r = run-inside (h .0) (h .1 .1) (omega (arith, h .1 .2)) in
+    (run-part (h .0) (h .1 .1) (omega (arith, h .1 .2)), h .1 .2, omega arith, h .1 .3)
 
 same-length : tie.Need-same-length
 same-length c = search needs

@@ -26,7 +26,9 @@ pages-if-requires : tie.Need-pages-if-requires
 pages-if-requires c κs = search needs
 
 returns-2 : tie.Need-returns-2
-returns-2 c = c .pages-if .ensures ∙ rw (le-leb zonePages (c .before .before .before .before .before .args .left) (omega (arith, c .before .before .before .if1 .left))) (ap (λ t. cond t 8 0) (c .before .check .ensures))
+returns-2 c =
+    c .pages-if .ensures ∙ rw (le-leb zonePages (c .before .before .before .before .before .args .left) (omega (arith, c .before .before .before .if1 .left)))
+    (ap (λ t. cond t 8 0) (c .before .check .ensures))
 
 pub zone-size-spec : {M : Type 1} → statement M
 zone-size-spec =

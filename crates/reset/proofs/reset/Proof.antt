@@ -37,7 +37,10 @@ returns-3 c =
     let e₁ = c .before .before .before .before in
     let e₂ = else1 e₁ in
     let s₁ = start e₂ in
-    let s = decode (s₁ .args .words .now) in let e = reset-done s (s₁ .args .group) (group-good (s₁ .args .group) (e₂ .if1 .left) (e₁ .if2 .left)) in let d = c .before .before .sweep .ensures in (ap Counted (d .0) ∙ ap (λ y. y .answer) (sym e), by-rule _ _ _ e (d .1) .1)
+    let s = decode (s₁ .args .words .now) in
+    let e = reset-done s (s₁ .args .group) (group-good (s₁ .args .group) (e₂ .if1 .left) (e₁ .if2 .left)) in
+    let d = c .before .before .sweep .ensures in
+    (ap Counted (d .0) ∙ ap (λ y. y .answer) (sym e), by-rule _ _ _ e (d .1) .1)
 
 pub reset-spec : {M : Type 1} → statement M
 reset-spec = tie.close (tie.spec returns returns-2 sweep-requires same-length returns-3)

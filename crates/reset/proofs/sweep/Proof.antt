@@ -11,7 +11,8 @@ use Rattle.reset.proofs.sweep.Statement.{statement}
 use Rattle.reset.proofs.sweep.Tie as tie
 
 abbrev Inv-loop : tie.InvT-loop
-Inv-loop words₀ n group p₀ before₀ count₀ words p before count = Sweep group (freedAll (offsetsOf group (decode words₀)) (decode words₀)) (length (offsetsOf group (decode words₀))) words n p before count
+Inv-loop words₀ n group p₀ before₀ count₀ words p before count =
+    Sweep group (freedAll (offsetsOf group (decode words₀)) (decode words₀)) (length (offsetsOf group (decode words₀))) words n p before count
 
 abbrev μ-loop : tie.MeasureT-loop
 μ-loop words₀ n group p₀ before₀ count₀ words p before count = n - p

@@ -40,7 +40,8 @@ returns c =
     let t₁ = c .before .before .before .before in
     let k₁ = kind-at t₁ in
     let s = start k₁ in
-    let h = s .pre in (λ t x k i. let H = here i (h .1) in c .before .before .sweep-zone .ensures .0 t x k (step-zone i H (sym (k₁ .kind-at .ensures _ _ (here-stands i H)) ∙ t₁ .if1 .taken)), c .before .before .sweep-zone .ensures .1)
+    let h = s .pre in
+    (λ t x k i. let H = here i (h .1) in c .before .before .sweep-zone .ensures .0 t x k (step-zone i H (sym (k₁ .kind-at .ensures _ _ (here-stands i H)) ∙ t₁ .if1 .taken)), c .before .before .sweep-zone .ensures .1)
 
 size-at-requires : tie.Need-size-at-requires
 size-at-requires c κs =
@@ -59,14 +60,22 @@ returns-2 : tie.Need-returns-2
 returns-2 c =
     let k₁ = kind-at-before-else1 (else1 (c .before)) in
     let s = start k₁ in
-    let h = s .pre in let S = h .2 .3 in let H = here S (h .1) in (λ t x k i. let G = here i (h .1) in step-run i G _ _ (c .before .size-at .ensures _ _ (here-stands i G)) refl (sym (k₁ .kind-at .ensures _ _ (here-stands i G)) ∙ c .if2 .taken), step-on S H _ _ (c .before .size-at .ensures _ _ (here-stands S H)) refl)
+    let h = s .pre in
+    let S = h .2 .3 in
+    let H = here S (h .1) in
+    (λ t x k i. let G = here i (h .1) in step-run i G _ _ (c .before .size-at .ensures _ _ (here-stands i G)) refl (sym (k₁ .kind-at .ensures _ _ (here-stands i G)) ∙ c .if2 .taken), step-on S H _ _ (c .before .size-at .ensures _ _ (here-stands S H)) refl)
 
 group-at-requires : tie.Need-group-at-requires
 group-at-requires c κs =
     let e₁ = else1 (size-at (c .before)) in
     let k = kind-at-before-else1 e₁ in
     let s = start k in
-    let h = s .pre in let S = h .2 .3 in let H = here S (h .1) in let e = k .kind-at .ensures _ _ (here-stands S H) in let d = step-direct S H (λ y. e₁ .if1 .left (e ∙ y)) (λ y. c .before .if2 .left (e ∙ y)) in ((S .good .lent, S .good .pages), (_, _, _, step-stands S H _ _ _ refl (d .1) refl))
+    let h = s .pre in
+    let S = h .2 .3 in
+    let H = here S (h .1) in
+    let e = k .kind-at .ensures _ _ (here-stands S H) in
+    let d = step-direct S H (λ y. e₁ .if1 .left (e ∙ y)) (λ y. c .before .if2 .left (e ∙ y)) in
+    ((S .good .lent, S .good .pages), (_, _, _, step-stands S H _ _ _ refl (d .1) refl))
 
 sweep-direct-requires : tie.Need-sweep-direct-requires
 sweep-direct-requires c κs =
@@ -75,7 +84,12 @@ sweep-direct-requires c κs =
     let e₂ = else1 s in
     let k = kind-at-before-else1 e₂ in
     let s₁ = start k in
-    let h = s₁ .pre in let S = h .2 .3 in let H = here S (h .1) in let e = k .kind-at .ensures _ _ (here-stands S H) in let d = step-direct S H (λ y. e₂ .if1 .left (e ∙ y)) (λ y. e₁ .if2 .left (e ∙ y)) in (S .good, step-stands S H _ _ _ (s .size-at .ensures _ _ (here-stands S H)) (d .1) (sym (c .before .before .group-at .ensures _ _ _ (step-stands S H _ _ _ refl (d .1) refl)) ∙ c .before .if3 .taken))
+    let h = s₁ .pre in
+    let S = h .2 .3 in
+    let H = here S (h .1) in
+    let e = k .kind-at .ensures _ _ (here-stands S H) in
+    let d = step-direct S H (λ y. e₂ .if1 .left (e ∙ y)) (λ y. e₁ .if2 .left (e ∙ y)) in
+    (S .good, step-stands S H _ _ _ (s .size-at .ensures _ _ (here-stands S H)) (d .1) (sym (c .before .before .group-at .ensures _ _ _ (step-stands S H _ _ _ refl (d .1) refl)) ∙ c .before .if3 .taken))
 
 same-length-3 : tie.Need-same-length-3
 same-length-3 c = search needs
@@ -93,7 +107,10 @@ returns-4 c =
     let e₂ = else1 s in
     let k₁ = kind-at-before-else1 e₂ in
     let s₁ = start k₁ in
-    let h = s₁ .pre in let S = h .2 .3 in let H = here S (h .1) in (λ t x k i. let G = here i (h .1) in let e = k₁ .kind-at .ensures _ _ (here-stands i G) in let d = step-direct i G (λ y. e₂ .if1 .left (e ∙ y)) (λ y. e₁ .if2 .left (e ∙ y)) in step-other i G _ _ (d .0) (s .size-at .ensures _ _ (here-stands i G)) refl (d .1) (λ y. c .if3 .left (c .before .group-at .ensures _ _ _ (step-stands i G _ _ _ refl (d .1) refl) ∙ y)), step-on S H _ _ (s .size-at .ensures _ _ (here-stands S H)) refl)
+    let h = s₁ .pre in
+    let S = h .2 .3 in
+    let H = here S (h .1) in
+    (λ t x k i. let G = here i (h .1) in let e = k₁ .kind-at .ensures _ _ (here-stands i G) in let d = step-direct i G (λ y. e₂ .if1 .left (e ∙ y)) (λ y. e₁ .if2 .left (e ∙ y)) in step-other i G _ _ (d .0) (s .size-at .ensures _ _ (here-stands i G)) refl (d .1) (λ y. c .if3 .left (c .before .group-at .ensures _ _ _ (step-stands i G _ _ _ refl (d .1) refl) ∙ y)), step-on S H _ _ (s .size-at .ensures _ _ (here-stands S H)) refl)
 
 pub sweep-at-spec : {M : Type 1} → statement M
 sweep-at-spec =

@@ -80,7 +80,11 @@ loop-again-2 c =
     let t = turn z in
     let l = loop t in
     let s = start l in
-    let h = s .pre in let a = l .loop .inv in let e = z .zone-owner .ensures in let d = c₁ .chunk-back .ensures in walk-stays (h .1 .3) a _ e (t .loop-test .taken) (h .0) (e₁ .if1 .left) (d .0) (c₁ .chunk-back .result) (not-false _ (c .if2 .left)) (d .1)
+    let h = s .pre in
+    let a = l .loop .inv in
+    let e = z .zone-owner .ensures in
+    let d = c₁ .chunk-back .ensures in
+    walk-stays (h .1 .3) a _ e (t .loop-test .taken) (h .0) (e₁ .if1 .left) (d .0) (c₁ .chunk-back .result) (not-false _ (c .if2 .left)) (d .1)
 
 sub-behind-run : tie.Need-sub-behind-run Inv-loop μ-loop
 sub-behind-run c =
@@ -90,7 +94,9 @@ sub-behind-run c =
     let t = turn z in
     let l = loop t in
     let s = start l in
-    let h = s .pre in walk-low (h .1 .3) (l .loop .inv) _ (z .zone-owner .ensures) (t .loop-test .taken) (h .0) (e .if1 .left) (c₁ .chunk-back .ensures .0) (c₁ .chunk-back .result) (not-true _ (c .before .if2 .taken)) (c₁ .chunk-back .ensures .1)
+    let h = s .pre in
+    walk-low (h .1 .3) (l .loop .inv) _ (z .zone-owner .ensures) (t .loop-test .taken) (h .0) (e .if1 .left) (c₁ .chunk-back .ensures .0) (c₁ .chunk-back .result) (not-true _ (c .before .if2 .taken))
+    (c₁ .chunk-back .ensures .1)
 
 behind-run-requires : tie.Need-behind-run-requires Inv-loop μ-loop
 behind-run-requires c κs =
@@ -100,7 +106,11 @@ behind-run-requires c κs =
     let t = turn z in
     let l = loop t in
     let s = start l in
-    let h = s .pre in let a = l .loop .inv in let e = z .zone-owner .ensures in let d = c₁ .chunk-back .ensures in (walk-gone-good (h .1 .3) a _ e (t .loop-test .taken) (h .0) (e₁ .if1 .left) (d .0) (c₁ .chunk-back .result) (not-true _ (c .before .if2 .taken)) (d .1), walk-run (h .1 .3) a _ e (t .loop-test .taken) (h .0) (e₁ .if1 .left) (d .0) (c₁ .chunk-back .result) (not-true _ (c .before .if2 .taken)) (d .1))
+    let h = s .pre in
+    let a = l .loop .inv in
+    let e = z .zone-owner .ensures in
+    let d = c₁ .chunk-back .ensures in
+    (walk-gone-good (h .1 .3) a _ e (t .loop-test .taken) (h .0) (e₁ .if1 .left) (d .0) (c₁ .chunk-back .result) (not-true _ (c .before .if2 .taken)) (d .1), walk-run (h .1 .3) a _ e (t .loop-test .taken) (h .0) (e₁ .if1 .left) (d .0) (c₁ .chunk-back .result) (not-true _ (c .before .if2 .taken)) (d .1))
 
 same-length : tie.Need-same-length Inv-loop μ-loop
 same-length c =
@@ -110,7 +120,11 @@ same-length c =
     let t = turn z in
     let l = loop t in
     let s = start l in
-    let h = s .pre in let a = l .loop .inv in let e = z .zone-owner .ensures in let d = c₁ .chunk-back .ensures in walk-gone-long (h .1 .3) a _ e (t .loop-test .taken) (h .0) (e₁ .if1 .left) (d .0) (c₁ .chunk-back .result) (not-true _ (c .before .before .if2 .taken)) (d .1)
+    let h = s .pre in
+    let a = l .loop .inv in
+    let e = z .zone-owner .ensures in
+    let d = c₁ .chunk-back .ensures in
+    walk-gone-long (h .1 .3) a _ e (t .loop-test .taken) (h .0) (e₁ .if1 .left) (d .0) (c₁ .chunk-back .result) (not-true _ (c .before .before .if2 .taken)) (d .1)
 
 returns : tie.Need-returns Inv-loop μ-loop
 returns c =
@@ -120,7 +134,11 @@ returns c =
     let t = turn z in
     let l = loop t in
     let s = start l in
-    let h = s .pre in let a = l .loop .inv in let e = z .zone-owner .ensures in let d = c₁ .chunk-back .ensures in walk-gone (h .1 .3) a _ e (t .loop-test .taken) (h .0) (e₁ .if1 .left) (d .0) (c₁ .chunk-back .result) (not-true _ (c .before .before .if2 .taken)) (d .1) _ _ _ (c .behind-run .ensures)
+    let h = s .pre in
+    let a = l .loop .inv in
+    let e = z .zone-owner .ensures in
+    let d = c₁ .chunk-back .ensures in
+    walk-gone (h .1 .3) a _ e (t .loop-test .taken) (h .0) (e₁ .if1 .left) (d .0) (c₁ .chunk-back .result) (not-true _ (c .before .before .if2 .taken)) (d .1) _ _ _ (c .behind-run .ensures)
 
 add-i-2 : tie.Need-add-i-2 Inv-loop μ-loop
 add-i-2 c = search needs

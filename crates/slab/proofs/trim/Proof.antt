@@ -42,7 +42,10 @@ returns-2 c =
     let w = c .before .before .before .before in
     let e₁ = else1 w in
     let a = arena-pages e₁ in
-    let h = arena-of _ _ (a .arena-pages .ensures) (e₁ .if1 .left) in let e = w .words-for .ensures in let r = c .before .before .trim-all .ensures in arena-served h _ e _ _ _ (r .1) (ap Counted (r .0))
+    let h = arena-of _ _ (a .arena-pages .ensures) (e₁ .if1 .left) in
+    let e = w .words-for .ensures in
+    let r = c .before .before .trim-all .ensures in
+    arena-served h _ e _ _ _ (r .1) (ap Counted (r .0))
 
 pub trim-spec : {M : Type 1} → statement M
 trim-spec =

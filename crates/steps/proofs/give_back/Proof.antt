@@ -24,7 +24,8 @@ part-give-back-end c = search needs
 give-back-requires : tie.Need-give-back-requires
 give-back-requires c κs =
     let s = c .before .before in
-    let h = s .pre in (body-holds (h .0 .0) _ (h .0 .1), (in-body (h .0 .0) (λ m. Apart false m) (h .1 .0), in-body (h .0 .0) (λ m. (x : Segment Zone) × Stands m (s .args .at) (s .args .before) x × (pages x ≡ s .args .len) × (runPages x ≡ 0)) (h .1 .1)))
+    let h = s .pre in
+    (body-holds (h .0 .0) _ (h .0 .1), (in-body (h .0 .0) (λ m. Apart false m) (h .1 .0), in-body (h .0 .0) (λ m. (x : Segment Zone) × Stands m (s .args .at) (s .args .before) x × (pages x ≡ s .args .len) × (runPages x ≡ 0)) (h .1 .1)))
 
 same-length : tie.Need-same-length
 same-length c = search needs

@@ -29,7 +29,9 @@ same-length c = search needs
 returns : tie.Need-returns
 returns c =
     let s = c .before .before .before .before .before in
-    let h = s .pre in body-back (h .0 .0) _ (λ m. carve (record { page = s .args .at; size = s .args .len }) (s .args .need) (direct (s .args .need) (s .args .group)) m) (carve-total (h .1 .1) (s .args .need) (direct (s .args .need) (s .args .group)) refl (h .1 .2) (h .1 .3)) (c .before .before .take-direct .ensures)
+    let h = s .pre in
+    body-back (h .0 .0) _ (λ m. carve (record { page = s .args .at; size = s .args .len }) (s .args .need) (direct (s .args .need) (s .args .group)) m)
+    (carve-total (h .1 .1) (s .args .need) (direct (s .args .need) (s .args .group)) refl (h .1 .2) (h .1 .3)) (c .before .before .take-direct .ensures)
 
 pub take-direct-spec : {M : Type 1} → statement M
 take-direct-spec =

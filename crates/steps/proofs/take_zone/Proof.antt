@@ -32,7 +32,9 @@ same-length c = search needs
 returns : tie.Need-returns
 returns c =
     let s = c .before .before .before .before .before in
-    let h = s .pre in body-back (h .0 .0) _ (λ m. carve (record { page = s .args .at; size = s .args .len }) zonePages (zone (newZone (s .args .class) (s .args .group))) m) (carve-total (h .1 .1) 8 (zone (newZone (s .args .class) (s .args .group))) refl (omega arith) (h .1 .2)) (c .before .before .take-zone .ensures)
+    let h = s .pre in
+    body-back (h .0 .0) _ (λ m. carve (record { page = s .args .at; size = s .args .len }) zonePages (zone (newZone (s .args .class) (s .args .group))) m)
+    (carve-total (h .1 .1) 8 (zone (newZone (s .args .class) (s .args .group))) refl (omega arith) (h .1 .2)) (c .before .before .take-zone .ensures)
 
 pub take-zone-spec : {M : Type 1} → statement M
 take-zone-spec =

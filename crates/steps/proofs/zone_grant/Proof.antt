@@ -30,7 +30,10 @@ part-grant-end : tie.Need-part-grant-end
 part-grant-end c = let h = c .before .before .pre in let r = part-end (h .0) _ (h .1) _ (c .zone-start .ensures) in omega arith
 
 grant-requires : tie.Need-grant-requires
-grant-requires c κs = let h = c .before .before .before .pre in let a = c .before .zone-start .ensures in (part-zone (h .0) _ (h .1) _ a, ap (λ z. full z) (part-is (h .0) _ (h .1) _ a) ∙ h .2, h .3, h .4)
+grant-requires c κs =
+    let h = c .before .before .before .pre in
+    let a = c .before .zone-start .ensures in
+    (part-zone (h .0) _ (h .1) _ a, ap (λ z. full z) (part-is (h .0) _ (h .1) _ a) ∙ h .2, h .3, h .4)
 
 same-length : tie.Need-same-length
 same-length c = search needs
@@ -39,7 +42,10 @@ returns : tie.Need-returns
 returns c =
     let z₁ = c .before .before .before .before in
     let s = start z₁ in
-    let h = s .pre in let a = z₁ .zone-start .ensures in let e = c .before .before .grant .ensures in (e .0 ∙ ap (λ z. nextChunk z) (part-is (h .0) _ (h .1) _ a), part-put (h .0) _ (h .1) _ a (λ z. granted (s .args .group) z) _ (e .1))
+    let h = s .pre in
+    let a = z₁ .zone-start .ensures in
+    let e = c .before .before .grant .ensures in
+    (e .0 ∙ ap (λ z. nextChunk z) (part-is (h .0) _ (h .1) _ a), part-put (h .0) _ (h .1) _ a (λ z. granted (s .args .group) z) _ (e .1))
 
 pub zone-grant-spec : {M : Type 1} → statement M
 zone-grant-spec =

@@ -32,7 +32,10 @@ part-put-back-end : tie.Need-part-put-back-end
 part-put-back-end c = let h = c .before .before .pre in let r = part-end (h .0) _ (h .1) _ (c .zone-start .ensures) in omega arith
 
 put-back-requires : tie.Need-put-back-requires
-put-back-requires c κs = let h = c .before .before .before .pre in let a = c .before .zone-start .ensures in (part-zone (h .0) _ (h .1) _ a, subst (λ z. 0 < getD (z .owners) (c .before .before .before .args .chunk) 0) (sym (part-is (h .0) _ (h .1) _ a)) (h .2))
+put-back-requires c κs =
+    let h = c .before .before .before .pre in
+    let a = c .before .zone-start .ensures in
+    (part-zone (h .0) _ (h .1) _ a, subst (λ z. 0 < getD (z .owners) (c .before .before .before .args .chunk) 0) (sym (part-is (h .0) _ (h .1) _ a)) (h .2))
 
 same-length : tie.Need-same-length
 same-length c = search needs

@@ -56,7 +56,9 @@ loop-holds : tie.Need-loop-holds Inv-loop μ-loop
 loop-holds c =
     let e₁ = c .before .before .before .before in
     let s₁ = start e₁ in
-    let e = sym (c .before .before .is-digit .ensures) ∙ not-false _ (c .before .if2 .left) in let d = digit-range (getD (s₁ .args .s .now) (s₁ .args .at) 0) e in (omega arith, omega (arith, c .wide .ensures, d .1), begins _ _ (e₁ .if1 .left) e (c .wide .ensures))
+    let e = sym (c .before .before .is-digit .ensures) ∙ not-false _ (c .before .if2 .left) in
+    let d = digit-range (getD (s₁ .args .s .now) (s₁ .args .at) 0) e in
+    (omega arith, omega (arith, c .wide .ensures, d .1), begins _ _ (e₁ .if1 .left) e (c .wide .ensures))
 
 shared-slice-read-b : tie.Need-shared-slice-read-b Inv-loop μ-loop
 shared-slice-read-b c = search needs
@@ -101,7 +103,8 @@ returns-5 c =
     let i = c .before .before .before .before in
     let t = turn i in
     let l = loop-before-turn t in
-    on-large _ (l .loop .v) _ (t .loop-test .taken) (sym (i .is-digit2 .ensures) ∙ not-false _ (c .before .before .before .if3 .left)) (c .before .wide2 .ensures) (omega (arith, c .if5 .taken)) ∙ l .loop .inv .2
+    on-large _ (l .loop .v) _ (t .loop-test .taken) (sym (i .is-digit2 .ensures) ∙ not-false _ (c .before .before .before .if3 .left)) (c .before .wide2 .ensures) (omega (arith, c .if5 .taken))
+    ∙ l .loop .inv .2
 
 add-i-2 : tie.Need-add-i-2 Inv-loop μ-loop
 add-i-2 c = search needs

@@ -23,40 +23,69 @@ idle-at-requires : tie.Need-idle-at-requires Inv-loop μ-loop
 idle-at-requires c κs = let i = c .before .before .loop .inv in let h = c .before .loop-test .taken in (i .lent, (_, _, stands i h))
 
 give-zone-requires : tie.Need-give-zone-requires Inv-loop μ-loop
-give-zone-requires c κs = let i = c .before .before .before .before .before .loop .inv in let h = c .before .before .before .before .loop-test .taken in let f = sym (c .before .before .idle-at .ensures _ _ (stands i h)) ∙ c .before .if1 .taken in ((i .lent, i .sweep .size), (i .sweep .apart, (_, _, between i h f)))
+give-zone-requires c κs =
+    let i = c .before .before .before .before .before .loop .inv in
+    let h = c .before .before .before .before .loop-test .taken in
+    let f = sym (c .before .before .idle-at .ensures _ _ (stands i h)) ∙ c .before .if1 .taken in
+    ((i .lent, i .sweep .size), (i .sweep .apart, (_, _, between i h f)))
 
 sub-p : tie.Need-sub-p Inv-loop μ-loop
 sub-p c = search needs
 
 add-p : tie.Need-add-p Inv-loop μ-loop
-add-p c = let i = c .before .before .before .before .before .before .before .before .loop .inv in let h = c .before .before .before .before .before .before .before .loop-test .taken in let f = sym (c .before .before .before .before .before .idle-at .ensures _ _ (stands i h)) ∙ c .before .before .before .before .if1 .taken in omega (arith, trim-bound i h f, c .before .before .give-zone .ensures _ _ (between i h f))
+add-p c =
+    let i = c .before .before .before .before .before .before .before .before .loop .inv in
+    let h = c .before .before .before .before .before .before .before .loop-test .taken in
+    let f = sym (c .before .before .before .before .before .idle-at .ensures _ _ (stands i h)) ∙ c .before .before .before .before .if1 .taken in
+    omega (arith, trim-bound i h f, c .before .before .give-zone .ensures _ _ (between i h f))
 
 add-count : tie.Need-add-count Inv-loop μ-loop
 add-count c = search needs
 
 loop-less : tie.Need-loop-less Inv-loop μ-loop
-loop-less c = let i = c .before .before .before .before .before .before .before .before .loop .inv in let h = c .before .before .before .before .before .before .before .loop-test .taken in let f = sym (c .before .before .before .before .before .idle-at .ensures _ _ (stands i h)) ∙ c .before .before .before .before .if1 .taken in omega (arith, trim-bound i h f, c .before .before .give-zone .ensures _ _ (between i h f))
+loop-less c =
+    let i = c .before .before .before .before .before .before .before .before .loop .inv in
+    let h = c .before .before .before .before .before .before .before .loop-test .taken in
+    let f = sym (c .before .before .before .before .before .idle-at .ensures _ _ (stands i h)) ∙ c .before .before .before .before .if1 .taken in
+    omega (arith, trim-bound i h f, c .before .before .give-zone .ensures _ _ (between i h f))
 
 loop-again : tie.Need-loop-again Inv-loop μ-loop
-loop-again c = let i = c .before .before .before .before .before .before .before .before .loop .inv in let h = c .before .before .before .before .before .before .before .loop-test .taken in let f = sym (c .before .before .before .before .before .idle-at .ensures _ _ (stands i h)) ∙ c .before .before .before .before .if1 .taken in trim-given i h f _ _ (c .before .before .give-zone .ensures _ _ (between i h f))
+loop-again c =
+    let i = c .before .before .before .before .before .before .before .before .loop .inv in
+    let h = c .before .before .before .before .before .before .before .loop-test .taken in
+    let f = sym (c .before .before .before .before .before .idle-at .ensures _ _ (stands i h)) ∙ c .before .before .before .before .if1 .taken in
+    trim-given i h f _ _ (c .before .before .give-zone .ensures _ _ (between i h f))
 
 size-at-requires : tie.Need-size-at-requires Inv-loop μ-loop
 size-at-requires c κs = let i = c .before .before .before .before .before .loop .inv in let h = c .before .before .before .before .loop-test .taken in ((i .lent, i .sweep .size), (_, _, stands i h))
 
 kind-at-requires : tie.Need-kind-at-requires Inv-loop μ-loop
-kind-at-requires c κs = let i = c .before .before .before .before .before .before .before .loop .inv in let h = c .before .before .before .before .before .before .loop-test .taken in (i .lent, (_, _, stands i h))
+kind-at-requires c κs =
+    let i = c .before .before .before .before .before .before .before .loop .inv in
+    let h = c .before .before .before .before .before .before .loop-test .taken in
+    (i .lent, (_, _, stands i h))
 
 run-len-requires : tie.Need-run-len-requires Inv-loop μ-loop
 run-len-requires c κs = search needs
 
 add-p-2 : tie.Need-add-p-2 Inv-loop μ-loop
-add-p-2 c = let i = c .before .before .before .before .before .before .before .before .before .loop .inv in let h = c .before .before .before .before .before .before .before .before .loop-test .taken in omega (arith, trim-inside i h, c .before .before .before .size-at .ensures _ _ (stands i h), i .most)
+add-p-2 c =
+    let i = c .before .before .before .before .before .before .before .before .before .loop .inv in
+    let h = c .before .before .before .before .before .before .before .before .loop-test .taken in
+    omega (arith, trim-inside i h, c .before .before .before .size-at .ensures _ _ (stands i h), i .most)
 
 loop-less-2 : tie.Need-loop-less-2 Inv-loop μ-loop
-loop-less-2 c = let i = c .before .before .before .before .before .before .before .before .before .loop .inv in let h = c .before .before .before .before .before .before .before .before .loop-test .taken in omega (arith, trim-inside i h, c .before .before .before .size-at .ensures _ _ (stands i h))
+loop-less-2 c =
+    let i = c .before .before .before .before .before .before .before .before .before .loop .inv in
+    let h = c .before .before .before .before .before .before .before .before .loop-test .taken in
+    omega (arith, trim-inside i h, c .before .before .before .size-at .ensures _ _ (stands i h))
 
 loop-again-2 : tie.Need-loop-again-2 Inv-loop μ-loop
-loop-again-2 c = let i = c .before .before .before .before .before .before .before .before .before .loop .inv in let h = c .before .before .before .before .before .before .before .before .loop-test .taken in trim-past i h (sym (c .before .before .before .before .before .before .idle-at .ensures _ _ (stands i h)) ∙ c .before .before .before .before .before .if1 .left) _ _ (c .before .before .before .size-at .ensures _ _ (stands i h)) (c .before .kind-at .ensures _ _ (stands i h)) _ (c .run-len .ensures)
+loop-again-2 c =
+    let i = c .before .before .before .before .before .before .before .before .before .loop .inv in
+    let h = c .before .before .before .before .before .before .before .before .loop-test .taken in
+    trim-past i h (sym (c .before .before .before .before .before .before .idle-at .ensures _ _ (stands i h)) ∙ c .before .before .before .before .before .if1 .left) _ _
+    (c .before .before .before .size-at .ensures _ _ (stands i h)) (c .before .kind-at .ensures _ _ (stands i h)) _ (c .run-len .ensures)
 
 same-length : tie.Need-same-length Inv-loop μ-loop
 same-length c = trim-long (c .before .before .before .before .before .before .before .pre) (c .before .before .before .before .spare-none .ensures) (c .before .loop .inv)

@@ -22,7 +22,9 @@ same-length : tie.Need-same-length
 same-length c = search needs
 
 returns : tie.Need-returns
-returns c = let a = c .before .before .before .before .before .before .before .args in c .before .before .list-without .ensures ∙ ap (λ k. encode (unlisted k (a .p) (decode (a .words .now)))) (c .before .before .before .before .zone-class .ensures)
+returns c =
+    let a = c .before .before .before .before .before .before .before .args in
+    c .before .before .list-without .ensures ∙ ap (λ k. encode (unlisted k (a .p) (decode (a .words .now)))) (c .before .before .before .before .zone-class .ensures)
 
 pub unlist-spec : {M : Type 1} → statement M
 unlist-spec =
