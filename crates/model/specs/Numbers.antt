@@ -1,4 +1,4 @@
--- The numbers of document 01, each under one name. Definitions, contracts and proofs cite the names. Assumes nothing.
+-- The numbers of document 01 that several rules use, each under one name. Definitions, contracts and proofs cite the names. Assumes nothing.
 use Prim.Native.Nat.{ℕ}
 
 -- The bytes of a page; the pages and the bytes of a zone.
