@@ -1,12 +1,12 @@
 -- A request by its cases: a refusal, whole pages, or a chunk. Assumes nothing.
 use Prim.Native.Nat.{ℕ, _*_, _≤_, _<_}
 use mathlib.Core.Path.{_≡_, refl, sym, ap, _∙_, subst}
-use mathlib.Core.Bool.{true, false, _&&_}
+use mathlib.Core.Bool.{true, false}
 use mathlib.Core.List.{List}
 use mathlib.Core.Option.{some}
 use native.Mathlib.Omega.{arith}
 use lib.Dec.{leb}
-use borrow.Author.Tests.{leb-true, le-leb, lt-leb, lt-ltb, le-ltb}
+use borrow.Author.Tests.{leb-true, lt-ltb, le-ltb}
 use Rattle.lemmas.proofs.Cases.{and-right}
 use Rattle.model.specs.Numbers.{mostPages, mostBytes}
 use Rattle.model.specs.declared.Answer.{Answer}
@@ -31,13 +31,6 @@ use Rattle.allocate.proofs.Places.{Free, free}
 -- What makes an outcome makes one that is the same.
 pub made : {o o′ : Outcome State} {r : Answer} {w : List ℕ} → o ≡ o′ → Makes o r w → Makes o′ r w
 made {r} {w} e k = subst (λ o. Makes o r w) e k
-
--- The tests of a request, in two comparisons each.
-pub range-below : (n most : ℕ) → n < 1 → false ≡ (leb 1 n && leb n most)
-range-below n most h = ap (λ b. b && leb n most) (sym (lt-leb 1 n h))
-
-pub range-from : (n most : ℕ) → 1 ≤ n → leb n most ≡ (leb 1 n && leb n most)
-range-from n most h = ap (λ b. b && leb n most) (sym (le-leb 1 n h))
 
 pub size-most : (n : ℕ) → sizeOk n ≡ true → n ≤ mostBytes
 size-most n t = leb-true n mostBytes (and-right (leb 1 n) (leb n mostBytes) t)

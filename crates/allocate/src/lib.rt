@@ -4,7 +4,7 @@ ghost use mathlib.Core.Path.{_≡_};
 ghost use Prim.Native.Nat.{_≤_, _<_};
 ghost use Rattle.model.specs.Pages.{claim};
 ghost use Rattle.model.specs.State.{listOf};
-ghost use Rattle.model.specs.Calls.{groupOk, sizeOk};
+ghost use Rattle.model.specs.Calls.{sizeOk};
 ghost use Rattle.model.specs.Allocate.{directFrom, chunkFrom, supplied, allocate as allocated};
 ghost use Rattle.header.specs.declared.Front.the-variants.{Page, Nothing};
 ghost use Rattle.header.specs.Front.{frontOf};
@@ -15,23 +15,14 @@ ghost use Rattle.allocate.specs.Asked.{Asked};
 ghost use Rattle.steps.specs.Outcomes.{Makes};
 ghost use Rattle.model.specs.Numbers.{mostGroup, classCount, mostBytes};
 use header::Front;
-use header::WORDS as HEADER;
 use model::Answer;
 use model::Refusal;
+use model::numbers::HEADER_WORDS;
+use model::numbers::LARGE_SIZE;
+use model::numbers::MOST_BYTES;
+use model::numbers::PAGE_BYTES;
+use model::numbers::ZONE_PAGES;
 use pages::Found;
-
-// The bytes of a page, and the pages of a zone.
-const PAGE_BYTES: u32 = 4096;
-
-const ZONE_PAGES: usize = 8;
-
-// The size from which a request takes whole pages.
-const LARGE: u32 = 8192;
-
-// The groups, and the largest size.
-const GROUPS: u32 = 12;
-
-const MOST_BYTES: u32 = 1048576;
 
 // ---- what is looked up
 
@@ -40,7 +31,7 @@ fn list_first(words: &[u32], class: u32) -> Front
     requires { ⌜ Lent (now words) × (class < classCount) ⌝ }
     ensures { λ r. ⌜ r ≡ frontOf (listOf (decode (now (words .entry))) class) ⌝ }
 {
-    header::first(&words[..HEADER], class)
+    header::first(&words[..HEADER_WORDS], class)
 }
 
 // The front of the empty list.
@@ -48,7 +39,7 @@ fn spare_first(words: &[u32]) -> Front
     requires { ⌜ Lent (now words) ⌝ }
     ensures { λ r. ⌜ r ≡ frontOf (decode (now (words .entry)) .spare) ⌝ }
 {
-    header::spare_first(&words[..HEADER])
+    header::spare_first(&words[..HEADER_WORDS])
 }
 
 // The first free run, in ascending order, that has `need` pages.
@@ -56,7 +47,7 @@ fn find_run(words: &[u32], n: usize, need: usize) -> Found
     requires { ⌜ Good (now words) n ⌝ }
     ensures { λ r. ⌜ r ≡ found (claim need (decode (now (words .entry)) .segments)) ⌝ }
 {
-    pages::find_run(&words[HEADER..], n, need)
+    pages::find::find_run(&words[HEADER_WORDS..], n, need)
 }
 
 // ---- whole pages
@@ -141,21 +132,11 @@ fn supply(words: &mut [u32], n: usize, group: u32, size: u32) -> Answer
     requires { ⌜ (0 < group) × (group ≤ mostGroup) × (0 < size) × (size ≤ mostBytes) ⌝ }
     ensures { λ r. ⌜ Makes (supplied group size (decode (now (words .entry)))) r (now (words .exit)) ⌝ }
 {
-    if size < LARGE {
+    if size < LARGE_SIZE {
         return supply_chunk(words, n, zone::sizes::class_of_size(size), group);
     }
     let need = (size + (PAGE_BYTES - 1)) / PAGE_BYTES;
     supply_pages(words, n, group, need as usize)
-}
-
-// Whether the group may call.
-fn group_ok(group: u32) -> bool
-    ensures { λ r. ⌜ r ≡ groupOk group ⌝ }
-{
-    if group < 1 {
-        return false;
-    }
-    group <= GROUPS
 }
 
 // Whether the size may be asked for.
@@ -173,7 +154,7 @@ pub fn allocate(words: &mut [u32], n: usize, group: u32, size: u32) -> Answer
     requires { ⌜ Good (now words) n ⌝ }
     ensures { λ r. ⌜ Makes (allocated group size (decode (now (words .entry)))) r (now (words .exit)) ⌝ }
 {
-    if !group_ok(group) {
+    if !model::group_ok(group) {
         return Answer::Refused(Refusal::BadGroup);
     }
     if !size_ok(size) {

@@ -74,7 +74,7 @@ fn serve_end(reader: Reader, meta: &mut [u32], out: &mut [u8])
 fn run(meta: &mut [u32], input: &mut [u8], out: &mut [u8])
     requires { ⌜ 207 ≤ length (now out) ⌝ }
 {
-    let mut reader = uplink::new_reader();
+    let mut reader = uplink::input::new_reader();
     let mut reads = u64::MAX;
     while reads > 0 {
         let got = libc::read(STDIN_FILENO, input);

@@ -10,10 +10,12 @@ ghost use Rattle.pages.specs.Places.{Stands};
 ghost use Rattle.metadata.specs.Decoding.{decode};
 ghost use Rattle.steps.specs.Lent.{Good};
 ghost use Rattle.blocks.specs.Places.{Tells};
-use header::WORDS as HEADER;
 use model::Answer;
 use model::Refusal;
+use model::numbers::HEADER_WORDS;
+use model::numbers::PAGE_BYTES;
 use pages::Spot;
+use zone::layout::KIND_DIRECT;
 use zone::layout::KIND_ZONE;
 
 // The live block that begins at a byte: a direct block, or a chunk; where its segment begins, and the pages of the run that ends
@@ -34,10 +36,6 @@ pub enum Place {
     },
     Nothing,
 }
-
-const PAGE_BYTES: u32 = 4096;
-
-const KIND_DIRECT: u32 = 2;
 
 // The live chunk that begins `away` bytes behind the start of the zone at page `at`.
 fn find_chunk(words: &[u32], n: usize, at: usize, before: usize, away: u32) -> Place
@@ -75,7 +73,7 @@ pub fn find_block(words: &[u32], n: usize, offset: u32) -> Place
         kind,
         len,
         before,
-    } = pages::find_segment(&words[HEADER..], n, page)
+    } = pages::find::find_segment(&words[HEADER_WORDS..], n, page)
     else {
         return Place::Nothing;
     };
@@ -89,7 +87,7 @@ pub fn find_block(words: &[u32], n: usize, offset: u32) -> Place
     if away != 0 {
         return Place::Nothing;
     }
-    let group = pages::group(&words[HEADER..], n, at);
+    let group = pages::find::group(&words[HEADER_WORDS..], n, at);
     Place::Whole {
         at: at,
         len: len,

@@ -1,27 +1,95 @@
 // The library for C. Each function answers 0 or document 01's number of the refusal, and writes the answer's values, if it has any,
 // through the pointers lent for them. include/nostrimel.h says what a caller must keep.
 ghost use mathlib.Core.Path.{_≡_};
+ghost use mathlib.Core.Bool.{true, false, cond};
 ghost use lib.ListN.{length};
 ghost use Rattle.model.specs.Calls as rules;
 ghost use Rattle.model.specs.Calls.{reading};
 ghost use Rattle.model.specs.declared.Operation.the-variants as operation;
 ghost use Rattle.slab.specs.Calls.{answerOf, metaAfter, textAfter};
-ghost use Rattle.capi.specs.Values.{firstOr, secondOr};
+ghost use Rattle.capi.specs.Values.{firstOr, secondOr, toldOf};
 use model::Answer;
 use model::Call;
 use model::Operation;
+
+// An answer as C is told it: the refusal's number, 0 for none, and the first and the second value, where there are such.
+struct Told {
+    refusal: u32,
+    some: bool,
+    first: u32,
+    both: bool,
+    second: u32,
+}
+
+// A refusal's number, and no value.
+fn refused(number: u32) -> Told
+    ensures { λ r. ⌜ r ≡ record { refusal = number; some = false; first = 0; both = false; second = 0 } ⌝ }
+{
+    Told {
+        refusal: number,
+        some: false,
+        first: 0,
+        both: false,
+        second: 0,
+    }
+}
+
+// One value.
+fn valued(first: u32) -> Told
+    ensures { λ r. ⌜ r ≡ record { refusal = 0; some = true; first = first; both = false; second = 0 } ⌝ }
+{
+    Told {
+        refusal: 0,
+        some: true,
+        first: first,
+        both: false,
+        second: 0,
+    }
+}
+
+// The one place where an answer is taken apart.
+fn take_apart(answer: Answer) -> Told
+    ensures { λ r. ⌜ r ≡ toldOf answer ⌝ }
+{
+    match answer {
+        Answer::Granted(offset) => valued(offset),
+        Answer::Refused(refusal) => refused(model::number(refusal)),
+        Answer::Done => refused(0),
+        Answer::Counted(count) => valued(count),
+        Answer::Block(group, room) => Told {
+            refusal: 0,
+            some: true,
+            first: group,
+            both: true,
+            second: room,
+        },
+    }
+}
+
+// The value goes out, where there is one.
+fn put(to: &mut u32, there: bool, value: u32)
+    ensures { λ _. ⌜ now (to .exit) ≡ cond there value (now (to .entry)) ⌝ }
+{
+    if there {
+        *to = value;
+    }
+}
+
+// The same as a length in bytes.
+fn put_length(to: &mut usize, there: bool, value: u32)
+    ensures { λ _. ⌜ now (to .exit) ≡ cond there value (now (to .entry)) ⌝ }
+{
+    if there {
+        *to = model::wide(value);
+    }
+}
 
 // The refusal's number, 0 where the answer is none.
 fn refusal_of(answer: Answer) -> u32
     ensures { λ r. ⌜ r ≡ reading answer .refusal ⌝ }
 {
-    match answer {
-        Answer::Granted(offset) => 0,
-        Answer::Refused(refusal) => uplink::number(refusal),
-        Answer::Done => 0,
-        Answer::Counted(count) => 0,
-        Answer::Block(group, room) => 0,
-    }
+    let told = take_apart(answer);
+    told.refusal
 }
 
 // The same, and the first value of the answer goes out.
@@ -29,22 +97,9 @@ fn tell_first(answer: Answer, value: &mut u32) -> u32
     ensures { λ r. ⌜ r ≡ reading answer .refusal ⌝ }
     ensures { λ _. ⌜ now (value .exit) ≡ firstOr (now (value .entry)) (reading answer .values) ⌝ }
 {
-    match answer {
-        Answer::Granted(offset) => {
-            *value = offset;
-            0
-        }
-        Answer::Refused(refusal) => uplink::number(refusal),
-        Answer::Done => 0,
-        Answer::Counted(count) => {
-            *value = count;
-            0
-        }
-        Answer::Block(group, room) => {
-            *value = group;
-            0
-        }
-    }
+    let told = take_apart(answer);
+    put(value, told.some, told.first);
+    told.refusal
 }
 
 // The same, and both values go out.
@@ -53,23 +108,10 @@ fn tell_both(answer: Answer, first: &mut u32, second: &mut u32) -> u32
     ensures { λ _. ⌜ now (first .exit) ≡ firstOr (now (first .entry)) (reading answer .values) ⌝ }
     ensures { λ _. ⌜ now (second .exit) ≡ secondOr (now (second .entry)) (reading answer .values) ⌝ }
 {
-    match answer {
-        Answer::Granted(offset) => {
-            *first = offset;
-            0
-        }
-        Answer::Refused(refusal) => uplink::number(refusal),
-        Answer::Done => 0,
-        Answer::Counted(count) => {
-            *first = count;
-            0
-        }
-        Answer::Block(group, room) => {
-            *first = group;
-            *second = room;
-            0
-        }
-    }
+    let told = take_apart(answer);
+    put(first, told.some, told.first);
+    put(second, told.both, told.second);
+    told.refusal
 }
 
 // The same for a length in bytes.
@@ -77,22 +119,9 @@ fn tell_length(answer: Answer, value: &mut usize) -> u32
     ensures { λ r. ⌜ r ≡ reading answer .refusal ⌝ }
     ensures { λ _. ⌜ now (value .exit) ≡ firstOr (now (value .entry)) (reading answer .values) ⌝ }
 {
-    match answer {
-        Answer::Granted(offset) => {
-            *value = offset as usize;
-            0
-        }
-        Answer::Refused(refusal) => uplink::number(refusal),
-        Answer::Done => 0,
-        Answer::Counted(count) => {
-            *value = count as usize;
-            0
-        }
-        Answer::Block(group, room) => {
-            *value = group as usize;
-            0
-        }
-    }
+    let told = take_apart(answer);
+    put_length(value, told.some, told.first);
+    told.refusal
 }
 
 #[no_mangle]

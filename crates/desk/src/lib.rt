@@ -25,12 +25,12 @@ pub fn serve(meta: &mut [u32], line: Line, out: &mut [u8]) -> usize
     ensures { λ r. ⌜ Replied (now (out .entry)) (replyTo (now (meta .entry)) (length (now (out .entry))) line) r (now (out .exit)) ⌝ }
 {
     match line {
-        Line::Init(pages) => uplink::put_answer(out, 0, slab::init(meta, pages)),
-        Line::Group(call) => uplink::put_answer(out, 0, slab::call(meta, call)),
-        Line::Trim => uplink::put_answer(out, 0, slab::trim(meta)),
-        Line::Query(offset) => uplink::put_answer(out, 0, slab::query(meta, offset)),
+        Line::Init(pages) => uplink::answers::put_answer(out, 0, slab::init(meta, pages)),
+        Line::Group(call) => uplink::answers::put_answer(out, 0, slab::call(meta, call)),
+        Line::Trim => uplink::answers::put_answer(out, 0, slab::trim(meta)),
+        Line::Query(offset) => uplink::answers::put_answer(out, 0, slab::query(meta, offset)),
         Line::Listing => serve_listing(meta, out),
-        Line::Bad => uplink::put_bad(out, 0),
+        Line::Bad => uplink::answers::put_bad(out, 0),
     }
 }
 
@@ -41,15 +41,9 @@ fn serve_listing(meta: &mut [u32], out: &mut [u8]) -> usize
 {
     let answer = slab::listing(meta, out);
     if let Answer::Counted(count) = answer {
-        return wide(count);
+        return model::wide(count);
     }
-    uplink::put_answer(out, 0, answer)
-}
-
-fn wide(x: u32) -> usize
-    ensures { λ r. ⌜ r ≡ x ⌝ }
-{
-    x as usize
+    uplink::answers::put_answer(out, 0, answer)
 }
 
 // Takes the bytes of a fragment from a position on, up to and with the first LF, and serves the line that it ends. Where there is
@@ -64,7 +58,7 @@ pub fn serve_next(
     requires { ⌜ Sound reader ⌝ }
     ensures { λ r. ⌜ TurnBy (held reader) (now (meta .entry)) (now (fragment .entry)) from (now (out .entry)) r (now (meta .exit)) (now (out .exit)) ⌝ }
 {
-    let fed = uplink::feed(reader, fragment, from);
+    let fed = uplink::input::feed(reader, fragment, from);
     let reader = fed.reader;
     let next = fed.next;
     let got = fed.got;
@@ -87,7 +81,7 @@ pub fn serve_last(reader: Reader, meta: &mut [u32], out: &mut [u8]) -> usize
     ensures { λ _. ⌜ now (meta .exit) ≡ wordsGot (now (meta .entry)) (lastLine (held reader)) ⌝ }
     ensures { λ r. ⌜ Replied (now (out .entry)) (replyGot (now (meta .entry)) (length (now (out .entry))) (lastLine (held reader))) r (now (out .exit)) ⌝ }
 {
-    let ended = uplink::finish(reader);
+    let ended = uplink::input::finish(reader);
     let got = ended.got;
     match got {
         Got::Whole(line) => serve(meta, line, out),

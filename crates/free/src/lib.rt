@@ -18,11 +18,11 @@ ghost use Rattle.steps.specs.Outcomes.{Makes};
 ghost use Rattle.steps.specs.Lent.{Good, ZoneHere};
 ghost use Rattle.free.specs.Back.{chained, LiveChunk, Remains};
 use blocks::Place;
-use header::WORDS as HEADER;
 use model::Answer;
 use model::Refusal;
-
-const ZONE_PAGES: usize = 8;
+use model::numbers::HEADER_WORDS;
+use model::numbers::MOST_SPARE;
+use model::numbers::ZONE_PAGES;
 
 // The chunk goes to the front of its zone's chain, and a zone that was full to the front of its class's list.
 fn chain_back(words: &mut [u32], n: usize, at: usize, before: usize, chunk: u32)
@@ -46,7 +46,7 @@ fn retire(words: &mut [u32], n: usize, at: usize, before: usize, class: u32) -> 
     ensures { λ r. ⌜ (now (words .exit) ≡ encode (retired class at (listOf (decode (now (words .entry))) class) (decode (now (words .entry))))) × (r ≡ ltb (length (decode (now (words .entry)) .spare)) 2) ⌝ }
 {
     steps::list_without(words, class, at as u32);
-    if header::spare_count(&words[..HEADER]) < 2 {
+    if header::spare_count(&words[..HEADER_WORDS]) < 2 {
         steps::spare_front(words, at as u32);
         return true;
     }
@@ -65,7 +65,7 @@ pub fn chunk_back(words: &mut [u32], n: usize, at: usize, before: usize, chunk: 
     if !steps::zone_idle(words, at) {
         return true;
     }
-    if header::count(&words[..HEADER], class) < 2 {
+    if header::count(&words[..HEADER_WORDS], class) < 2 {
         return true;
     }
     retire(words, n, at, before, class)
@@ -76,10 +76,7 @@ pub fn free(words: &mut [u32], n: usize, group: u32, offset: u32) -> Answer
     requires { ⌜ Good (now words) n ⌝ }
     ensures { λ r. ⌜ Makes (rules.free group offset (decode (now (words .entry)))) r (now (words .exit)) ⌝ }
 {
-    if group == 0 {
-        return Answer::Refused(Refusal::BadGroup);
-    }
-    if 12 < group {
+    if !model::group_ok(group) {
         return Answer::Refused(Refusal::BadGroup);
     }
     match blocks::find_block(words, n, offset) {

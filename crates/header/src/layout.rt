@@ -1,4 +1,7 @@
 // Where the header's words stand; specs/Encoding.antt says what each holds.
+use model::numbers::CLASS_COUNT;
+use model::numbers::MOST_PAGES;
+
 pub const AT_MAGIC: usize = 0;
 
 pub const AT_PAGES: usize = 1;
@@ -11,8 +14,5 @@ pub const AT_REST: usize = 36;
 
 pub const MAGIC: u32 = 1313821524;
 
-// The most pages of an arena, and so the keys of one class.
-pub const MOST_PAGES: u32 = 256;
-
 // Every key of a class is below.
-pub const KEY_LIMIT: u32 = 16384;
+pub const KEY_LIMIT: u32 = MOST_PAGES * CLASS_COUNT;

@@ -21,10 +21,8 @@ use layout::AT_REST;
 use layout::AT_SPARE;
 use layout::KEY_LIMIT;
 use layout::MAGIC;
-use layout::MOST_PAGES;
-
-// The header's words. No other crate knows more of its inside.
-pub const WORDS: usize = 1024;
+use model::numbers::HEADER_WORDS;
+use model::numbers::MOST_PAGES;
 
 // What stands at the front of a list: a zone's start page, or nothing.
 pub enum Front {
@@ -38,7 +36,7 @@ pub enum Front {
 pub fn check(words: &[u32]) -> bool
     ensures { λ r. ⌜ r ≡ isHeader (now (words .entry)) ⌝ }
 {
-    if words.len() != WORDS {
+    if words.len() != HEADER_WORDS {
         return false;
     }
     if words[AT_MAGIC] != MAGIC {
@@ -57,7 +55,7 @@ pub fn check(words: &[u32]) -> bool
     if !slots::are_legal(&words[AT_LISTS..AT_REST], KEY_LIMIT) {
         return false;
     }
-    scan::is_zero(&words[AT_REST..WORDS])
+    scan::is_zero(&words[AT_REST..HEADER_WORDS])
 }
 
 // Sets the words up as the header of n pages with empty lists, whatever they held.
@@ -65,7 +63,7 @@ pub fn set_up(words: &mut [u32], n: u32)
     requires { ⌜ length (now words) ≡ headerWords ⌝ }
     ensures { λ _. ⌜ now (words .exit) ≡ headerEncoding n [] (replicate classCount []) ⌝ }
 {
-    scan::clear(&mut words[AT_SPARE..WORDS]);
+    scan::clear(&mut words[AT_SPARE..HEADER_WORDS]);
     words[AT_MAGIC] = MAGIC;
     words[AT_PAGES] = n;
 }

@@ -6,7 +6,7 @@ ghost use lib.ListN.{length, take};
 ghost use Rattle.lemmas.specs.Every.{count};
 ghost use Rattle.lemmas.specs.Times.{remove};
 ghost use Rattle.header.specs.Slots.{legalSlots, holds, shiftedIn, closedUp};
-use crate::layout::MOST_PAGES;
+use model::numbers::MOST_PAGES;
 
 // Whether the slots hold keys below the limit, whose classes never fall, and zeros behind.
 pub fn are_legal(slots: &[u32], limit: u32) -> bool

@@ -1,9 +1,9 @@
 -- Equations between tests: two that hold together, a conjunction's parts, a test with its numbers exchanged or raised. Assumes nothing.
-use Prim.Native.Nat.{ℕ}
+use Prim.Native.Nat.{ℕ, _≤_, _<_}
 use mathlib.Core.Path.{_≡_, refl, sym, ap}
 use mathlib.Core.Bool.{Bool, true, false, _&&_}
-use lib.Dec.{eqb}
-use borrow.Author.Tests.{eq-eqb, ne-eqb}
+use lib.Dec.{leb, eqb}
+use borrow.Author.Tests.{eq-eqb, ne-eqb, le-leb, lt-leb}
 use Rattle.lemmas.proofs.Cases.{by-eqb, and-false}
 
 -- Two tests, each true where the other is, are the same.
@@ -33,3 +33,10 @@ false-right a {b} e = rw e (and-false a)
 
 pub eqb-comm : (a b : ℕ) → eqb a b ≡ eqb b a
 eqb-comm a b = by-eqb (λ t. eqb a b ≡ t) b a (λ e. eq-eqb a b (sym e)) (λ n. ne-eqb a b (λ e. n (sym e)))
+
+-- Both bounds of a number, one tested after the other.
+pub range-below : (n most : ℕ) → n < 1 → false ≡ (leb 1 n && leb n most)
+range-below n most h = ap (λ b. b && leb n most) (sym (lt-leb 1 n h))
+
+pub range-from : (n most : ℕ) → 1 ≤ n → leb n most ≡ (leb 1 n && leb n most)
+range-from n most h = ap (λ b. b && leb n most) (sym (le-leb 1 n h))

@@ -19,20 +19,11 @@ ghost use Rattle.listing.specs.Rows.{rowOf, rowsAt, rowsOf, sectionText}
 ghost use Rattle.listing.specs.Into.{listAnswer, listedInto};
 use model::Answer;
 use model::Refusal;
-use pages::PAGE;
+use model::numbers::PAGE_WORDS;
+use zone::layout::KIND_DIRECT;
+use zone::layout::KIND_RUN;
 use zone::layout::KIND_ZONE;
 use zone::layout::WORDS as ZONE_WORDS;
-
-const KIND_RUN: u32 = 1;
-
-const KIND_DIRECT: u32 = 2;
-
-// A word as a number of a line.
-fn wide(word: u32) -> u64
-    ensures { λ r. ⌜ r ≡ word ⌝ }
-{
-    word as u64
-}
 
 // ---- rows
 
@@ -41,7 +32,7 @@ fn live(part: &[u32]) -> u64
     requires { ⌜ isZone (now part) ≡ true ⌝ }
     ensures { λ r. ⌜ r ≡ liveChunks (zoneOf (now (part .entry))) ⌝ }
 {
-    wide(zone::live_count(part))
+    model::long(zone::live_count(part))
 }
 
 // The row of the zone at page p, whose words are lent.
@@ -51,7 +42,7 @@ fn put_zone(out: &mut [u8], at: usize, part: &[u32], p: usize) -> usize
     ensures { λ r. ⌜ Wrote (now (out .entry)) at (line (rowOf p (zone (zoneOf (now (part .entry)))))) r (now (out .exit)) ⌝ }
 {
     let page = p as u64;
-    let class = wide(zone::class_of(part));
+    let class = model::long(zone::class_of(part));
     let numbers = [page, class, live(part)];
     text::put_line(out, at, &numbers)
 }
@@ -62,7 +53,7 @@ fn put_row(out: &mut [u8], at: usize, words: &[u32], n: usize, p: usize, kind: u
     requires { ⌜ ((b : ℕ) × (x : Segment Zone) × Stands (segmentsOf (now words)) p b x × Bounded at (lines (rowsAt kind p x))) ⌝ }
     ensures { λ r. ⌜ ((b : ℕ) (x : Segment Zone) → Stands (segmentsOf (now (words .entry))) p b x → Wrote (now (out .entry)) at (lines (rowsAt kind p x)) r (now (out .exit))) ⌝ }
 {
-    let w = PAGE * p;
+    let w = PAGE_WORDS * p;
     if words[w] != kind {
         return at;
     }
@@ -71,12 +62,12 @@ fn put_row(out: &mut [u8], at: usize, words: &[u32], n: usize, p: usize, kind: u
         return put_zone(out, at, &words[w..e], p);
     }
     let page = p as u64;
-    let len = wide(words[w + 1]);
+    let len = model::long(words[w + 1]);
     if kind == KIND_RUN {
         let numbers = [page, len];
         return text::put_line(out, at, &numbers);
     }
-    let numbers = [page, len, wide(words[w + 2])];
+    let numbers = [page, len, model::long(words[w + 2])];
     text::put_line(out, at, &numbers)
 }
 
@@ -90,7 +81,7 @@ fn put_rows(out: &mut [u8], at: usize, words: &[u32], n: usize, kind: u32) -> us
     let mut next = at;
     while p < n {
         next = put_row(out, next, words, n, p, kind);
-        p += pages::size(words, n, p);
+        p += pages::find::size(words, n, p);
     }
     next
 }
@@ -113,9 +104,9 @@ fn count_rows(words: &[u32], n: usize, kind: u32) -> u64
     let mut p: usize = 0;
     let mut rows: u64 = 0;
     while p < n {
-        let w = PAGE * p;
+        let w = PAGE_WORDS * p;
         rows += same(words[w], kind);
-        p += pages::size(words, n, p);
+        p += pages::find::size(words, n, p);
     }
     rows
 }

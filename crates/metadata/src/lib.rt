@@ -13,8 +13,8 @@ ghost use Rattle.header.specs.Encoding.{spareIn, listsIn, Header};
 ghost use Rattle.metadata.specs.Lists.{zoneFits, segmentFits, isOpen, fitFrom};
 ghost use Rattle.metadata.specs.Decoding.{isState};
 ghost use Rattle.model.specs.Numbers.{mostPages};
-use header::WORDS as HEADER;
-use pages::PAGE;
+use model::numbers::HEADER_WORDS;
+use model::numbers::PAGE_WORDS;
 use zone::layout::KIND_ZONE;
 use zone::layout::WORDS as ZONE_WORDS;
 
@@ -50,7 +50,7 @@ fn fits_at(head: &[u32], words: &[u32], n: usize, p: usize) -> bool
     requires { ⌜ ((b : ℕ) × (x : Segment Zone) × Stands (segmentsOf (now words)) p b x) ⌝ }
     ensures { λ r. ⌜ ((b : ℕ) (x : Segment Zone) → Stands (segmentsOf (now (words .entry))) p b x → r ≡ segmentFits (spareIn (now (head .entry))) (listsIn (now (head .entry))) p x) ⌝ }
 {
-    let at = PAGE * p;
+    let at = PAGE_WORDS * p;
     if words[at] != KIND_ZONE {
         return true;
     }
@@ -64,7 +64,7 @@ fn open_at(words: &[u32], n: usize, p: usize) -> u32
     requires { ⌜ ((b : ℕ) × (x : Segment Zone) × Stands (segmentsOf (now words)) p b x) ⌝ }
     ensures { λ r. ⌜ ((b : ℕ) (x : Segment Zone) → Stands (segmentsOf (now (words .entry))) p b x → r ≡ isOpen x) ⌝ }
 {
-    let at = PAGE * p;
+    let at = PAGE_WORDS * p;
     if words[at] != KIND_ZONE {
         return 0;
     }
@@ -85,7 +85,7 @@ fn lists_fit(head: &[u32], words: &[u32], n: usize) -> bool
             return false;
         }
         open += open_at(words, n, p);
-        p += pages::size(words, n, p);
+        p += pages::find::size(words, n, p);
     }
     open == entries
 }
@@ -94,19 +94,19 @@ fn lists_fit(head: &[u32], words: &[u32], n: usize) -> bool
 pub fn check(words: &[u32]) -> bool
     ensures { λ r. ⌜ r ≡ isState (now (words .entry)) ⌝ }
 {
-    if words.len() < HEADER {
+    if words.len() < HEADER_WORDS {
         return false;
     }
-    if !header::check(&words[..HEADER]) {
+    if !header::check(&words[..HEADER_WORDS]) {
         return false;
     }
-    let n = header::pages(&words[..HEADER]) as usize;
-    let e = HEADER + PAGE * n;
+    let n = header::pages(&words[..HEADER_WORDS]) as usize;
+    let e = HEADER_WORDS + PAGE_WORDS * n;
     if words.len() < e {
         return false;
     }
-    if !pages::check(&words[HEADER..e], n) {
+    if !pages::check::check(&words[HEADER_WORDS..e], n) {
         return false;
     }
-    lists_fit(&words[..HEADER], &words[HEADER..e], n)
+    lists_fit(&words[..HEADER_WORDS], &words[HEADER_WORDS..e], n)
 }

@@ -17,5 +17,4 @@ pub mod ValidTrim
 pub mod Validity
 pub mod Disjoint
 pub mod Aligned
-pub mod Groups
 pub mod Totals

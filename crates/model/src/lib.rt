@@ -1,4 +1,11 @@
-// The public types of which the contracts speak. The rules themselves are definitions, in specs/.
+// The public types of which the contracts speak, and the little code that every layer shares: numbers, the group test, a refusal's
+// number. The rules themselves are definitions, in specs/.
+ghost use mathlib.Core.Path.{_≡_};
+ghost use Rattle.model.specs.Calls.{groupOk, number as numberOf};
+
+pub mod numbers;
+
+use numbers::MOST_GROUP;
 
 // What a group asks. (Document 01: a request with a size, a return with an offset, or a reset.)
 pub enum Operation {
@@ -13,7 +20,7 @@ pub struct Call {
     pub operation: Operation,
 }
 
-// Why a call is refused. Document 01's number of each case is `number` in specs/Calls.antt.
+// Why a call is refused. `number` gives document 01's number of each.
 pub enum Refusal {
     BadPages,
     FewWords,
@@ -33,4 +40,44 @@ pub enum Answer {
     Done,
     Counted(u32),
     Block(u32, u32),
+}
+
+// Document 01's number of a refusal.
+pub fn number(refusal: Refusal) -> u32
+    ensures { λ r. ⌜ r ≡ numberOf refusal ⌝ }
+{
+    match refusal {
+        Refusal::BadPages => 1,
+        Refusal::FewWords => 2,
+        Refusal::NoState => 3,
+        Refusal::BadGroup => 4,
+        Refusal::BadSize => 5,
+        Refusal::NoRoom => 6,
+        Refusal::NoBlock => 7,
+        Refusal::OtherGroup => 8,
+        Refusal::ShortBuffer => 12,
+    }
+}
+
+// Whether there is such a group.
+pub fn group_ok(group: u32) -> bool
+    ensures { λ r. ⌜ r ≡ groupOk group ⌝ }
+{
+    if group < 1 {
+        return false;
+    }
+    group <= MOST_GROUP
+}
+
+// A word as an index, and as a number of a line.
+pub fn wide(word: u32) -> usize
+    ensures { λ r. ⌜ r ≡ word ⌝ }
+{
+    word as usize
+}
+
+pub fn long(word: u32) -> u64
+    ensures { λ r. ⌜ r ≡ word ⌝ }
+{
+    word as u64
 }

@@ -1,17 +1,16 @@
 -- The test of segments' words is exact: one segment, and all of them. Assumes nothing.
-use Prim.Native.Nat.{ℕ, zero, suc, _+_, _-_, _*_, _≤_, _<_}
+use Prim.Native.Nat.{ℕ, zero, _+_, _-_, _*_, _≤_, _<_}
 use mathlib.Core.Path.{_≡_, refl, sym, ap, _∙_, subst}
-use mathlib.Core.List.{List, [], _∷_, _++_}
-use mathlib.Core.Bool.{Bool, true, false, cond, _&&_, not}
+use mathlib.Core.List.{List}
+use mathlib.Core.Bool.{Bool, true, false, cond, _&&_}
 use native.Mathlib.Omega.{arith}
 use lib.Dec.{leb, eqb}
-use lib.ListN.{length, getD, take, drop, length-append, List·getD-append}
-use lib.Seq.{length-take-le, getD-take, take-at, take-take}
-use borrow.Author.Tests.{leb-true, le-leb, lt-leb, eqb-true, eqb-false, eq-eqb, ne-eqb}
-use Rattle.lemmas.specs.Every.{every}
+use lib.ListN.{length, getD, take}
+use lib.Seq.{length-take-le, getD-take}
+use borrow.Author.Tests.{leb-true, le-leb, lt-leb, eqb-true, eq-eqb, ne-eqb}
 use Rattle.lemmas.specs.Parts.{mid}
-use Rattle.lemmas.specs.Zeros.{zeros, isZero, Zero}
-use Rattle.lemmas.proofs.Cases.{bool, true-false, and-left, and-right, and-both, and-false}
+use Rattle.lemmas.specs.Zeros.{isZero, Zero}
+use Rattle.lemmas.proofs.Cases.{bool, and-left, and-right, and-both, and-false}
 use Rattle.lemmas.proofs.Every.{every-at, every-of}
 use Rattle.lemmas.proofs.Parts.{length-mid, getD-mid}
 use Rattle.model.specs.Numbers.{zonePages, mostGroup, mostPages, pageWords}
@@ -21,10 +20,10 @@ use Rattle.model.specs.Valid.{ValidZone}
 use Rattle.zone.specs.Encoding.{zoneEncoding, zoneWords}
 use Rattle.zone.specs.Decoding.{isZone}
 use Rattle.zone.proofs.Encoded.{zone-iff, encoding-zone}
-use Rattle.pages.specs.Encoding.{kindOf, segmentEncoding, Writable}
+use Rattle.pages.specs.Encoding.{segmentEncoding, Writable}
 use Rattle.pages.specs.Places.{Blank}
 use Rattle.pages.specs.Legal.{zeroFrom, sizeIf, groupIn, sizeAt}
-use Rattle.pages.proofs.Laws.{length-segment, zone-first}
+use Rattle.pages.proofs.Laws.{zone-first}
 use Rattle.pages.proofs.Words.{run-zero, direct-zero, run-words, direct-words}
 
 -- Words of at least n pages.
@@ -166,16 +165,6 @@ module _ (n : ℕ) (w : List ℕ) where
 
     pub size-direct : getD w 0 0 ≡ 2 → groupIn w ≡ true → cond (zeroFrom 3 (getD w 1 0) w) (getD w 1 0) 0 ≡ sizeAt n w
     size-direct k e = sized (zeroFrom 3 (getD w 1 0) w) ∙ ap (λ t. sizeIf n w (t && zeroFrom 3 (getD w 1 0) w)) (sym e) ∙ direct-is k
-
--- The group of a direct block.
-pub group-none : (w : List ℕ) → getD w 2 0 ≡ 0 → groupIn w ≡ false
-group-none w e = rw (lt-leb 1 (getD w 2 0) (omega arith))
-
-pub group-large : (w : List ℕ) → 12 < getD w 2 0 → groupIn w ≡ false
-group-large w h = rw (lt-leb (getD w 2 0) mostGroup h) (and-false (leb 1 (getD w 2 0)))
-
-pub group-some : (w : List ℕ) → (getD w 2 0 ≡ 0 → ⊥) → getD w 2 0 ≤ mostGroup → groupIn w ≡ true
-group-some w a b = and-both (leb 1 (getD w 2 0)) (leb (getD w 2 0) mostGroup) (le-leb 1 (getD w 2 0) (omega (arith, a))) (le-leb (getD w 2 0) mostGroup b)
 
 -- What the code's test and length make.
 pub tested : (i : ℕ) (w : List ℕ) (t : Bool) (len r : ℕ) → r ≡ cond t len 0 → len ≡ getD w 1 0 → t ≡ zeroFrom i len w → r ≡ cond (zeroFrom i (getD w 1 0) w) (getD w 1 0) 0

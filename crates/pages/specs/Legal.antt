@@ -7,7 +7,8 @@ use lib.ListN.{getD, take, drop}
 use Rattle.lemmas.specs.Every.{every}
 use Rattle.lemmas.specs.Parts.{mid}
 use Rattle.lemmas.specs.Zeros.{isZero}
-use Rattle.model.specs.Numbers.{zonePages, mostGroup, pageWords}
+use Rattle.model.specs.Numbers.{zonePages, pageWords}
+use Rattle.model.specs.Calls.{groupOk}
 use Rattle.zone.specs.Encoding.{kindZone, zoneWords}
 use Rattle.zone.specs.Decoding.{isZone}
 use Rattle.pages.specs.Encoding.{kindRun, kindDirect}
@@ -21,7 +22,7 @@ abbrev pub sizeIf : ℕ → List ℕ → Bool → ℕ
 sizeIf n w t = cond (leb 1 (getD w 1 0) && leb (getD w 1 0) n && t) (getD w 1 0) 0
 
 abbrev pub groupIn : List ℕ → Bool
-groupIn w = leb 1 (getD w 2 0) && leb (getD w 2 0) mostGroup
+groupIn w = groupOk (getD w 2 0)
 
 -- The pages of the valid segment, of at most n pages, with which the words begin; 0 where they begin with none.
 unfoldable pub sizeAt : ℕ → List ℕ → ℕ

@@ -17,10 +17,9 @@ ghost use Rattle.steps.specs.Lent.{Good};
 ghost use Rattle.reset.specs.Sweep.{Sweep, InZone};
 use model::Answer;
 use model::Refusal;
-use pages::ZONE_PAGES;
+use model::numbers::ZONE_PAGES;
+use zone::layout::KIND_RUN;
 use zone::layout::KIND_ZONE;
-
-const KIND_RUN: u32 = 1;
 
 // Where the walk goes on: the next page, the pages of the run that ends there (0: none), and the blocks given back on the way.
 pub struct Swept {
@@ -137,10 +136,7 @@ pub fn reset(words: &mut [u32], n: usize, group: u32) -> Answer
     requires { ⌜ Good (now words) n ⌝ }
     ensures { λ r. ⌜ Makes (rules.reset group (decode (now (words .entry)))) r (now (words .exit)) ⌝ }
 {
-    if group == 0 {
-        return Answer::Refused(Refusal::BadGroup);
-    }
-    if 12 < group {
+    if !model::group_ok(group) {
         return Answer::Refused(Refusal::BadGroup);
     }
     Answer::Counted(sweep(words, n, group))

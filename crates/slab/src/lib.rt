@@ -10,21 +10,20 @@ ghost use Rattle.metadata.specs.Decoding.{stateOf};
 ghost use Rattle.slab.specs.Calls.{answerOf, metaAfter, textAfter};
 ghost use Rattle.slab.specs.Arena.{pagesOf, Arena};
 ghost use Rattle.model.specs.Numbers.{mostPages};
-use header::WORDS as HEADER;
 use model::Answer;
 use model::Call;
 use model::Operation;
 use model::Refusal;
-use pages::PAGE;
-
-const MOST_PAGES: u32 = 256;
+use model::numbers::HEADER_WORDS;
+use model::numbers::MOST_PAGES;
+use model::numbers::PAGE_WORDS;
 
 // The words of an arena of n pages.
 fn words_for(n: usize) -> usize
     requires { ⌜ n ≤ mostPages ⌝ }
     ensures { λ r. ⌜ r ≡ wordsFor n ⌝ }
 {
-    HEADER + PAGE * n
+    HEADER_WORDS + PAGE_WORDS * n
 }
 
 // The pages of the arena with whose words the words begin, 0 where they do not begin with the words of a valid state.
@@ -34,7 +33,7 @@ fn arena_pages(meta: &[u32]) -> usize
     if !metadata::check(meta) {
         return 0;
     }
-    header::pages(&meta[..HEADER]) as usize
+    header::pages(&meta[..HEADER_WORDS]) as usize
 }
 
 // Sets the words up for an arena of so many pages, all free, whatever the words held.
@@ -53,8 +52,8 @@ pub fn init(meta: &mut [u32], pages: u32) -> Answer
     if meta.len() < e {
         return Answer::Refused(Refusal::FewWords);
     }
-    header::set_up(&mut meta[..HEADER], pages);
-    pages::set_up(&mut meta[HEADER..e], n);
+    header::set_up(&mut meta[..HEADER_WORDS], pages);
+    pages::cut::set_up(&mut meta[HEADER_WORDS..e], n);
     Answer::Done
 }
 
@@ -97,7 +96,7 @@ pub fn listing(meta: &mut [u32], text: &mut [u8]) -> Answer
         return Answer::Refused(Refusal::NoState);
     }
     let e = words_for(n);
-    listing::list_into(&meta[HEADER..e], n, text)
+    listing::list_into(&meta[HEADER_WORDS..e], n, text)
 }
 
 // The group is granted a block of so many bytes.

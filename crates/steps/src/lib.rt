@@ -19,8 +19,8 @@ ghost use Rattle.metadata.specs.Decoding.{decode};
 ghost use Rattle.steps.specs.Lent.{Lent, ZoneHere};
 ghost use Rattle.steps.specs.Moves.{fronted, unlisted, spared, rezoned, carved, released};
 ghost use Rattle.model.specs.Numbers.{zonePages, mostGroup, classCount, mostPages, headerWords, pageWords};
-use header::WORDS as HEADER;
-use pages::PAGE;
+use model::numbers::HEADER_WORDS;
+use model::numbers::PAGE_WORDS;
 use zone::layout::WORDS as ZONE_WORDS;
 
 // ---- the lists
@@ -31,7 +31,7 @@ pub fn list_front(words: &mut [u32], class: u32, page: u32)
     requires { ⌜ (class < classCount) × (page < mostPages) × (length (keysOf (decode (now words) .lists)) < listSlots) ⌝ }
     ensures { λ _. ⌜ now (words .exit) ≡ encode (fronted class page (decode (now (words .entry)))) ⌝ }
 {
-    header::push(&mut words[..HEADER], class, page);
+    header::push(&mut words[..HEADER_WORDS], class, page);
 }
 
 // The page leaves the class's list.
@@ -40,7 +40,7 @@ pub fn list_without(words: &mut [u32], class: u32, page: u32)
     requires { ⌜ (class < classCount) × (page < mostPages) ⌝ }
     ensures { λ _. ⌜ now (words .exit) ≡ encode (unlisted class page (decode (now (words .entry)))) ⌝ }
 {
-    header::remove(&mut words[..HEADER], class, page);
+    header::remove(&mut words[..HEADER_WORDS], class, page);
 }
 
 // The page goes to the front of the empty list, which has room for one more.
@@ -49,7 +49,7 @@ pub fn spare_front(words: &mut [u32], page: u32)
     requires { ⌜ (page < mostPages) × (length (decode (now words) .spare) < spareSlots) ⌝ }
     ensures { λ _. ⌜ now (words .exit) ≡ encode (spared (page ∷ decode (now (words .entry)) .spare) (decode (now (words .entry)))) ⌝ }
 {
-    header::spare_push(&mut words[..HEADER], page);
+    header::spare_push(&mut words[..HEADER_WORDS], page);
 }
 
 // The front page leaves the empty list.
@@ -57,7 +57,7 @@ pub fn spare_behind(words: &mut [u32])
     requires { ⌜ Lent (now words) ⌝ }
     ensures { λ _. ⌜ now (words .exit) ≡ encode (spared (drop 1 (decode (now (words .entry)) .spare)) (decode (now (words .entry)))) ⌝ }
 {
-    header::spare_pop(&mut words[..HEADER]);
+    header::spare_pop(&mut words[..HEADER_WORDS]);
 }
 
 // All pages leave the empty list.
@@ -65,7 +65,7 @@ pub fn spare_none(words: &mut [u32])
     requires { ⌜ Lent (now words) ⌝ }
     ensures { λ _. ⌜ now (words .exit) ≡ encode (spared [] (decode (now (words .entry)))) ⌝ }
 {
-    header::spare_clear(&mut words[..HEADER]);
+    header::spare_clear(&mut words[..HEADER_WORDS]);
 }
 
 // ---- one zone
@@ -75,7 +75,7 @@ fn zone_start(page: usize) -> usize
     requires { ⌜ page ≤ mostPages ⌝ }
     ensures { λ r. ⌜ r ≡ headerWords + pageWords * page ⌝ }
 {
-    HEADER + PAGE * page
+    HEADER_WORDS + PAGE_WORDS * page
 }
 
 // The zone's class.
@@ -166,7 +166,7 @@ pub fn kind_at(words: &[u32], p: usize) -> u32
     requires { ⌜ ((b : ℕ) × (x : Segment Zone) × Stands (decode (now words) .segments) p b x) ⌝ }
     ensures { λ r. ⌜ ((b : ℕ) (x : Segment Zone) → Stands (decode (now (words .entry)) .segments) p b x → r ≡ kindOf x) ⌝ }
 {
-    let at = HEADER + PAGE * p;
+    let at = HEADER_WORDS + PAGE_WORDS * p;
     words[at]
 }
 
@@ -176,7 +176,7 @@ pub fn size_at(words: &[u32], n: usize, p: usize) -> usize
     requires { ⌜ ((b : ℕ) × (x : Segment Zone) × Stands (decode (now words) .segments) p b x) ⌝ }
     ensures { λ r. ⌜ ((b : ℕ) (x : Segment Zone) → Stands (decode (now (words .entry)) .segments) p b x → r ≡ pages x) ⌝ }
 {
-    pages::size(&words[HEADER..], n, p)
+    pages::find::size(&words[HEADER_WORDS..], n, p)
 }
 
 // The group of the direct block that begins at page p.
@@ -185,7 +185,7 @@ pub fn group_at(words: &[u32], n: usize, p: usize) -> u32
     requires { ⌜ ((b k g : ℕ) × Stands (decode (now words) .segments) p b (direct k g)) ⌝ }
     ensures { λ r. ⌜ ((b k g : ℕ) → Stands (decode (now (words .entry)) .segments) p b (direct k g) → r ≡ g) ⌝ }
 {
-    pages::group(&words[HEADER..], n, p)
+    pages::find::group(&words[HEADER_WORDS..], n, p)
 }
 
 // The run at page `at` gives its low `need` pages to a direct block of the group.
@@ -194,7 +194,7 @@ pub fn take_direct(words: &mut [u32], n: usize, at: usize, len: usize, need: usi
     requires { ⌜ ((b : ℕ) × Stands (decode (now words) .segments) at b (run len) × (0 < need) × (need ≤ len)) ⌝ }
     ensures { λ _. ⌜ now (words .exit) ≡ encode (carved (record { page = at; size = len }) need (direct need group) (decode (now (words .entry)))) ⌝ }
 {
-    pages::take_direct(&mut words[HEADER..], n, at, len, need, group);
+    pages::cut::take_direct(&mut words[HEADER_WORDS..], n, at, len, need, group);
 }
 
 // It gives its low 8 pages to a zone, set up for the class with chunk 0 granted to the group.
@@ -203,7 +203,7 @@ pub fn take_zone(words: &mut [u32], n: usize, at: usize, len: usize, class: u32,
     requires { ⌜ ((b : ℕ) × Stands (decode (now words) .segments) at b (run len) × (zonePages ≤ len) × (0 < group)) ⌝ }
     ensures { λ _. ⌜ now (words .exit) ≡ encode (carved (record { page = at; size = len }) zonePages (zone (newZone class group)) (decode (now (words .entry)))) ⌝ }
 {
-    pages::take_zone(&mut words[HEADER..], n, at, len, class, group);
+    pages::cut::take_zone(&mut words[HEADER_WORDS..], n, at, len, class, group);
 }
 
 // The pages of the segment at page `at`, which is no run, come back; a run of `before` pages (0: none) ends where it begins.
@@ -213,5 +213,5 @@ pub fn give_back(words: &mut [u32], n: usize, at: usize, len: usize, before: usi
     requires { ⌜ ((x : Segment Zone) × Stands (decode (now words) .segments) at before x × (pages x ≡ len) × (runPages x ≡ 0)) ⌝ }
     ensures { λ _. ⌜ now (words .exit) ≡ encode (released at (decode (now (words .entry)))) ⌝ }
 {
-    pages::give_back(&mut words[HEADER..], n, at, len, before);
+    pages::join::give_back(&mut words[HEADER_WORDS..], n, at, len, before);
 }

@@ -116,7 +116,7 @@ pub fn read_number(s: &[u8], at: usize) -> Number
     if !is_digit(first) {
         return Number::Nothing;
     }
-    let mut v = wide(first - b'0');
+    let mut v = value(first - b'0');
     let mut i = at + 1;
     while i < s.len() {
         let b = s[i];
@@ -129,7 +129,7 @@ pub fn read_number(s: &[u8], at: usize) -> Number
         if v == 0 {
             return Number::Nothing;
         }
-        v = 10 * v + wide(b - b'0');
+        v = 10 * v + value(b - b'0');
         if LARGEST < v {
             return Number::Nothing;
         }
@@ -166,7 +166,7 @@ fn is_digit(b: u8) -> bool
     b'0' <= b && b <= b'9'
 }
 
-fn wide(b: u8) -> u64
+fn value(b: u8) -> u64
     ensures { λ r. ⌜ r ≡ b ⌝ }
 {
     b as u64

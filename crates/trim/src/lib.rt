@@ -14,7 +14,7 @@ ghost use Rattle.steps.specs.Lent.{Lent, ZoneHere, Good};
 ghost use Rattle.steps.specs.Moves.{unlisted, released};
 ghost use Rattle.trim.specs.Between.{idleSegment, Between};
 ghost use Rattle.model.specs.Numbers.{zonePages};
-use pages::ZONE_PAGES;
+use model::numbers::ZONE_PAGES;
 use zone::layout::KIND_ZONE;
 
 // Whether the segment that begins at page p is a zone without a live chunk.
@@ -71,7 +71,7 @@ pub fn trim_all(words: &mut [u32], n: usize) -> u32
         }
         let len = steps::size_at(words, n, p);
         let kind = steps::kind_at(words, p);
-        before = pages::run_len(kind, len);
+        before = pages::find::run_len(kind, len);
         p += len;
     }
     count

@@ -17,7 +17,7 @@ use Rattle.uplink.specs.declared.Got.the-variants.{Whole, More}
 use Rattle.uplink.specs.declared.Fed.{Fed}
 use Rattle.uplink.specs.Grammar.{lineOf}
 use Rattle.uplink.specs.Fragments.{Held, part, long, fresh, held, hold, lineHeld, lastLine, Step, stepFrom, stepOf, FedBy, putIf, heldWith, heldAfter, linesBy, heldAfterAll, linesByAll, gotten, lastText, textsOf}
-use Rattle.uplink.proofs.Grammar.{long-bad}
+use Rattle.uplink.proofs.Exact.{long-bad}
 
 -- ---- cut anywhere
 

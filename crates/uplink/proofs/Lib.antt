@@ -1,6 +1,6 @@
 pub mod Parsing
-pub mod Grammar
-pub mod Answers
+pub mod Exact
+pub mod Says
 pub mod Steps
 pub mod Fragments
 pub mod Examples

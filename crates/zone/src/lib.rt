@@ -17,6 +17,7 @@ mod slots;
 mod stores;
 
 use layout::*;
+use model::numbers::CLASS_COUNT;
 
 // Whether the head's numbers are those of a zone.
 fn head_is_legal(part: &[u32]) -> bool
@@ -29,7 +30,7 @@ fn head_is_legal(part: &[u32]) -> bool
         return false;
     }
     let class = part[AT_CLASS];
-    if 64 <= class {
+    if CLASS_COUNT <= class {
         return false;
     }
     let touched = part[AT_TOUCHED];
@@ -52,7 +53,7 @@ fn body_is_legal(part: &[u32]) -> bool
     if !slots::are_legal(&part[HEAD..WORDS], touched, chained) {
         return false;
     }
-    let end = HEAD + wide(touched);
+    let end = HEAD + model::wide(touched);
     scan::is_zero(&part[end..])
 }
 

@@ -59,7 +59,7 @@ fn are_in_place(slots: &[u32], chained: u32) -> bool
     let mut wrong: u32 = 0;
     let mut i: u32 = 0;
     while i < chained {
-        let chunk = wide(slots[wide(i)] / HALF);
+        let chunk = model::wide(slots[model::wide(i)] / HALF);
         wrong |= slots[chunk] % HALF ^ POSITION_BASE + i;
         i += 1;
     }

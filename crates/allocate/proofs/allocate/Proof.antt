@@ -21,16 +21,10 @@ start c = c .before .before
 abbrev size-ok : tie.Else2 → tie.After-size-ok
 size-ok c = c .before
 
-group-ok-requires : tie.Need-group-ok-requires
-group-ok-requires c κs = search needs
-
 returns : tie.Need-returns
 returns c =
     let a = c .before .before .before .args in
     made (bad-group (decode (a .words .now)) (a .group) (a .size) (sym (c .before .group-ok .ensures) ∙ not-true _ (c .if1 .taken))) (refl, c .before .before .before .pre .lent .words)
-
-size-ok-requires : tie.Need-size-ok-requires
-size-ok-requires c κs = search needs
 
 returns-2 : tie.Need-returns-2
 returns-2 c =
@@ -52,9 +46,6 @@ supply-requires c κs =
     let u = sym (s .size-ok .ensures) ∙ not-false _ (c .before .if2 .left) in
     (s₁ .pre, (group-least (a .group) t, group-most (a .group) t, size-least (a .size) u, size-most (a .size) u))
 
-same-length : tie.Need-same-length
-same-length c = search needs
-
 returns-3 : tie.Need-returns-3
 returns-3 c =
     let e = c .before .before .before .before in
@@ -70,10 +61,10 @@ pub allocate-spec : {M : Type 1} → statement M
 allocate-spec =
     tie.close
     (tie.spec
-    group-ok-requires
+    (search needs)
     returns
-    size-ok-requires
+    (search needs)
     returns-2
     supply-requires
-    same-length
+    (search needs)
     returns-3)

@@ -13,9 +13,6 @@ sub-find-run c = has-header (c .before .pre .lent)
 part-find-run-start : tie.Need-part-find-run-start
 part-find-run-start c = has-header (c .before .pre .lent)
 
-part-find-run-end : tie.Need-part-find-run-end
-part-find-run-end c = search needs
-
 find-run-requires : tie.Need-find-run-requires
 find-run-requires c κs = body-holds (c .before .before .pre .lent) _ (c .before .before .pre .pages)
 
@@ -25,4 +22,4 @@ returns c = of-body (c .before .before .before .pre .lent) (λ m. c .find-run .r
 pub find-run-spec : {M : Type 1} → statement M
 find-run-spec =
     tie.close
-    (tie.spec sub-find-run part-find-run-start part-find-run-end find-run-requires returns)
+    (tie.spec sub-find-run part-find-run-start (search needs) find-run-requires returns)

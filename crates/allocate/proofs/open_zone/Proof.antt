@@ -20,15 +20,6 @@ at c = c .before .before .before
 find-run-requires : tie.Need-find-run-requires
 find-run-requires c κs = c .before .before .pre .0 .good
 
-enum-known-at : tie.Need-enum-known-at
-enum-known-at c = search needs
-
-enum-told : tie.Need-enum-told
-enum-told c = search needs
-
-same-length : tie.Need-same-length
-same-length c = search needs
-
 returns : tie.Need-returns
 returns c =
     let f = c .before .before in
@@ -69,9 +60,6 @@ mul-t17 c =
     let s = start f₁ in
     let h = s .pre in let f = open-page (h .0) (h .1 .0) (h .1 .1) (sym (f₁ .find-run .ensures) ∙ a .at .given .1) in omega arith
 
-same-length-2 : tie.Need-same-length-2
-same-length-2 c = search needs
-
 returns-2 : tie.Need-returns-2
 returns-2 c =
     let t = c .before .before .before .before .before .before in
@@ -87,13 +75,13 @@ open-zone-spec =
     tie.close
     (tie.spec
     find-run-requires
-    enum-known-at
-    enum-told
-    same-length
+    (search needs)
+    (search needs)
+    (search needs)
     returns
     take-zone-requires
     cast-start
     list-front-requires
     mul-t17
-    same-length-2
+    (search needs)
     returns-2)

@@ -37,9 +37,6 @@ mul-t14 c =
     let s = start (spare-behind (c .before .before .before .before .before .before)) in
     let h = s .pre in let k = renew-page (h .0) (h .1 .0) (h .1 .1) in omega arith
 
-same-length : tie.Need-same-length
-same-length c = search needs
-
 returns : tie.Need-returns
 returns c =
     let z = c .before .before .before .before .before .before in
@@ -55,5 +52,5 @@ renew-spec =
     zone-renew-requires
     list-front-requires
     mul-t14
-    same-length
+    (search needs)
     returns)

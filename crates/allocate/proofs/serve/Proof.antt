@@ -28,9 +28,6 @@ mul-offset c =
     let s = start (c .before .before) in
     let h = s .pre in let k = serve-page (h .0) (h .1) in omega arith
 
-room-requires : tie.Need-room-requires
-room-requires c κs = search needs
-
 mul-offset-2 : tie.Need-mul-offset-2
 mul-offset-2 c =
     let z = c .before .before .before in
@@ -49,9 +46,6 @@ zone-full-requires c κs =
     let s = start z in
     let h = s .pre in let e = z .zone-grant .ensures .1 in (lent (granted-words (h .0) (h .1) e), granted-zone (h .0) (h .1) e)
 
-same-length : tie.Need-same-length
-same-length c = search needs
-
 returns : tie.Need-returns
 returns c =
     let r = room (c .before) in
@@ -64,9 +58,6 @@ list-without-requires c κs =
     let z = zone-grant (room (zone-full (c .before))) in
     let s = start z in
     let h = s .pre in (lent (granted-words (h .0) (h .1) (z .zone-grant .ensures .1)), (omega (arith, h .0 .class), serve-page (h .0) (h .1)))
-
-same-length-2 : tie.Need-same-length-2
-same-length-2 c = search needs
 
 returns-2 : tie.Need-returns-2
 returns-2 c =
@@ -85,12 +76,12 @@ serve-spec =
     (tie.spec
     zone-grant-requires
     mul-offset
-    room-requires
+    (search needs)
     mul-offset-2
     add-offset
     zone-full-requires
-    same-length
+    (search needs)
     returns
     list-without-requires
-    same-length-2
+    (search needs)
     returns-2)

@@ -1,5 +1,5 @@
 -- `size_ok` meets its contract. Assumes nothing.
-use Rattle.allocate.proofs.Requests.{range-below, range-from}
+use Rattle.lemmas.proofs.Tests.{range-below, range-from}
 use Rattle.allocate.proofs.size_ok.Statement.{statement}
 use Rattle.allocate.proofs.size_ok.Tie as tie
 

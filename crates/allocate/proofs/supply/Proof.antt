@@ -14,38 +14,17 @@ start c = c .before .before
 abbrev start-before-else1 : tie.Else1 → tie.Start
 start-before-else1 c = c .before .before
 
-class-of-size-requires : tie.Need-class-of-size-requires
-class-of-size-requires c κs = search needs
-
 supply-chunk-requires : tie.Need-supply-chunk-requires
 supply-chunk-requires c κs =
     let t = c .before .before in
     let s = start t in
     let h = s .pre in let k = classed _ (h .1 .2) (t .if1 .taken) in record { good = h .0; class = omega (arith, k .below, c .class-of-size .ensures); least = h .1 .0; most = h .1 .1 }
 
-same-length : tie.Need-same-length
-same-length c = search needs
-
 returns : tie.Need-returns
 returns c =
     let t = c .before .before .before .before .before in
     let s = start t in
     let a = s .args in made (small (decode (a .words .now)) (a .group) (a .size) _ (t .if1 .taken) (c .before .before .before .class-of-size .ensures)) (c .before .before .supply-chunk .ensures)
-
-sub-need : tie.Need-sub-need
-sub-need c = search needs
-
-add-need : tie.Need-add-need
-add-need c = search needs
-
-cast-supply-pages : tie.Need-cast-supply-pages
-cast-supply-pages c = search needs
-
-supply-pages-requires : tie.Need-supply-pages-requires
-supply-pages-requires c κs = search needs
-
-same-length-2 : tie.Need-same-length-2
-same-length-2 c = search needs
 
 returns-2 : tie.Need-returns-2
 returns-2 c =
@@ -57,13 +36,13 @@ pub supply-spec : {M : Type 1} → statement M
 supply-spec =
     tie.close
     (tie.spec
-    class-of-size-requires
+    (search needs)
     supply-chunk-requires
-    same-length
+    (search needs)
     returns
-    sub-need
-    add-need
-    cast-supply-pages
-    supply-pages-requires
-    same-length-2
+    (search needs)
+    (search needs)
+    (search needs)
+    (λ c κs. search needs)
+    (search needs)
     returns-2)

@@ -13,18 +13,6 @@ start c = c .before .before .before
 abbrev find-run : tie.After-at → tie.After-find-run
 find-run c = c .before .before
 
-find-run-requires : tie.Need-find-run-requires
-find-run-requires c κs = search needs
-
-enum-known-at : tie.Need-enum-known-at
-enum-known-at c = search needs
-
-enum-told : tie.Need-enum-told
-enum-told c = search needs
-
-same-length : tie.Need-same-length
-same-length c = search needs
-
 returns : tie.Need-returns
 returns c =
     let f = c .before .before in
@@ -52,9 +40,6 @@ mul-t15 c =
     let s = start f₁ in
     let h = s .pre in let f = pages-page (h .0) (h .1) 0 (sym (f₁ .find-run .ensures) ∙ a .at .given .1) in omega arith
 
-same-length-2 : tie.Need-same-length-2
-same-length-2 c = search needs
-
 returns-2 : tie.Need-returns-2
 returns-2 c =
     let a = c .before .before .before .before .before in
@@ -66,13 +51,13 @@ pub supply-pages-spec : {M : Type 1} → statement M
 supply-pages-spec =
     tie.close
     (tie.spec
-    find-run-requires
-    enum-known-at
-    enum-told
-    same-length
+    (λ c κs. search needs)
+    (search needs)
+    (search needs)
+    (search needs)
     returns
     take-direct-requires
     cast-t14
     mul-t15
-    same-length-2
+    (search needs)
     returns-2)

@@ -11,16 +11,10 @@ use Rattle.bench.proofs.serve_end.Tie as tie
 abbrev start : tie.After-serve-last → tie.Start
 start c = c .before .before .before .before .before
 
-slice-relend-prefix-serve-last : tie.Need-slice-relend-prefix-serve-last
-slice-relend-prefix-serve-last c = search needs
-
 slice-aggregate-serve-last : tie.Need-slice-aggregate-serve-last
 slice-aggregate-serve-last c =
     let s = c .before .before .before .before in
     sym (length-take-le 207 (s .args .out .now) (s .pre .1))
-
-serve-last-requires : tie.Need-serve-last-requires
-serve-last-requires c κs = search needs
 
 slice-reshare-prefix-write-all : tie.Need-slice-reshare-prefix-write-all
 slice-reshare-prefix-write-all c =
@@ -34,28 +28,16 @@ slice-aggregate-write-all c =
     let s₁ = start s in
     sym (length-take-le _ _ (front-holds (s₁ .args .out .now) 207 (s₁ .pre .1) (omega arith) (s .serve-last .ensures .1)))
 
-write-all-requires : tie.Need-write-all-requires
-write-all-requires c κs = search needs
-
-same-length : tie.Need-same-length
-same-length c = search needs
-
-same-length-2 : tie.Need-same-length-2
-same-length-2 c = search needs
-
-returns : tie.Need-returns
-returns c = search needs
-
 pub serve-end-spec : {M : Type 1} → statement M
 serve-end-spec =
     tie.close
     (tie.spec
-    slice-relend-prefix-serve-last
+    (search needs)
     slice-aggregate-serve-last
-    serve-last-requires
+    (search needs)
     slice-reshare-prefix-write-all
     slice-aggregate-write-all
-    write-all-requires
-    same-length
-    same-length-2
-    returns)
+    (search needs)
+    (search needs)
+    (search needs)
+    (search needs))

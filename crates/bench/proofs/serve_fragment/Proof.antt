@@ -23,24 +23,6 @@ turn c = c .before .before .before
 abbrev loop-before-turn : tie.In-loop Inv-loop μ-loop → tie.At-loop Inv-loop μ-loop
 loop-before-turn c = c .before
 
-loop-holds : tie.Need-loop-holds Inv-loop μ-loop
-loop-holds c = search needs
-
-add-end : tie.Need-add-end Inv-loop μ-loop
-add-end c = search needs
-
-sub-serve-next : tie.Need-sub-serve-next Inv-loop μ-loop
-sub-serve-next c = search needs
-
-part-serve-next-start : tie.Need-part-serve-next-start Inv-loop μ-loop
-part-serve-next-start c = search needs
-
-part-serve-next-end : tie.Need-part-serve-next-end Inv-loop μ-loop
-part-serve-next-end c = search needs
-
-serve-next-requires : tie.Need-serve-next-requires Inv-loop μ-loop
-serve-next-requires c κs = search needs
-
 add-used : tie.Need-add-used Inv-loop μ-loop
 add-used c =
     let s = c .before .before .before .before .before .before in
@@ -77,15 +59,6 @@ slice-aggregate-write-all c =
     let l = loop-before-turn (turn s) in
     sym (length-take-le _ _ (part-holds (l .loop .out) (l .loop .used) _ 207 (l .loop .inv .1) refl (omega arith) (s .serve-next .ensures .reply)))
 
-write-all-requires : tie.Need-write-all-requires Inv-loop μ-loop
-write-all-requires c κs = search needs
-
-same-length : tie.Need-same-length Inv-loop μ-loop
-same-length c = search needs
-
-same-length-2 : tie.Need-same-length-2 Inv-loop μ-loop
-same-length-2 c = search needs
-
 returns : tie.Need-returns Inv-loop μ-loop
 returns c =
     let s = c .before .before .before .before .before .before .before .before .before .before in
@@ -103,20 +76,8 @@ loop-again-2 c =
     let l = loop-before-turn (turn s) in
     (serving-turn (l .loop .inv .0) (s .serve-next .ensures) (search needs) (part-keeps (l .loop .out) (l .loop .used) _ 207 (l .loop .inv .1) refl (omega arith) (s .serve-next .ensures .reply)), omega (arith, part-keeps (l .loop .out) (l .loop .used) _ 207 (l .loop .inv .1) refl (omega arith) (s .serve-next .ensures .reply), l .loop .inv .1))
 
-slice-reshare-prefix-write-all-2 : tie.Need-slice-reshare-prefix-write-all-2 Inv-loop μ-loop
-slice-reshare-prefix-write-all-2 c = search needs
-
 slice-aggregate-write-all-2 : tie.Need-slice-aggregate-write-all-2 Inv-loop μ-loop
 slice-aggregate-write-all-2 c = sym (length-take-le _ _ (omega (arith, c .before .before .loop .inv .1)))
-
-write-all-requires-2 : tie.Need-write-all-requires-2 Inv-loop μ-loop
-write-all-requires-2 c κs = search needs
-
-same-length-3 : tie.Need-same-length-3 Inv-loop μ-loop
-same-length-3 c = search needs
-
-same-length-4 : tie.Need-same-length-4 Inv-loop μ-loop
-same-length-4 c = search needs
 
 returns-2 : tie.Need-returns-2 Inv-loop μ-loop
 returns-2 c = serving-done (c .before .before .before .loop .inv .0) (c .before .before .loop-test .left) _
@@ -127,27 +88,27 @@ serve-fragment-spec =
     (tie.spec
     Inv-loop
     μ-loop
-    loop-holds
-    add-end
-    sub-serve-next
-    part-serve-next-start
-    part-serve-next-end
-    serve-next-requires
+    (λ c. search needs)
+    (search needs)
+    (search needs)
+    (search needs)
+    (search needs)
+    (search needs)
     add-used
     sub-if1
     loop-less
     loop-again
     slice-reshare-prefix-write-all
     slice-aggregate-write-all
-    write-all-requires
-    same-length
-    same-length-2
+    (search needs)
+    (search needs)
+    (search needs)
     returns
     loop-less-2
     loop-again-2
-    slice-reshare-prefix-write-all-2
+    (search needs)
     slice-aggregate-write-all-2
-    write-all-requires-2
-    same-length-3
-    same-length-4
+    (search needs)
+    (search needs)
+    (search needs)
     returns-2)

@@ -14,12 +14,6 @@ use Rattle.blocks.proofs.describe.Tie as tie
 abbrev start : tie.After-find-block → tie.Start
 start c = c .before .before
 
-find-block-requires : tie.Need-find-block-requires
-find-block-requires c κs = search needs
-
-enum-known-at : tie.Need-enum-known-at
-enum-known-at c = search needs
-
 cast-pages : tie.Need-cast-pages
 cast-pages c =
     let f = c .before .before .before in
@@ -32,17 +26,11 @@ mul-room c =
     let s = start f in
     let t = subst (Tells (decode (s .args .words .now)) (s .args .offset)) (c .before .at .given .1) (f .find-block .ensures) in omega (arith, whole-few (s .pre .valid) _ _ _ _ t)
 
-enum-known-at-2 : tie.Need-enum-known-at-2
-enum-known-at-2 c = search needs
-
 room-requires : tie.Need-room-requires
 room-requires c κs =
     let f = c .before .before .before in
     let s = start f in
     let t = subst (Tells (decode (s .args .words .now)) (s .args .offset)) (c .before .at2 .given .1) (f .find-block .ensures) in class-few (s .pre .valid) _ _ _ _ _ t
-
-enum-told : tie.Need-enum-told
-enum-told c = search needs
 
 returns : tie.Need-returns
 returns c =
@@ -67,13 +55,13 @@ pub describe-spec : {M : Type 1} → statement M
 describe-spec =
     tie.close
     (tie.spec
-    find-block-requires
-    enum-known-at
+    (λ c κs. search needs)
+    (search needs)
     cast-pages
     mul-room
-    enum-known-at-2
+    (search needs)
     room-requires
-    enum-told
+    (search needs)
     returns
     returns-2
     returns-3)

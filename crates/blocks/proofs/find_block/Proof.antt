@@ -17,26 +17,14 @@ start c = c .before .before .before
 abbrev find-segment : tie.After-at → tie.After-find-segment
 find-segment c = c .before .before
 
-cast-page : tie.Need-cast-page
-cast-page c = search needs
-
 sub-find-segment : tie.Need-sub-find-segment
 sub-find-segment c = has-header (c .before .pre .lent)
 
 part-find-segment-start : tie.Need-part-find-segment-start
 part-find-segment-start c = has-header (c .before .pre .lent)
 
-part-find-segment-end : tie.Need-part-find-segment-end
-part-find-segment-end c = search needs
-
 find-segment-requires : tie.Need-find-segment-requires
 find-segment-requires c κs = body-holds (c .before .before .pre .lent) _ (c .before .before .pre .pages)
-
-enum-known-at : tie.Need-enum-known-at
-enum-known-at c = search needs
-
-enum-told : tie.Need-enum-told
-enum-told c = search needs
 
 returns : tie.Need-returns
 returns c =
@@ -100,9 +88,6 @@ part-group-start c =
     let s = start (find-segment (c .before .before .before .before)) in
     has-header (s .pre .lent)
 
-part-group-end : tie.Need-part-group-end
-part-group-end c = search needs
-
 group-requires : tie.Need-group-requires
 group-requires c κs =
     let a = c .before .before .before .before .before in
@@ -125,13 +110,13 @@ pub find-block-spec : {M : Type 1} → statement M
 find-block-spec =
     tie.close
     (tie.spec
-    cast-page
+    (search needs)
     sub-find-segment
     part-find-segment-start
-    part-find-segment-end
+    (search needs)
     find-segment-requires
-    enum-known-at
-    enum-told
+    (search needs)
+    (search needs)
     returns
     cast-away
     mul-away
@@ -142,6 +127,6 @@ find-block-spec =
     returns-4
     sub-group
     part-group-start
-    part-group-end
+    (search needs)
     group-requires
     returns-5)

@@ -10,15 +10,6 @@ use Rattle.capi.proofs.nostrimel_allocate.Tie as tie
 abbrev start : tie.After-call → tie.Start
 start c = c .before .before .before
 
-call-requires : tie.Need-call-requires
-call-requires c κs = search needs
-
-tell-first-requires : tie.Need-tell-first-requires
-tell-first-requires c κs = search needs
-
-same-length : tie.Need-same-length
-same-length c = search needs
-
 returns : tie.Need-returns
 returns c =
     let c₁ = c .before .before .before .before in
@@ -27,4 +18,4 @@ returns c =
 
 pub nostrimel-allocate-spec : {M : Type 1} → statement M
 nostrimel-allocate-spec =
-    tie.close (tie.spec call-requires tell-first-requires same-length returns)
+    tie.close (tie.spec (search needs) (search needs) (search needs) returns)

@@ -6,18 +6,6 @@ use Rattle.capi.specs.Values.{firstOr}
 use Rattle.capi.proofs.nostrimel_listing.Statement.{statement}
 use Rattle.capi.proofs.nostrimel_listing.Tie as tie
 
-listing-requires : tie.Need-listing-requires
-listing-requires c κs = search needs
-
-tell-length-requires : tie.Need-tell-length-requires
-tell-length-requires c κs = search needs
-
-same-length : tie.Need-same-length
-same-length c = search needs
-
-same-length-2 : tie.Need-same-length-2
-same-length-2 c = search needs
-
 returns : tie.Need-returns
 returns c =
     let listed : tie.After-listing = c .before .before .before .before .before .before in
@@ -28,4 +16,4 @@ returns c =
 
 pub nostrimel-listing-spec : {M : Type 1} → statement M
 nostrimel-listing-spec =
-    tie.close (tie.spec listing-requires tell-length-requires same-length same-length-2 returns)
+    tie.close (tie.spec (search needs) (search needs) (search needs) (search needs) returns)

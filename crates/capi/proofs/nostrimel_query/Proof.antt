@@ -6,15 +6,6 @@ use Rattle.capi.specs.Values.{firstOr, secondOr}
 use Rattle.capi.proofs.nostrimel_query.Statement.{statement}
 use Rattle.capi.proofs.nostrimel_query.Tie as tie
 
-query-requires : tie.Need-query-requires
-query-requires c κs = search needs
-
-tell-both-requires : tie.Need-tell-both-requires
-tell-both-requires c κs = search needs
-
-same-length : tie.Need-same-length
-same-length c = search needs
-
 returns : tie.Need-returns
 returns c =
     let asked : tie.After-query = c .before .before .before .before .before in
@@ -26,4 +17,4 @@ returns c =
     (d .0 ∙ ap (λ x. reading x .refusal) (e .0), (e .1, (first, second)))
 
 pub nostrimel-query-spec : {M : Type 1} → statement M
-nostrimel-query-spec = tie.close (tie.spec query-requires tell-both-requires same-length returns)
+nostrimel-query-spec = tie.close (tie.spec (search needs) (search needs) (search needs) returns)

@@ -10,15 +10,6 @@ use Rattle.capi.proofs.nostrimel_reset.Tie as tie
 abbrev start : tie.After-call → tie.Start
 start c = c .before .before .before
 
-call-requires : tie.Need-call-requires
-call-requires c κs = search needs
-
-tell-first-requires : tie.Need-tell-first-requires
-tell-first-requires c κs = search needs
-
-same-length : tie.Need-same-length
-same-length c = search needs
-
 returns : tie.Need-returns
 returns c =
     let c₁ = c .before .before .before .before in
@@ -26,4 +17,4 @@ returns c =
     let e = c₁ .call .ensures in let d = c .tell-first .ensures in (d .0 ∙ ap (λ x. reading x .refusal) (e .0), (e .1, d .1 ∙ ap (λ x. firstOr (s .args .count .now) (reading x .values)) (e .0)))
 
 pub nostrimel-reset-spec : {M : Type 1} → statement M
-nostrimel-reset-spec = tie.close (tie.spec call-requires tell-first-requires same-length returns)
+nostrimel-reset-spec = tie.close (tie.spec (search needs) (search needs) (search needs) returns)

@@ -10,15 +10,6 @@ use Rattle.capi.proofs.nostrimel_trim.Tie as tie
 abbrev start : tie.After-trim → tie.Start
 start c = c .before .before .before
 
-trim-requires : tie.Need-trim-requires
-trim-requires c κs = search needs
-
-tell-first-requires : tie.Need-tell-first-requires
-tell-first-requires c κs = search needs
-
-same-length : tie.Need-same-length
-same-length c = search needs
-
 returns : tie.Need-returns
 returns c =
     let t = c .before .before .before .before in
@@ -26,4 +17,4 @@ returns c =
     let e = t .trim .ensures in let d = c .tell-first .ensures in (d .0 ∙ ap (λ x. reading x .refusal) (e .0), (e .1, d .1 ∙ ap (λ x. firstOr (s .args .count .now) (reading x .values)) (e .0)))
 
 pub nostrimel-trim-spec : {M : Type 1} → statement M
-nostrimel-trim-spec = tie.close (tie.spec trim-requires tell-first-requires same-length returns)
+nostrimel-trim-spec = tie.close (tie.spec (search needs) (search needs) (search needs) returns)

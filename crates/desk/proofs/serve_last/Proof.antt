@@ -15,24 +15,6 @@ finish c = c .before .before
 abbrev start : tie.After-finish → tie.Start
 start c = c .before .before .before
 
-finish-requires : tie.Need-finish-requires
-finish-requires c κs = search needs
-
-enum-known-got : tie.Need-enum-known-got
-enum-known-got c = search needs
-
-serve-requires : tie.Need-serve-requires
-serve-requires c κs = search needs
-
-enum-told : tie.Need-enum-told
-enum-told c = search needs
-
-same-length : tie.Need-same-length
-same-length c = search needs
-
-same-length-2 : tie.Need-same-length-2
-same-length-2 c = search needs
-
 returns : tie.Need-returns
 returns c =
     let s = c .before .before .before .before in
@@ -51,11 +33,11 @@ pub serve-last-spec : {M : Type 1} → statement M
 serve-last-spec =
     tie.close
     (tie.spec
-    finish-requires
-    enum-known-got
-    serve-requires
-    enum-told
-    same-length
-    same-length-2
+    (search needs)
+    (search needs)
+    (search needs)
+    (search needs)
+    (search needs)
+    (search needs)
     returns
     returns-2)

@@ -28,36 +28,12 @@ not-counted k (inr (inl e)) = omega (arith, e)
 not-counted k (inr (inr (inl e))) = omega (arith, e)
 not-counted k (inr (inr (inr e))) = omega (arith, e)
 
-listing-requires : tie.Need-listing-requires
-listing-requires c κs = search needs
-
-enum-known-answer : tie.Need-enum-known-answer
-enum-known-answer c = search needs
-
-wide-requires : tie.Need-wide-requires
-wide-requires c κs = search needs
-
-same-length : tie.Need-same-length
-same-length c = search needs
-
-same-length-2 : tie.Need-same-length-2
-same-length-2 c = search needs
-
 returns : tie.Need-returns
 returns c =
     let l = listed (c .before .before .before .before) in
     let s = start l in
     let e = l .listing .ensures in
     (e .1 .0 ∙ listing-unchanged _ _, listing-counted (s .args .meta .now) (s .args .out .now) (e .0, e .1 .1) (c .before .before .answer .given .1) (c .wide .ensures))
-
-put-answer-requires : tie.Need-put-answer-requires
-put-answer-requires c κs = search needs
-
-same-length-3 : tie.Need-same-length-3
-same-length-3 c = search needs
-
-same-length-4 : tie.Need-same-length-4
-same-length-4 c = search needs
 
 returns-2 : tie.Need-returns-2
 returns-2 c =
@@ -74,13 +50,13 @@ pub serve-listing-spec : {M : Type 1} → statement M
 serve-listing-spec =
     tie.close
     (tie.spec
-    listing-requires
-    enum-known-answer
-    wide-requires
-    same-length
-    same-length-2
+    (search needs)
+    (search needs)
+    (search needs)
+    (search needs)
+    (search needs)
     returns
-    put-answer-requires
-    same-length-3
-    same-length-4
+    (search needs)
+    (search needs)
+    (search needs)
     returns-2)

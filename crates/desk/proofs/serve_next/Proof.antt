@@ -14,24 +14,6 @@ feed c = c .before .before .before
 abbrev start : tie.After-feed → tie.Start
 start c = c .before .before .before .before
 
-feed-requires : tie.Need-feed-requires
-feed-requires c κs = search needs
-
-enum-known-got : tie.Need-enum-known-got
-enum-known-got c = search needs
-
-serve-requires : tie.Need-serve-requires
-serve-requires c κs = search needs
-
-enum-told : tie.Need-enum-told
-enum-told c = search needs
-
-same-length : tie.Need-same-length
-same-length c = search needs
-
-same-length-2 : tie.Need-same-length-2
-same-length-2 c = search needs
-
 returns : tie.Need-returns
 returns c =
     let s = c .before .before .before .before in
@@ -50,11 +32,11 @@ pub serve-next-spec : {M : Type 1} → statement M
 serve-next-spec =
     tie.close
     (tie.spec
-    feed-requires
-    enum-known-got
-    serve-requires
-    enum-told
-    same-length
-    same-length-2
+    (search needs)
+    (search needs)
+    (search needs)
+    (search needs)
+    (search needs)
+    (search needs)
     returns
     returns-2)

@@ -50,9 +50,6 @@ list-front-requires c κs =
     let h = s .pre in
     (mid-lent (h .0) (h .1) (z .zone-put-back .ensures), (omega (arith, z₁ .zone-class .ensures, live-class (h .0) (h .1)), live-page (h .0) (h .1), mid-room (h .0) (h .1) (z .zone-put-back .ensures) (sym (z₂ .zone-full .ensures) ∙ t .if1 .taken)))
 
-same-length : tie.Need-same-length
-same-length c = search needs
-
 returns : tie.Need-returns
 returns c =
     let z = c .before .before .before .before .before .before in
@@ -66,9 +63,6 @@ zone-put-back-requires-2 : tie.Need-zone-put-back-requires-2
 zone-put-back-requires-2 c κs =
     let s = start (zone-full-before-else1 (c .before)) in
     let h = s .pre in (h .0 .lent, live-here (h .0) (h .1), live-owner (h .0) (h .1))
-
-same-length-2 : tie.Need-same-length-2
-same-length-2 c = search needs
 
 returns-2 : tie.Need-returns-2
 returns-2 c =
@@ -86,8 +80,8 @@ chain-back-spec =
     zone-put-back-requires
     cast-list-front
     list-front-requires
-    same-length
+    (search needs)
     returns
     zone-put-back-requires-2
-    same-length-2
+    (search needs)
     returns-2)

@@ -31,17 +31,11 @@ count c = c .before
 zone-class-requires : tie.Need-zone-class-requires
 zone-class-requires c κs = let h = c .before .before .pre in (h .0 .lent, live-here (h .0) (h .1))
 
-chain-back-requires : tie.Need-chain-back-requires
-chain-back-requires c κs = search needs
-
 zone-idle-requires : tie.Need-zone-idle-requires
 zone-idle-requires c κs =
     let c₁ = c .before .before .before in
     let s = start (zone-class c₁) in
     let h = s .pre in let e = c₁ .chain-back .ensures in (chained-good (h .0) (h .1) e .lent, back-here (h .0) (h .1) e)
-
-same-length : tie.Need-same-length
-same-length c = search needs
 
 returns : tie.Need-returns
 returns c =
@@ -68,9 +62,6 @@ count-requires c κs =
     let s = start z in
     let h = s .pre in (header-lent (chained-good (h .0) (h .1) (c₁ .chain-back .ensures) .lent), omega (arith, z .zone-class .ensures, live-class (h .0) (h .1)))
 
-same-length-2 : tie.Need-same-length-2
-same-length-2 c = search needs
-
 returns-2 : tie.Need-returns-2
 returns-2 c =
     let c₁ = chain-back (zone-idle (else1 (c .before))) in
@@ -84,9 +75,6 @@ retire-requires c κs =
     let z = zone-class c₁ in
     let s = start z in
     let h = s .pre in let e = c₁ .chain-back .ensures in (chained-good (h .0) (h .1) e, (_, back-stands (h .0) (h .1) e, z .zone-class .ensures))
-
-same-length-3 : tie.Need-same-length-3
-same-length-3 c = search needs
 
 returns-3 : tie.Need-returns-3
 returns-3 c =
@@ -106,15 +94,15 @@ chunk-back-spec =
     tie.close
     (tie.spec
     zone-class-requires
-    chain-back-requires
+    (λ c κs. search needs)
     zone-idle-requires
-    same-length
+    (search needs)
     returns
     slice-reshare-prefix-count
     slice-aggregate-count
     count-requires
-    same-length-2
+    (search needs)
     returns-2
     retire-requires
-    same-length-3
+    (search needs)
     returns-3)

@@ -57,9 +57,6 @@ spare-front-requires c κs =
     let e = l .list-without .ensures in
     (off-lent (h .0) (h .1 .0) (h .1 .1) (h .1 .2) e, (zone-page (h .0) (h .1 .0) (h .1 .1) (h .1 .2), off-room (h .0) (h .1 .0) (h .1 .1) (h .1 .2) e (omega (arith, off-count (h .0) (h .1 .0) (h .1 .1) (h .1 .2) e _ (s .spare-count .ensures), c .before .if1 .taken))))
 
-same-length : tie.Need-same-length
-same-length c = search needs
-
 returns : tie.Need-returns
 returns c =
     let t = c .before .before .before .before in
@@ -78,9 +75,6 @@ give-back-requires c κs =
     let h = s .pre in
     let e = l .list-without .ensures in
     ((off-lent (h .0) (h .1 .0) (h .1 .1) (h .1 .2) e, off-total (h .0) (h .1 .0) (h .1 .1) (h .1 .2) e), (off-apart (h .0) (h .1 .0) (h .1 .1) (h .1 .2) e, off-stands (h .0) (h .1 .0) (h .1 .1) (h .1 .2) e))
-
-same-length-2 : tie.Need-same-length-2
-same-length-2 c = search needs
 
 returns-2 : tie.Need-returns-2
 returns-2 c =
@@ -104,8 +98,8 @@ retire-spec =
     spare-count-requires
     cast-spare-front
     spare-front-requires
-    same-length
+    (search needs)
     returns
     give-back-requires
-    same-length-2
+    (search needs)
     returns-2)

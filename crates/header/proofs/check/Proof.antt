@@ -18,14 +18,8 @@ start-before-are-legal c = c .before .before .before .before .before .before .be
 returns : tie.Need-returns
 returns c = no-header _ (λ h. c .if1 .taken (h .size))
 
-shared-slice-read-if2 : tie.Need-shared-slice-read-if2
-shared-slice-read-if2 c = search needs
-
 returns-2 : tie.Need-returns-2
 returns-2 c = no-header _ (λ h. c .if2 .taken (h .named))
-
-shared-slice-read-pages : tie.Need-shared-slice-read-pages
-shared-slice-read-pages c = search needs
 
 returns-3 : tie.Need-returns-3
 returns-3 c = no-header _ (λ h. let a = h .least in omega arith)
@@ -33,47 +27,11 @@ returns-3 c = no-header _ (λ h. let a = h .least in omega arith)
 returns-4 : tie.Need-returns-4
 returns-4 c = no-header _ (λ h. let a = h .most in omega arith)
 
-sub-are-legal : tie.Need-sub-are-legal
-sub-are-legal c = search needs
-
-part-are-legal-start : tie.Need-part-are-legal-start
-part-are-legal-start c = search needs
-
-part-are-legal-end : tie.Need-part-are-legal-end
-part-are-legal-end c = search needs
-
-are-legal-requires : tie.Need-are-legal-requires
-are-legal-requires c κs = search needs
-
 returns-5 : tie.Need-returns-5
 returns-5 c = no-header _ (λ h. true-false (h .spare) (sym (c .before .are-legal .ensures) ∙ not-true _ (c .if5 .taken)))
 
-sub-are-legal-2 : tie.Need-sub-are-legal-2
-sub-are-legal-2 c = search needs
-
-part-are-legal-start-2 : tie.Need-part-are-legal-start-2
-part-are-legal-start-2 c = search needs
-
-part-are-legal-end-2 : tie.Need-part-are-legal-end-2
-part-are-legal-end-2 c = search needs
-
-are-legal-requires-2 : tie.Need-are-legal-requires-2
-are-legal-requires-2 c κs = search needs
-
 returns-6 : tie.Need-returns-6
 returns-6 c = no-header _ (λ h. true-false (h .lists) (sym (c .before .are-legal2 .ensures) ∙ not-true _ (c .if6 .taken)))
-
-sub-is-zero : tie.Need-sub-is-zero
-sub-is-zero c = search needs
-
-part-is-zero-start : tie.Need-part-is-zero-start
-part-is-zero-start c = search needs
-
-part-is-zero-end : tie.Need-part-is-zero-end
-part-is-zero-end c = search needs
-
-is-zero-requires : tie.Need-is-zero-requires
-is-zero-requires c κs = search needs
 
 returns-7 : tie.Need-returns-7
 returns-7 c =
@@ -90,23 +48,23 @@ check-spec =
     tie.close
     (tie.spec
     returns
-    shared-slice-read-if2
+    (search needs)
     returns-2
-    shared-slice-read-pages
+    (search needs)
     returns-3
     returns-4
-    sub-are-legal
-    part-are-legal-start
-    part-are-legal-end
-    are-legal-requires
+    (search needs)
+    (search needs)
+    (search needs)
+    (search needs)
     returns-5
-    sub-are-legal-2
-    part-are-legal-start-2
-    part-are-legal-end-2
-    are-legal-requires-2
+    (search needs)
+    (search needs)
+    (search needs)
+    (search needs)
     returns-6
-    sub-is-zero
-    part-is-zero-start
-    part-is-zero-end
-    is-zero-requires
+    (search needs)
+    (search needs)
+    (search needs)
+    (search needs)
     returns-7)

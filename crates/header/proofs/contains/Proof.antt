@@ -7,23 +7,8 @@ use Rattle.header.proofs.Steps.{header-length, class-times}
 use Rattle.header.proofs.contains.Statement.{statement}
 use Rattle.header.proofs.contains.Tie as tie
 
-key-requires : tie.Need-key-requires
-key-requires c κs = search needs
-
-sub-count-between : tie.Need-sub-count-between
-sub-count-between c = search needs
-
-part-count-between-start : tie.Need-part-count-between-start
-part-count-between-start c = search needs
-
 part-count-between-end : tie.Need-part-count-between-end
 part-count-between-end c = omega (arith, header-length (c .before .before .pre .0))
-
-add-count-between : tie.Need-add-count-between
-add-count-between c = search needs
-
-count-between-requires : tie.Need-count-between-requires
-count-between-requires c κs = search needs
 
 returns : tie.Need-returns
 returns c =
@@ -34,10 +19,10 @@ pub contains-spec : {M : Type 1} → statement M
 contains-spec =
     tie.close
     (tie.spec
-    key-requires
-    sub-count-between
-    part-count-between-start
+    (search needs)
+    (search needs)
+    (search needs)
     part-count-between-end
-    add-count-between
-    count-between-requires
+    (search needs)
+    (search needs)
     returns)

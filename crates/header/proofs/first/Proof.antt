@@ -12,20 +12,8 @@ start c = c .before .before
 abbrev key : tie.After-count-between → tie.After-key
 key c = c .before .before
 
-key-requires : tie.Need-key-requires
-key-requires c κs = search needs
-
-sub-count-between : tie.Need-sub-count-between
-sub-count-between c = search needs
-
-part-count-between-start : tie.Need-part-count-between-start
-part-count-between-start c = search needs
-
 part-count-between-end : tie.Need-part-count-between-end
 part-count-between-end c = omega (arith, header-length (c .before .before .pre .0))
-
-count-between-requires : tie.Need-count-between-requires
-count-between-requires c κs = search needs
 
 add-slot : tie.Need-add-slot
 add-slot c =
@@ -51,9 +39,6 @@ returns c =
     let pre = s .pre in
     first-below (pre .0) _ (pre .1) _ _ (k .key .ensures) (c₁ .count-between .ensures) (c .if1 .taken)
 
-key-requires-2 : tie.Need-key-requires-2
-key-requires-2 c κs = search needs
-
 returns-2 : tie.Need-returns-2
 returns-2 c =
     let c₁ = c .before .before .before .before in
@@ -61,12 +46,6 @@ returns-2 c =
     let s = start k in
     let pre = s .pre in
     first-above (pre .0) _ (pre .1) _ _ (k .key .ensures) (c₁ .count-between .ensures) _ (c .before .key2 .ensures) (c .if2 .taken)
-
-sub-t12 : tie.Need-sub-t12
-sub-t12 c = search needs
-
-sub-t14 : tie.Need-sub-t14
-sub-t14 c = search needs
 
 returns-3 : tie.Need-returns-3
 returns-3 c =
@@ -80,17 +59,17 @@ pub first-spec : {M : Type 1} → statement M
 first-spec =
     tie.close
     (tie.spec
-    key-requires
-    sub-count-between
-    part-count-between-start
+    (search needs)
+    (search needs)
+    (search needs)
     part-count-between-end
-    count-between-requires
+    (search needs)
     add-slot
     mul-slot
     shared-slice-read-slot
     returns
-    key-requires-2
+    (search needs)
     returns-2
-    sub-t12
-    sub-t14
+    (search needs)
+    (search needs)
     returns-3)

@@ -6,17 +6,8 @@ use Rattle.header.proofs.Steps.{header-length, lists-most, listed-count
 use Rattle.header.proofs.listed.Statement.{statement}
 use Rattle.header.proofs.listed.Tie as tie
 
-sub-count-between : tie.Need-sub-count-between
-sub-count-between c = search needs
-
-part-count-between-start : tie.Need-part-count-between-start
-part-count-between-start c = search needs
-
 part-count-between-end : tie.Need-part-count-between-end
 part-count-between-end c = omega (arith, header-length (c .before .pre))
-
-count-between-requires : tie.Need-count-between-requires
-count-between-requires c κs = search needs
 
 cast-result : tie.Need-cast-result
 cast-result c = omega (arith, lists-most (c .before .before .before .pre) _ _ (c .count-between .ensures))
@@ -28,9 +19,9 @@ pub listed-spec : {M : Type 1} → statement M
 listed-spec =
     tie.close
     (tie.spec
-    sub-count-between
-    part-count-between-start
+    (search needs)
+    (search needs)
     part-count-between-end
-    count-between-requires
+    (search needs)
     cast-result
     returns)

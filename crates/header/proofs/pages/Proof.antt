@@ -8,8 +8,5 @@ use Rattle.header.proofs.pages.Tie as tie
 shared-slice-read-result : tie.Need-shared-slice-read-result
 shared-slice-read-result c = omega (arith, header-length (c .before .pre))
 
-returns : tie.Need-returns
-returns c = search needs
-
 pub pages-spec : {M : Type 1} → statement M
-pages-spec = tie.close (tie.spec shared-slice-read-result returns)
+pages-spec = tie.close (tie.spec shared-slice-read-result (search needs))

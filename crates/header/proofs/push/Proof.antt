@@ -12,37 +12,13 @@ start c = c .before .before .before .before
 abbrev key : tie.After-count-between → tie.After-key
 key c = c .before
 
-sub-count-between : tie.Need-sub-count-between
-sub-count-between c = search needs
-
-part-count-between-start : tie.Need-part-count-between-start
-part-count-between-start c = search needs
-
 part-count-between-end : tie.Need-part-count-between-end
 part-count-between-end c = omega (arith, header-length (c .before .before .pre .0))
-
-key-requires : tie.Need-key-requires
-key-requires c κs = search needs
-
-count-between-requires : tie.Need-count-between-requires
-count-between-requires c κs = search needs
-
-sub-shift-in : tie.Need-sub-shift-in
-sub-shift-in c = search needs
-
-part-shift-in-start : tie.Need-part-shift-in-start
-part-shift-in-start c = search needs
 
 part-shift-in-end : tie.Need-part-shift-in-end
 part-shift-in-end c =
     let s = start (c .before) in
     omega (arith, header-length (s .pre .0))
-
-key-requires-2 : tie.Need-key-requires-2
-key-requires-2 c κs = search needs
-
-add-shift-in : tie.Need-add-shift-in
-add-shift-in c = search needs
 
 shift-in-requires : tie.Need-shift-in-requires
 shift-in-requires c κs =
@@ -50,9 +26,6 @@ shift-in-requires c κs =
     let s = start (key c₁) in
     let pre = s .pre in
     omega (arith, lists-size (pre .0), lists-most (pre .0) _ _ (c₁ .count-between .ensures))
-
-same-length : tie.Need-same-length
-same-length c = search needs
 
 returns : tie.Need-returns
 returns c =
@@ -66,16 +39,16 @@ pub push-spec : {M : Type 1} → statement M
 push-spec =
     tie.close
     (tie.spec
-    sub-count-between
-    part-count-between-start
+    (search needs)
+    (search needs)
     part-count-between-end
-    key-requires
-    count-between-requires
-    sub-shift-in
-    part-shift-in-start
+    (search needs)
+    (search needs)
+    (search needs)
+    (search needs)
     part-shift-in-end
-    key-requires-2
-    add-shift-in
+    (search needs)
+    (search needs)
     shift-in-requires
-    same-length
+    (search needs)
     returns)

@@ -11,11 +11,8 @@ shared-slice-read-slot c = omega (arith, header-length (c .before .pre))
 returns : tie.Need-returns
 returns c = spare-none (c .before .before .pre) (c .if1 .taken)
 
-sub-t4 : tie.Need-sub-t4
-sub-t4 c = search needs
-
 returns-2 : tie.Need-returns-2
 returns-2 c = spare-some (c .before .before .pre) (c .if1 .left)
 
 pub spare-first-spec : {M : Type 1} → statement M
-spare-first-spec = tie.close (tie.spec shared-slice-read-slot returns sub-t4 returns-2)
+spare-first-spec = tie.close (tie.spec shared-slice-read-slot returns (search needs) returns-2)

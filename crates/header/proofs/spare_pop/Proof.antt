@@ -6,29 +6,14 @@ use Rattle.header.proofs.Steps.{header-length, step-spare-pop}
 use Rattle.header.proofs.spare_pop.Statement.{statement}
 use Rattle.header.proofs.spare_pop.Tie as tie
 
-add-words : tie.Need-add-words
-add-words c = search needs
-
-mul-words : tie.Need-mul-words
-mul-words c = search needs
-
 slice-read-words : tie.Need-slice-read-words
 slice-read-words c = omega (arith, header-length (c .before .pre))
 
 slice-write-words : tie.Need-slice-write-words
 slice-write-words c = omega (arith, header-length (c .before .pre))
 
-add-words-2 : tie.Need-add-words-2
-add-words-2 c = search needs
-
-mul-words-2 : tie.Need-mul-words-2
-mul-words-2 c = search needs
-
 slice-write-words-2 : tie.Need-slice-write-words-2
 slice-write-words-2 c = simp length-set (omega (arith, header-length (c .before .pre)))
-
-same-length : tie.Need-same-length
-same-length c = search needs
 
 returns : tie.Need-returns
 returns c = step-spare-pop (c .before .pre)
@@ -37,12 +22,12 @@ pub spare-pop-spec : {M : Type 1} → statement M
 spare-pop-spec =
     tie.close
     (tie.spec
-    add-words
-    mul-words
+    (search needs)
+    (search needs)
     slice-read-words
     slice-write-words
-    add-words-2
-    mul-words-2
+    (search needs)
+    (search needs)
     slice-write-words-2
-    same-length
+    (search needs)
     returns)

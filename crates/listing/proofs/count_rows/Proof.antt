@@ -28,9 +28,6 @@ mul-same c = omega (arith, c .before .loop .inv .most)
 shared-slice-read-same : tie.Need-shared-slice-read-same Inv-loop μ-loop
 shared-slice-read-same c = let k = count-next (c .before .before .loop .inv) (c .before .loop-test .taken) in omega (arith, k .read .long)
 
-same-requires : tie.Need-same-requires Inv-loop μ-loop
-same-requires c κs = search needs
-
 add-rows : tie.Need-add-rows Inv-loop μ-loop
 add-rows c =
     let l = c .before .before .before in
@@ -71,7 +68,7 @@ count-rows-spec =
     mul-w
     mul-same
     shared-slice-read-same
-    same-requires
+    (search needs)
     add-rows
     size-requires
     add-p

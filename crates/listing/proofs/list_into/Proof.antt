@@ -18,29 +18,14 @@ put-listing c = c .before .before
 abbrev start : tie.After-put-listing → tie.Start
 start c = c .before .before .before .before
 
-slice-aggregate-put-listing : tie.Need-slice-aggregate-put-listing
-slice-aggregate-put-listing c = search needs
-
-put-listing-requires : tie.Need-put-listing-requires
-put-listing-requires c κs = search needs
-
-has-room-requires : tie.Need-has-room-requires
-has-room-requires c κs = search needs
-
 returns : tie.Need-returns
 returns c = not-listed _ (c .before .before .before .put-listing .ensures) (sym (c .before .has-room .ensures) ∙ not-true _ (c .if1 .taken))
-
-put-listing-requires-2 : tie.Need-put-listing-requires-2
-put-listing-requires-2 c κs = search needs
 
 cast-bytes : tie.Need-cast-bytes
 cast-bytes c =
     let p = put-listing (has-room (c .before .before .before .before)) in
     let s = start p in
     omega (arith, p .put-listing .ensures .next, listing-length (s .pre))
-
-same-length : tie.Need-same-length
-same-length c = search needs
 
 returns-2 : tie.Need-returns-2
 returns-2 c =
@@ -53,11 +38,11 @@ pub list-into-spec : {M : Type 1} → statement M
 list-into-spec =
     tie.close
     (tie.spec
-    slice-aggregate-put-listing
-    put-listing-requires
-    has-room-requires
+    (search needs)
+    (λ c κs. search needs)
+    (search needs)
     returns
-    put-listing-requires-2
+    (λ c κs. search needs)
     cast-bytes
-    same-length
+    (search needs)
     returns-2)

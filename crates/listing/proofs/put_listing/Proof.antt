@@ -14,17 +14,11 @@ start c = c .before .before .before .before .before
 abbrev put-section : tie.After-put-section2 → tie.After-put-section
 put-section c = c .before .before .before .before .before
 
-slice-aggregate-put-section : tie.Need-slice-aggregate-put-section
-slice-aggregate-put-section c = search needs
-
 put-section-requires : tie.Need-put-section-requires
 unfolding ascii
 put-section-requires c κs =
     let s = c .before .before .before .before in
     (s .pre, left-bounded (left-sections {l = s .args .out .now} _ (s .pre .sound)) (listing-bounded (s .pre)))
-
-slice-aggregate-put-section-2 : tie.Need-slice-aggregate-put-section-2
-slice-aggregate-put-section-2 c = search needs
 
 put-section-requires-2 : tie.Need-put-section-requires-2
 unfolding ascii
@@ -33,9 +27,6 @@ put-section-requires-2 c κs =
     let s = start p in
     (s .pre, left-bounded (left-step (left-sections _ (s .pre .sound)) (p .put-section .ensures)) (listing-bounded (s .pre)))
 
-slice-aggregate-put-section-3 : tie.Need-slice-aggregate-put-section-3
-slice-aggregate-put-section-3 c = search needs
-
 put-section-requires-3 : tie.Need-put-section-requires-3
 unfolding ascii
 put-section-requires-3 c κs =
@@ -43,9 +34,6 @@ put-section-requires-3 c κs =
     let p₁ = put-section p in
     let s = start p₁ in
     (s .pre, left-bounded (left-step (left-step (left-sections _ (s .pre .sound)) (p₁ .put-section .ensures)) (p .put-section2 .ensures)) (listing-bounded (s .pre)))
-
-same-length : tie.Need-same-length
-same-length c = search needs
 
 returns : tie.Need-returns
 unfolding ascii
@@ -59,11 +47,11 @@ pub put-listing-spec : {M : Type 1} → statement M
 put-listing-spec =
     tie.close
     (tie.spec
-    slice-aggregate-put-section
+    (search needs)
     put-section-requires
-    slice-aggregate-put-section-2
+    (search needs)
     put-section-requires-2
-    slice-aggregate-put-section-3
+    (search needs)
     put-section-requires-3
-    same-length
+    (search needs)
     returns)

@@ -18,16 +18,16 @@ else1 c = c .before
 abbrev else1-before-else2 : tie.Else2 → tie.Else1
 else1-before-else2 c = c .before
 
-abbrev wide : tie.Then3 → tie.After-wide
-wide c = c .before
+abbrev long : tie.Then3 → tie.After-long
+long c = c .before
 
-abbrev else2 : tie.After-wide → tie.Else2
+abbrev else2 : tie.After-long → tie.Else2
 else2 c = c .before .before
 
-abbrev wide-before-else3 : tie.Else3 → tie.After-wide
-wide-before-else3 c = c .before
+abbrev long-before-else3 : tie.Else3 → tie.After-long
+long-before-else3 c = c .before
 
-abbrev else3 : tie.After-wide2 → tie.Else3
+abbrev else3 : tie.After-long2 → tie.Else3
 else3 c = c .before .before
 
 mul-w : tie.Need-mul-w
@@ -54,12 +54,6 @@ mul-put-zone c =
     let s = start (else1 (c .before)) in
     let r = read-at (s .pre .0) (s .pre .1 .2) in omega arith
 
-sub-put-zone : tie.Need-sub-put-zone
-sub-put-zone c = search needs
-
-part-put-zone-start : tie.Need-part-put-zone-start
-part-put-zone-start c = search needs
-
 part-put-zone-end : tie.Need-part-put-zone-end
 part-put-zone-end c =
     let e = else1 (c .before) in
@@ -75,9 +69,6 @@ put-zone-requires c κs =
     let h = zone-here r (sym (r .kind) ∙ e .if1 .left ∙ t .if2 .taken) in
     (h .good, bounded-as _ (text-zone r (e .if1 .left) (t .if2 .taken)) (s .pre .1 .3))
 
-same-length : tie.Need-same-length
-same-length c = search needs
-
 returns-2 : tie.Need-returns-2
 returns-2 c =
     let t = c .before .before .before .before .before in
@@ -85,89 +76,71 @@ returns-2 c =
     let s₁ = start e in
     λ b x s. wrote-as (text-zone (read-at (s₁ .pre .0) s) (e .if1 .left) (t .if2 .taken)) (c .before .before .put-zone .ensures)
 
-add-wide : tie.Need-add-wide
-add-wide c =
+add-long : tie.Need-add-long
+add-long c =
     let s = start (c .before) in
     let r = read-at (s .pre .0) (s .pre .1 .2) in omega arith
 
-mul-wide : tie.Need-mul-wide
-mul-wide c =
+mul-long : tie.Need-mul-long
+mul-long c =
     let s = start (c .before) in
     let r = read-at (s .pre .0) (s .pre .1 .2) in omega arith
 
-shared-slice-read-wide : tie.Need-shared-slice-read-wide
-shared-slice-read-wide c =
+shared-slice-read-long : tie.Need-shared-slice-read-long
+shared-slice-read-long c =
     let s = start (else1-before-else2 (c .before)) in
     let r = read-at (s .pre .0) (s .pre .1 .2) in omega (arith, r .ok .0)
-
-wide-requires : tie.Need-wide-requires
-wide-requires c κs = search needs
-
-slice-aggregate-put-line : tie.Need-slice-aggregate-put-line
-slice-aggregate-put-line c = search needs
 
 put-line-requires : tie.Need-put-line-requires
 put-line-requires c κs =
     let t = c .before .before in
-    let w = wide t in
+    let w = long t in
     let e = else1-before-else2 (else2 w) in
     let s = start e in
-    let r = read-at (s .pre .0) (s .pre .1 .2) in bounded-as _ (text-run r (e .if1 .left) (w .wide .ensures) (t .if3 .taken)) (s .pre .1 .3)
-
-same-length-2 : tie.Need-same-length-2
-same-length-2 c = search needs
+    let r = read-at (s .pre .0) (s .pre .1 .2) in bounded-as _ (text-run r (e .if1 .left) (w .long .ensures) (t .if3 .taken)) (s .pre .1 .3)
 
 returns-3 : tie.Need-returns-3
 returns-3 c =
     let t = c .before .before .before .before .before in
-    let w = wide t in
+    let w = long t in
     let e = else1-before-else2 (else2 w) in
     let s₁ = start e in
-    λ b x s. wrote-as (text-run (read-at (s₁ .pre .0) s) (e .if1 .left) (w .wide .ensures) (t .if3 .taken)) (c .before .before .put-line .ensures)
+    λ b x s. wrote-as (text-run (read-at (s₁ .pre .0) s) (e .if1 .left) (w .long .ensures) (t .if3 .taken)) (c .before .before .put-line .ensures)
 
-add-wide-2 : tie.Need-add-wide-2
-add-wide-2 c =
+add-long-2 : tie.Need-add-long-2
+add-long-2 c =
     let s = start (else1-before-else2 (else2 (c .before))) in
     let r = read-at (s .pre .0) (s .pre .1 .2) in omega arith
 
-mul-wide-2 : tie.Need-mul-wide-2
-mul-wide-2 c =
+mul-long-2 : tie.Need-mul-long-2
+mul-long-2 c =
     let s = start (else1-before-else2 (else2 (c .before))) in
     let r = read-at (s .pre .0) (s .pre .1 .2) in omega arith
 
-shared-slice-read-wide-2 : tie.Need-shared-slice-read-wide-2
-shared-slice-read-wide-2 c =
-    let s = start (else1-before-else2 (else2 (wide-before-else3 (c .before)))) in
+shared-slice-read-long-2 : tie.Need-shared-slice-read-long-2
+shared-slice-read-long-2 c =
+    let s = start (else1-before-else2 (else2 (long-before-else3 (c .before)))) in
     let r = read-at (s .pre .0) (s .pre .1 .2) in omega (arith, r .ok .0)
-
-wide-requires-2 : tie.Need-wide-requires-2
-wide-requires-2 c κs = search needs
-
-slice-aggregate-put-line-2 : tie.Need-slice-aggregate-put-line-2
-slice-aggregate-put-line-2 c = search needs
 
 put-line-requires-2 : tie.Need-put-line-requires-2
 put-line-requires-2 c κs =
     let w = c .before .before in
     let e = else3 w in
-    let w₁ = wide-before-else3 e in
+    let w₁ = long-before-else3 e in
     let e₁ = else2 w₁ in
     let e₂ = else1-before-else2 e₁ in
     let s = start e₂ in
-    let r = read-at (s .pre .0) (s .pre .1 .2) in bounded-as _ (text-direct r (e₂ .if1 .left) (w₁ .wide .ensures) (w .wide2 .ensures) (e₁ .if2 .left) (e .if3 .left)) (s .pre .1 .3)
-
-same-length-3 : tie.Need-same-length-3
-same-length-3 c = search needs
+    let r = read-at (s .pre .0) (s .pre .1 .2) in bounded-as _ (text-direct r (e₂ .if1 .left) (w₁ .long .ensures) (w .long2 .ensures) (e₁ .if2 .left) (e .if3 .left)) (s .pre .1 .3)
 
 returns-4 : tie.Need-returns-4
 returns-4 c =
     let w = c .before .before .before .before .before in
     let e = else3 w in
-    let w₁ = wide-before-else3 e in
+    let w₁ = long-before-else3 e in
     let e₁ = else2 w₁ in
     let e₂ = else1-before-else2 e₁ in
     let s₁ = start e₂ in
-    λ b x s. wrote-as (text-direct (read-at (s₁ .pre .0) s) (e₂ .if1 .left) (w₁ .wide .ensures) (w .wide2 .ensures) (e₁ .if2 .left) (e .if3 .left)) (c .before .before .put-line2 .ensures)
+    λ b x s. wrote-as (text-direct (read-at (s₁ .pre .0) s) (e₂ .if1 .left) (w₁ .long .ensures) (w .long2 .ensures) (e₁ .if2 .left) (e .if3 .left)) (c .before .before .put-line2 .ensures)
 
 pub put-row-spec : {M : Type 1} → statement M
 put-row-spec =
@@ -179,25 +152,25 @@ put-row-spec =
     returns
     add-e
     mul-put-zone
-    sub-put-zone
-    part-put-zone-start
+    (search needs)
+    (search needs)
     part-put-zone-end
     put-zone-requires
-    same-length
+    (search needs)
     returns-2
-    add-wide
-    mul-wide
-    shared-slice-read-wide
-    wide-requires
-    slice-aggregate-put-line
+    add-long
+    mul-long
+    shared-slice-read-long
+    (search needs)
+    (search needs)
     put-line-requires
-    same-length-2
+    (search needs)
     returns-3
-    add-wide-2
-    mul-wide-2
-    shared-slice-read-wide-2
-    wide-requires-2
-    slice-aggregate-put-line-2
+    add-long-2
+    mul-long-2
+    shared-slice-read-long-2
+    (search needs)
+    (search needs)
     put-line-requires-2
-    same-length-3
+    (search needs)
     returns-4)

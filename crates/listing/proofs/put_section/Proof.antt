@@ -14,9 +14,6 @@ start c = c .before .before .before .before
 abbrev count-rows : tie.After-put-named → tie.After-count-rows
 count-rows c = c .before .before
 
-count-rows-requires : tie.Need-count-rows-requires
-count-rows-requires c κs = search needs
-
 put-named-requires : tie.Need-put-named-requires
 put-named-requires c κs =
     let s = start (c .before) in
@@ -29,9 +26,6 @@ put-rows-requires c κs =
     let s = start c₁ in
     (s .pre .0, left-bounded (left-step (left-section _ _ (c₁ .count-rows .ensures)) (p .put-named .ensures)) (s .pre .1))
 
-same-length : tie.Need-same-length
-same-length c = search needs
-
 returns : tie.Need-returns
 returns c =
     let p = c .before .before .before .before .before .before in
@@ -40,4 +34,4 @@ returns c =
 
 pub put-section-spec : {M : Type 1} → statement M
 put-section-spec =
-    tie.close (tie.spec count-rows-requires put-named-requires put-rows-requires same-length returns)
+    tie.close (tie.spec (λ c κs. search needs) put-named-requires put-rows-requires (search needs) returns)

@@ -9,54 +9,39 @@ use Rattle.listing.proofs.put_zone.Statement.{statement}
 use Rattle.listing.proofs.put_zone.Tie as tie
 
 -- The places that answers speak of, each from the next one.
-abbrev wide : tie.After-live → tie.After-wide
-wide c = c .before
+abbrev long : tie.After-live → tie.After-long
+long c = c .before
 
-abbrev class-of : tie.After-wide → tie.After-class-of
+abbrev class-of : tie.After-long → tie.After-class-of
 class-of c = c .before
 
 abbrev start : tie.After-class-of → tie.Start
 start c = c .before .before .before
 
-class-of-requires : tie.Need-class-of-requires
-class-of-requires c κs = search needs
-
-wide-requires : tie.Need-wide-requires
-wide-requires c κs = search needs
-
-live-requires : tie.Need-live-requires
-live-requires c κs = search needs
-
-slice-aggregate-put-line : tie.Need-slice-aggregate-put-line
-slice-aggregate-put-line c = search needs
-
 put-line-requires : tie.Need-put-line-requires
 put-line-requires c κs =
     let l = c .before .before in
-    let w = wide l in
+    let w = long l in
     let c₁ = class-of w in
     let s = start c₁ in
-    bounded-as _ (λ i. line (s .args .p ∷ (w .wide .ensures ∙ c₁ .class-of .ensures) i ∷ l .live .ensures i ∷ [])) (s .pre .1)
-
-same-length : tie.Need-same-length
-same-length c = search needs
+    bounded-as _ (λ i. line (s .args .p ∷ (w .long .ensures ∙ c₁ .class-of .ensures) i ∷ l .live .ensures i ∷ [])) (s .pre .1)
 
 returns : tie.Need-returns
 returns c =
     let l = c .before .before .before .before .before in
-    let w = wide l in
+    let w = long l in
     let c₁ = class-of w in
     let s = start c₁ in
-    wrote-as (λ i. line (s .args .p ∷ (w .wide .ensures ∙ c₁ .class-of .ensures) i ∷ l .live .ensures i ∷ [])) (c .before .before .put-line .ensures)
+    wrote-as (λ i. line (s .args .p ∷ (w .long .ensures ∙ c₁ .class-of .ensures) i ∷ l .live .ensures i ∷ [])) (c .before .before .put-line .ensures)
 
 pub put-zone-spec : {M : Type 1} → statement M
 put-zone-spec =
     tie.close
     (tie.spec
-    class-of-requires
-    wide-requires
-    live-requires
-    slice-aggregate-put-line
+    (λ c κs. search needs)
+    (search needs)
+    (λ c κs. search needs)
+    (search needs)
     put-line-requires
-    same-length
+    (search needs)
     returns)

@@ -4,9 +4,6 @@ use borrow.Author.Needs.{needs}
 use Rattle.measure.proofs.nostrimel_check.Statement.{statement}
 use Rattle.measure.proofs.nostrimel_check.Tie as tie
 
-check-requires : tie.Need-check-requires
-check-requires c κs = search needs
-
 returns : tie.Need-returns
 returns c = rw (sym (c .before .check .ensures) ∙ c .if1 .taken)
 
@@ -14,4 +11,4 @@ returns-2 : tie.Need-returns-2
 returns-2 c = rw (sym (c .before .check .ensures) ∙ c .if1 .left)
 
 pub nostrimel-check-spec : {M : Type 1} → statement M
-nostrimel-check-spec = tie.close (tie.spec check-requires returns returns-2)
+nostrimel-check-spec = tie.close (tie.spec (search needs) returns returns-2)

@@ -35,9 +35,6 @@ returns c = too-short _ (c .if1 .taken)
 slice-aggregate-check : tie.Need-slice-aggregate-check
 slice-aggregate-check c = sym (length-take-le headerWords (c .before .before .before .args .words .now) (omega (arith, c .before .if1 .left)))
 
-check-requires : tie.Need-check-requires
-check-requires c κs = search needs
-
 returns-2 : tie.Need-returns-2
 returns-2 c = no-header _ (sym (c .before .check .ensures) ∙ not-true _ (c .if2 .taken))
 
@@ -50,26 +47,8 @@ slice-aggregate-pages c =
 pages-requires : tie.Need-pages-requires
 pages-requires c κs = check-header _ (sym (c .before .before .check .ensures) ∙ not-false _ (c .before .if2 .left))
 
-cast-n : tie.Need-cast-n
-cast-n c = search needs
-
-mul-e : tie.Need-mul-e
-mul-e c = search needs
-
-add-e : tie.Need-add-e
-add-e c = search needs
-
 returns-3 : tie.Need-returns-3
 returns-3 c = pages-missing _ _ (c .before .pages .ensures) (c .if3 .taken)
-
-sub-check : tie.Need-sub-check
-sub-check c = search needs
-
-part-check-start : tie.Need-part-check-start
-part-check-start c = search needs
-
-part-check-end : tie.Need-part-check-end
-part-check-end c = search needs
 
 check-requires-2 : tie.Need-check-requires-2
 check-requires-2 c κs =
@@ -90,15 +69,6 @@ slice-aggregate-lists-fit c =
     let e = else1 (check-before-else2 (else2 (pages (else3 (c .before .before))))) in
     let s = start e in
     sym (length-take-le headerWords (s .args .words .now) (omega (arith, e .if1 .left)))
-
-sub-lists-fit : tie.Need-sub-lists-fit
-sub-lists-fit c = search needs
-
-part-lists-fit-start : tie.Need-part-lists-fit-start
-part-lists-fit-start c = search needs
-
-part-lists-fit-end : tie.Need-part-lists-fit-end
-part-lists-fit-end c = search needs
 
 lists-fit-requires : tie.Need-lists-fit-requires
 lists-fit-requires c κs =
@@ -127,22 +97,22 @@ check-spec =
     (tie.spec
     returns
     slice-aggregate-check
-    check-requires
+    (search needs)
     returns-2
     slice-aggregate-pages
     pages-requires
-    cast-n
-    mul-e
-    add-e
+    (search needs)
+    (search needs)
+    (search needs)
     returns-3
-    sub-check
-    part-check-start
-    part-check-end
+    (search needs)
+    (search needs)
+    (search needs)
     check-requires-2
     returns-4
     slice-aggregate-lists-fit
-    sub-lists-fit
-    part-lists-fit-start
-    part-lists-fit-end
+    (search needs)
+    (search needs)
+    (search needs)
     lists-fit-requires
     returns-5)

@@ -31,12 +31,6 @@ mul-zone-fits c =
     let s = c .before .before .before .before in
     let r = read-at (s .pre .0 .1) (s .pre .1 .2) in omega arith
 
-sub-zone-fits : tie.Need-sub-zone-fits
-sub-zone-fits c = search needs
-
-part-zone-fits-start : tie.Need-part-zone-fits-start
-part-zone-fits-start c = search needs
-
 part-zone-fits-end : tie.Need-part-zone-fits-end
 part-zone-fits-end c =
     let s = c .before .before .before .before in
@@ -67,8 +61,8 @@ fits-at-spec =
     returns
     add-e
     mul-zone-fits
-    sub-zone-fits
-    part-zone-fits-start
+    (search needs)
+    (search needs)
     part-zone-fits-end
     cast-zone-fits
     zone-fits-requires

@@ -31,15 +31,6 @@ listed c = c .before
 abbrev loop : tie.In-loop Inv-loop μ-loop → tie.At-loop Inv-loop μ-loop
 loop c = c .before
 
-listed-requires : tie.Need-listed-requires Inv-loop μ-loop
-listed-requires c κs = search needs
-
-spare-count-requires : tie.Need-spare-count-requires Inv-loop μ-loop
-spare-count-requires c κs = search needs
-
-add-entries : tie.Need-add-entries Inv-loop μ-loop
-add-entries c = search needs
-
 loop-holds : tie.Need-loop-holds Inv-loop μ-loop
 loop-holds c =
     let s = start (c .before) in
@@ -116,9 +107,9 @@ lists-fit-spec =
     (tie.spec
     Inv-loop
     μ-loop
-    listed-requires
-    spare-count-requires
-    add-entries
+    (λ c κs. search needs)
+    (λ c κs. search needs)
+    (search needs)
     loop-holds
     fits-at-requires
     returns

@@ -25,12 +25,6 @@ add-e c = let r = read-at (c .before .before .before .pre .0) (c .before .before
 mul-zone-open : tie.Need-mul-zone-open
 mul-zone-open c = let r = read-at (c .before .before .before .pre .0) (c .before .before .before .pre .1 .2) in omega arith
 
-sub-zone-open : tie.Need-sub-zone-open
-sub-zone-open c = search needs
-
-part-zone-open-start : tie.Need-part-zone-open-start
-part-zone-open-start c = search needs
-
 part-zone-open-end : tie.Need-part-zone-open-end
 part-zone-open-end c = let r = read-at (c .before .before .before .pre .0) (c .before .before .before .pre .1 .2) in let h = zone-here r (sym (r .kind) ∙ c .if1 .left) in omega (arith, h .eight)
 
@@ -56,8 +50,8 @@ open-at-spec =
     returns
     add-e
     mul-zone-open
-    sub-zone-open
-    part-zone-open-start
+    (search needs)
+    (search needs)
     part-zone-open-end
     zone-open-requires
     returns-2)

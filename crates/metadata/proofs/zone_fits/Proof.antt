@@ -19,19 +19,10 @@ start c = c .before .before .before
 abbrev is-full : tie.Else1 → tie.After-is-full
 is-full c = c .before
 
-is-full-requires : tie.Need-is-full-requires
-is-full-requires c κs = search needs
-
 returns : tie.Need-returns
 returns c =
     let s = start (c .before) in
     fits-full (spareIn (s .args .head .now)) (listsIn (s .args .head .now)) (s .args .page) (zoneOf (s .args .part .now)) (sym (c .before .is-full .ensures) ∙ c .if1 .taken)
-
-spare-contains-requires : tie.Need-spare-contains-requires
-spare-contains-requires c κs = search needs
-
-is-idle-requires : tie.Need-is-idle-requires
-is-idle-requires c κs = search needs
 
 returns-2 : tie.Need-returns-2
 returns-2 c =
@@ -40,9 +31,6 @@ returns-2 c =
     let s = start i in
     c .is-idle .ensures ∙ fits-spare (spareIn (s .args .head .now)) (listsIn (s .args .head .now)) (s .args .page) (zoneOf (s .args .part .now)) (sym (i .is-full .ensures) ∙ e .if1 .left)
     (sym (c .before .before .spare-contains .ensures) ∙ c .before .if2 .taken)
-
-class-of-requires : tie.Need-class-of-requires
-class-of-requires c κs = search needs
 
 contains-requires : tie.Need-contains-requires
 contains-requires c κs =
@@ -62,11 +50,11 @@ pub zone-fits-spec : {M : Type 1} → statement M
 zone-fits-spec =
     tie.close
     (tie.spec
-    is-full-requires
+    (λ c κs. search needs)
     returns
-    spare-contains-requires
-    is-idle-requires
+    (λ c κs. search needs)
+    (λ c κs. search needs)
     returns-2
-    class-of-requires
+    (λ c κs. search needs)
     contains-requires
     returns-3)

@@ -6,9 +6,6 @@ use borrow.Author.Needs.{needs}
 use Rattle.metadata.proofs.zone_open.Statement.{statement}
 use Rattle.metadata.proofs.zone_open.Tie as tie
 
-is-full-requires : tie.Need-is-full-requires
-is-full-requires c κs = search needs
-
 returns : tie.Need-returns
 returns c = closed-zone (zoneOf (c .before .before .before .args .part .now)) (sym (c .before .is-full .ensures) ∙ c .if1 .taken)
 
@@ -16,4 +13,4 @@ returns-2 : tie.Need-returns-2
 returns-2 c = opened-zone (zoneOf (c .before .before .before .args .part .now)) (sym (c .before .is-full .ensures) ∙ c .if1 .left)
 
 pub zone-open-spec : {M : Type 1} → statement M
-zone-open-spec = tie.close (tie.spec is-full-requires returns returns-2)
+zone-open-spec = tie.close (tie.spec (λ c κs. search needs) returns returns-2)

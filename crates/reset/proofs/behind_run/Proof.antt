@@ -7,9 +7,6 @@ use borrow.Author.Needs.{needs}
 use Rattle.reset.proofs.behind_run.Statement.{statement}
 use Rattle.reset.proofs.behind_run.Tie as tie
 
-size-at-requires : tie.Need-size-at-requires
-size-at-requires c κs = search needs
-
 add-next : tie.Need-add-next
 add-next c = let h = c .before .before .pre in let r = here-inside (h .0 .lent) (h .1 .2) in omega (arith, c .size-at .ensures _ _ (h .1 .2))
 
@@ -17,4 +14,4 @@ returns : tie.Need-returns
 returns c = λ b k s. let e = c .size-at .ensures b _ s in (ap (λ y. c .before .before .args .start + y) e, e, refl)
 
 pub behind-run-spec : {M : Type 1} → statement M
-behind-run-spec = tie.close (tie.spec size-at-requires add-next returns)
+behind-run-spec = tie.close (tie.spec (λ c κs. search needs) add-next returns)

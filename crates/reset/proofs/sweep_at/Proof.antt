@@ -32,9 +32,6 @@ sweep-zone-requires c κs =
     let s = start k in
     let h = s .pre in let S = h .2 .3 in let H = here S (h .1) in (h .0, (_, _, _, step-zone S H (sym (k .kind-at .ensures _ _ (here-stands S H)) ∙ c .before .if1 .taken)))
 
-same-length : tie.Need-same-length
-same-length c = search needs
-
 returns : tie.Need-returns
 returns c =
     let t₁ = c .before .before .before .before in
@@ -52,9 +49,6 @@ add-next : tie.Need-add-next
 add-next c =
     let s = start (kind-at-before-else1 (c .before .before)) in
     let h = s .pre in let S = h .2 .3 in let H = here S (h .1) in let r = step-inside S H in omega (arith, c .size-at .ensures _ _ (here-stands S H))
-
-same-length-2 : tie.Need-same-length-2
-same-length-2 c = search needs
 
 returns-2 : tie.Need-returns-2
 returns-2 c =
@@ -91,15 +85,6 @@ sweep-direct-requires c κs =
     let d = step-direct S H (λ y. e₂ .if1 .left (e ∙ y)) (λ y. e₁ .if2 .left (e ∙ y)) in
     (S .good, step-stands S H _ _ _ (s .size-at .ensures _ _ (here-stands S H)) (d .1) (sym (c .before .before .group-at .ensures _ _ _ (step-stands S H _ _ _ refl (d .1) refl)) ∙ c .before .if3 .taken))
 
-same-length-3 : tie.Need-same-length-3
-same-length-3 c = search needs
-
-returns-3 : tie.Need-returns-3
-returns-3 c = search needs
-
-same-length-4 : tie.Need-same-length-4
-same-length-4 c = search needs
-
 returns-4 : tie.Need-returns-4
 returns-4 c =
     let e₁ = c .before .before .before in
@@ -118,15 +103,15 @@ sweep-at-spec =
     (tie.spec
     kind-at-requires
     sweep-zone-requires
-    same-length
+    (search needs)
     returns
     size-at-requires
     add-next
-    same-length-2
+    (search needs)
     returns-2
     group-at-requires
     sweep-direct-requires
-    same-length-3
-    returns-3
-    same-length-4
+    (search needs)
+    (λ c. search needs)
+    (search needs)
     returns-4)

@@ -8,9 +8,6 @@ use Rattle.reset.proofs.sweep_direct.Tie as tie
 abbrev start : tie.After-give-back → tie.Start
 start c = c .before .before .before
 
-give-back-requires : tie.Need-give-back-requires
-give-back-requires c κs = search needs
-
 sub-behind-run : tie.Need-sub-behind-run
 sub-behind-run c =
     let g = c .before .before .before in
@@ -23,9 +20,6 @@ behind-run-requires c κs =
     let s = start g in
     let h = s .pre in let e = g .give-back .ensures in (direct-good (h .0) (h .1) e, direct-run (h .0) (h .1) e)
 
-same-length : tie.Need-same-length
-same-length c = search needs
-
 returns : tie.Need-returns
 returns c =
     let g = c .before .before .before .before in
@@ -34,4 +28,4 @@ returns c =
 
 pub sweep-direct-spec : {M : Type 1} → statement M
 sweep-direct-spec =
-    tie.close (tie.spec give-back-requires sub-behind-run behind-run-requires same-length returns)
+    tie.close (tie.spec (λ c κs. search needs) sub-behind-run behind-run-requires (search needs) returns)

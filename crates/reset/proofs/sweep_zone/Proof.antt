@@ -140,12 +140,6 @@ returns c =
     let d = c₁ .chunk-back .ensures in
     walk-gone (h .1 .3) a _ e (t .loop-test .taken) (h .0) (e₁ .if1 .left) (d .0) (c₁ .chunk-back .result) (not-true _ (c .before .before .if2 .taken)) (d .1) _ _ _ (c .behind-run .ensures)
 
-add-i-2 : tie.Need-add-i-2 Inv-loop μ-loop
-add-i-2 c = search needs
-
-loop-less-2 : tie.Need-loop-less-2 Inv-loop μ-loop
-loop-less-2 c = search needs
-
 add-next : tie.Need-add-next Inv-loop μ-loop
 add-next c =
     let s = start (c .before) in
@@ -179,8 +173,8 @@ sweep-zone-spec =
     behind-run-requires
     same-length
     returns
-    add-i-2
-    loop-less-2
+    (search needs)
+    (search needs)
     loop-again-2
     add-next
     same-length-2

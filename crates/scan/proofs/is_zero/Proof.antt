@@ -25,27 +25,6 @@ start c = c .before .before
 loop-holds : tie.Need-loop-holds Inv-loop μ-loop
 loop-holds c = (omega arith, every-nil isZero)
 
-add-loop : tie.Need-add-loop Inv-loop μ-loop
-add-loop c = search needs
-
-add-end : tie.Need-add-end Inv-loop μ-loop
-add-end c = search needs
-
-mul-block-is-zero : tie.Need-mul-block-is-zero Inv-loop μ-loop
-mul-block-is-zero c = search needs
-
-sub-block-is-zero : tie.Need-sub-block-is-zero Inv-loop μ-loop
-sub-block-is-zero c = search needs
-
-part-block-is-zero-start : tie.Need-part-block-is-zero-start Inv-loop μ-loop
-part-block-is-zero-start c = search needs
-
-part-block-is-zero-end : tie.Need-part-block-is-zero-end Inv-loop μ-loop
-part-block-is-zero-end c = search needs
-
-block-is-zero-requires : tie.Need-block-is-zero-requires Inv-loop μ-loop
-block-is-zero-requires c κs = search needs
-
 returns : tie.Need-returns Inv-loop μ-loop
 returns c =
     let l = c .before .before .before .before in
@@ -53,9 +32,6 @@ returns c =
     let s = s₁ .args .s .now in
     let i = l .loop .i in
     sym (every-block-not isZero s i (i + 64 - i) (sym (c .before .block-is-zero .ensures) ∙ not-true _ (c .if1 .taken)))
-
-loop-less : tie.Need-loop-less Inv-loop μ-loop
-loop-less c = search needs
 
 loop-again : tie.Need-loop-again Inv-loop μ-loop
 loop-again c =
@@ -66,21 +42,6 @@ loop-again c =
       omega arith,
       every-block isZero s i (i + 64 - i) (i + 64) (omega arith) (l .loop .inv .1) (sym (c .before .block-is-zero .ensures) ∙ not-false _ (c .if1 .left)),
     )
-
-mul-block-is-zero-2 : tie.Need-mul-block-is-zero-2 Inv-loop μ-loop
-mul-block-is-zero-2 c = search needs
-
-sub-block-is-zero-2 : tie.Need-sub-block-is-zero-2 Inv-loop μ-loop
-sub-block-is-zero-2 c = search needs
-
-part-block-is-zero-start-2 : tie.Need-part-block-is-zero-start-2 Inv-loop μ-loop
-part-block-is-zero-start-2 c = search needs
-
-part-block-is-zero-end-2 : tie.Need-part-block-is-zero-end-2 Inv-loop μ-loop
-part-block-is-zero-end-2 c = search needs
-
-block-is-zero-requires-2 : tie.Need-block-is-zero-requires-2 Inv-loop μ-loop
-block-is-zero-requires-2 c κs = search needs
 
 returns-2 : tie.Need-returns-2 Inv-loop μ-loop
 returns-2 c =
@@ -97,19 +58,19 @@ is-zero-spec =
     Inv-loop
     μ-loop
     loop-holds
-    add-loop
-    add-end
-    mul-block-is-zero
-    sub-block-is-zero
-    part-block-is-zero-start
-    part-block-is-zero-end
-    block-is-zero-requires
+    (search needs)
+    (search needs)
+    (search needs)
+    (search needs)
+    (search needs)
+    (search needs)
+    (search needs)
     returns
-    loop-less
+    (search needs)
     loop-again
-    mul-block-is-zero-2
-    sub-block-is-zero-2
-    part-block-is-zero-start-2
-    part-block-is-zero-end-2
-    block-is-zero-requires-2
+    (search needs)
+    (search needs)
+    (search needs)
+    (search needs)
+    (search needs)
     returns-2)

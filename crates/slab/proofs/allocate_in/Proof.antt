@@ -20,9 +20,6 @@ slice-aggregate-allocate c = arena-part (c .before .before .before .pre) _ (c .b
 allocate-requires : tie.Need-allocate-requires
 allocate-requires c κs = arena-good (c .before .before .before .pre) _ (c .before .words-for .ensures)
 
-same-length : tie.Need-same-length
-same-length c = search needs
-
 returns : tie.Need-returns
 returns c =
     let w = c .before .before .before .before in
@@ -37,5 +34,5 @@ allocate-in-spec =
     slice-relend-prefix-allocate
     slice-aggregate-allocate
     allocate-requires
-    same-length
+    (search needs)
     returns)

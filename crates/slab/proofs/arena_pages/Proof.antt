@@ -8,17 +8,11 @@ use borrow.Author.Needs.{needs}
 use Rattle.slab.proofs.arena_pages.Statement.{statement}
 use Rattle.slab.proofs.arena_pages.Tie as tie
 
-check-requires : tie.Need-check-requires
-check-requires c κs = search needs
-
 slice-aggregate-pages : tie.Need-slice-aggregate-pages
 slice-aggregate-pages c = header-there _ (sym (c .before .before .check .ensures) ∙ not-false _ (c .before .if1 .left)) headerWords refl
 
 pages-requires : tie.Need-pages-requires
 pages-requires c κs = state-read _ (sym (c .before .before .check .ensures) ∙ not-false _ (c .before .if1 .left)) .header
-
-cast-result : tie.Need-cast-result
-cast-result c = search needs
 
 returns-2 : tie.Need-returns-2
 returns-2 c = pages-some _ (sym (c .before .before .before .check .ensures) ∙ not-false _ (c .before .before .if1 .left)) _ (c .pages .ensures)
@@ -29,4 +23,4 @@ returns c = pages-none _ (sym (c .before .check .ensures) ∙ not-true _ (c .if1
 pub arena-pages-spec : {M : Type 1} → statement M
 arena-pages-spec =
     tie.close
-    (tie.spec check-requires returns slice-aggregate-pages pages-requires cast-result returns-2)
+    (tie.spec (search needs) returns slice-aggregate-pages pages-requires (search needs) returns-2)

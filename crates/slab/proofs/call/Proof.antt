@@ -20,17 +20,8 @@ else1-before-enum-told c = c .before .before
 abbrev start : tie.After-arena-pages → tie.Start
 start c = c .before .before .before
 
-arena-pages-requires : tie.Need-arena-pages-requires
-arena-pages-requires c κs = search needs
-
-same-length : tie.Need-same-length
-same-length c = search needs
-
 returns : tie.Need-returns
 returns c = (refused-answer _ _ (c .before .arena-pages .ensures) (c .if1 .taken) _, refused-words _ _ (c .before .arena-pages .ensures) (c .if1 .taken) _)
-
-enum-known-operation : tie.Need-enum-known-operation
-enum-known-operation c = search needs
 
 allocate-in-requires : tie.Need-allocate-in-requires
 allocate-in-requires c κs =
@@ -38,17 +29,11 @@ allocate-in-requires c κs =
     let a = arena-pages e in
     arena-of _ _ (a .arena-pages .ensures) (e .if1 .left)
 
-enum-known-operation-2 : tie.Need-enum-known-operation-2
-enum-known-operation-2 c = search needs
-
 free-in-requires : tie.Need-free-in-requires
 free-in-requires c κs =
     let e = else1-before-operation2 (c .before .before) in
     let a = arena-pages e in
     arena-of _ _ (a .arena-pages .ensures) (e .if1 .left)
-
-enum-told : tie.Need-enum-told
-enum-told c = search needs
 
 reset-in-requires : tie.Need-reset-in-requires
 reset-in-requires c κs =
@@ -56,26 +41,17 @@ reset-in-requires c κs =
     let a = arena-pages e in
     arena-of _ _ (a .arena-pages .ensures) (e .if1 .left)
 
-same-length-2 : tie.Need-same-length-2
-same-length-2 c = search needs
-
 returns-2 : tie.Need-returns-2
 returns-2 c =
     let o = c .before .before .before .before .before in
     let s = start (arena-pages (else1 o)) in
     same-call _ (s .args .call) _ (o .operation .given .1) _ _ (c .before .before .allocate-in .ensures)
 
-same-length-3 : tie.Need-same-length-3
-same-length-3 c = search needs
-
 returns-3 : tie.Need-returns-3
 returns-3 c =
     let o = c .before .before .before .before .before in
     let s = start (arena-pages (else1-before-operation2 o)) in
     same-call _ (s .args .call) _ (o .operation2 .given .1) _ _ (c .before .before .free-in .ensures)
-
-same-length-4 : tie.Need-same-length-4
-same-length-4 c = search needs
 
 returns-4 : tie.Need-returns-4
 returns-4 c =
@@ -87,18 +63,18 @@ pub call-spec : {M : Type 1} → statement M
 call-spec =
     tie.close
     (tie.spec
-    arena-pages-requires
-    same-length
+    (search needs)
+    (search needs)
     returns
-    enum-known-operation
+    (search needs)
     allocate-in-requires
-    enum-known-operation-2
+    (search needs)
     free-in-requires
-    enum-told
+    (search needs)
     reset-in-requires
-    same-length-2
+    (search needs)
     returns-2
-    same-length-3
+    (search needs)
     returns-3
-    same-length-4
+    (search needs)
     returns-4)

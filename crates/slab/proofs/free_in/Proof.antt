@@ -20,9 +20,6 @@ slice-aggregate-free c = arena-part (c .before .before .before .pre) _ (c .befor
 free-requires : tie.Need-free-requires
 free-requires c κs = arena-good (c .before .before .before .pre) _ (c .before .words-for .ensures)
 
-same-length : tie.Need-same-length
-same-length c = search needs
-
 returns : tie.Need-returns
 returns c =
     let w = c .before .before .before .before in
@@ -37,5 +34,5 @@ free-in-spec =
     slice-relend-prefix-free
     slice-aggregate-free
     free-requires
-    same-length
+    (search needs)
     returns)

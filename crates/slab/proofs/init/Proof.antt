@@ -29,14 +29,8 @@ returns c = no-pages _ _ (c .if1 .taken)
 returns-2 : tie.Need-returns-2
 returns-2 c = many-pages _ _ (c .if2 .taken)
 
-words-for-requires : tie.Need-words-for-requires
-words-for-requires c κs = search needs
-
 returns-3 : tie.Need-returns-3
 returns-3 c = few-words _ _ (c .before .before .before .if1 .left) (c .before .before .if2 .left) _ (c .before .words-for .ensures) (c .if3 .taken)
-
-slice-relend-prefix-set-up : tie.Need-slice-relend-prefix-set-up
-slice-relend-prefix-set-up c = search needs
 
 slice-aggregate-set-up : tie.Need-slice-aggregate-set-up
 slice-aggregate-set-up c =
@@ -49,21 +43,6 @@ set-up-requires c κs =
     let w = words-for (c .before) in
     let s = start (else1 (else2 w)) in
     search (front-there headerWords (s .args .meta .now) (omega (arith, w .words-for .ensures)))
-
-sub-set-up : tie.Need-sub-set-up
-sub-set-up c = search needs
-
-part-set-up-start : tie.Need-part-set-up-start
-part-set-up-start c = search needs
-
-part-set-up-end : tie.Need-part-set-up-end
-part-set-up-end c = search needs
-
-set-up-requires-2 : tie.Need-set-up-requires-2
-set-up-requires-2 c κs = search needs
-
-same-length : tie.Need-same-length
-same-length c = search needs
 
 returns-4 : tie.Need-returns-4
 returns-4 c =
@@ -80,14 +59,14 @@ init-spec =
     (tie.spec
     returns
     returns-2
-    words-for-requires
+    (search needs)
     returns-3
-    slice-relend-prefix-set-up
+    (search needs)
     slice-aggregate-set-up
     set-up-requires
-    sub-set-up
-    part-set-up-start
-    part-set-up-end
-    set-up-requires-2
-    same-length
+    (search needs)
+    (search needs)
+    (search needs)
+    (search needs)
+    (search needs)
     returns-4)

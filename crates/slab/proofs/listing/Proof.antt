@@ -19,12 +19,6 @@ words c = c .before .before .before
 abbrev written : tie.After-slice-known3 → tie.After-list-into
 written c = c .before .before
 
-arena-pages-requires : tie.Need-arena-pages-requires
-arena-pages-requires c κs = search needs
-
-same-length : tie.Need-same-length
-same-length c = search needs
-
 returns : tie.Need-returns
 returns c = let n = c .before .arena-pages .ensures in
     (refused-answer _ _ n (c .if1 .taken) _, (refused-words _ _ n (c .if1 .taken) _, refused-text _ _ n (c .if1 .taken) _))
@@ -32,23 +26,11 @@ returns c = let n = c .before .arena-pages .ensures in
 words-for-requires : tie.Need-words-for-requires
 words-for-requires c κs = arena-few (arena c)
 
-sub-list-into : tie.Need-sub-list-into
-sub-list-into c = search needs
-
-part-list-into-start : tie.Need-part-list-into-start
-part-list-into-start c = search needs
-
 part-list-into-end : tie.Need-part-list-into-end
 part-list-into-end c = arena-inside (arena (c .before .before)) _ (c .before .words-for .ensures)
 
 list-into-requires : tie.Need-list-into-requires
 list-into-requires c κs = let w = words c in arena-holds (arena (w .before)) _ (w .words-for .ensures)
-
-same-length-2 : tie.Need-same-length-2
-same-length-2 c = search needs
-
-same-length-3 : tie.Need-same-length-3
-same-length-3 c = search needs
 
 returns-2 : tie.Need-returns-2
 returns-2 c =
@@ -64,14 +46,14 @@ pub listing-spec : {M : Type 1} → statement M
 listing-spec =
     tie.close
     (tie.spec
-    arena-pages-requires
-    same-length
+    (search needs)
+    (search needs)
     returns
     words-for-requires
-    sub-list-into
-    part-list-into-start
+    (search needs)
+    (search needs)
     part-list-into-end
     list-into-requires
-    same-length-2
-    same-length-3
+    (search needs)
+    (search needs)
     returns-2)

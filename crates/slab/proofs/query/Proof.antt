@@ -11,12 +11,6 @@ use Rattle.slab.proofs.query.Tie as tie
 arena : (c : tie.Else1) → Arena (c .before .before .before .before .args .meta .now) (c .before .arena-pages .result)
 arena c = arena-of _ _ (c .before .arena-pages .ensures) (c .if1 .left)
 
-arena-pages-requires : tie.Need-arena-pages-requires
-arena-pages-requires c κs = search needs
-
-same-length : tie.Need-same-length
-same-length c = search needs
-
 returns : tie.Need-returns
 returns c = let n = c .before .arena-pages .ensures in (refused-answer _ _ n (c .if1 .taken) _, refused-words _ _ n (c .if1 .taken) _)
 
@@ -32,9 +26,6 @@ slice-aggregate-describe c = arena-part (arena (c .before .before)) _ (c .before
 describe-requires : tie.Need-describe-requires
 describe-requires c κs = arena-good (arena (c .before .before)) _ (c .before .words-for .ensures)
 
-same-length-2 : tie.Need-same-length-2
-same-length-2 c = search needs
-
 returns-2 : tie.Need-returns-2
 returns-2 c = let w : tie.After-words-for = c .before .before in (arena-answer (arena (w .before)) _ (w .words-for .ensures) _ _ (c .describe .ensures), sym (query-same _ _))
 
@@ -42,12 +33,12 @@ pub query-spec : {M : Type 1} → statement M
 query-spec =
     tie.close
     (tie.spec
-    arena-pages-requires
-    same-length
+    (search needs)
+    (search needs)
     returns
     words-for-requires
     slice-reshare-prefix-describe
     slice-aggregate-describe
     describe-requires
-    same-length-2
+    (search needs)
     returns-2)

@@ -20,9 +20,6 @@ slice-aggregate-reset c = arena-part (c .before .before .before .pre) _ (c .befo
 reset-requires : tie.Need-reset-requires
 reset-requires c κs = arena-good (c .before .before .before .pre) _ (c .before .words-for .ensures)
 
-same-length : tie.Need-same-length
-same-length c = search needs
-
 returns : tie.Need-returns
 returns c =
     let w = c .before .before .before .before in
@@ -37,5 +34,5 @@ reset-in-spec =
     slice-relend-prefix-reset
     slice-aggregate-reset
     reset-requires
-    same-length
+    (search needs)
     returns)

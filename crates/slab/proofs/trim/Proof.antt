@@ -13,12 +13,6 @@ else1 c = c .before
 abbrev arena-pages : tie.Else1 → tie.After-arena-pages
 arena-pages c = c .before
 
-arena-pages-requires : tie.Need-arena-pages-requires
-arena-pages-requires c κs = search needs
-
-same-length : tie.Need-same-length
-same-length c = search needs
-
 returns : tie.Need-returns
 returns c = (refused-answer _ _ (c .before .arena-pages .ensures) (c .if1 .taken) _, refused-words _ _ (c .before .arena-pages .ensures) (c .if1 .taken) _)
 
@@ -34,9 +28,6 @@ slice-aggregate-trim-all c = arena-part (arena-of _ _ (c .before .before .before
 trim-all-requires : tie.Need-trim-all-requires
 trim-all-requires c κs = arena-good (arena-of _ _ (c .before .before .before .arena-pages .ensures) (c .before .before .if1 .left)) _ (c .before .words-for .ensures)
 
-same-length-2 : tie.Need-same-length-2
-same-length-2 c = search needs
-
 returns-2 : tie.Need-returns-2
 returns-2 c =
     let w = c .before .before .before .before in
@@ -51,12 +42,12 @@ pub trim-spec : {M : Type 1} → statement M
 trim-spec =
     tie.close
     (tie.spec
-    arena-pages-requires
-    same-length
+    (search needs)
+    (search needs)
     returns
     words-for-requires
     slice-relend-prefix-trim-all
     slice-aggregate-trim-all
     trim-all-requires
-    same-length-2
+    (search needs)
     returns-2)

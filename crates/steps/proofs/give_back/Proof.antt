@@ -18,17 +18,11 @@ sub-give-back c = has-header (c .before .pre .0 .0)
 part-give-back-start : tie.Need-part-give-back-start
 part-give-back-start c = has-header (c .before .pre .0 .0)
 
-part-give-back-end : tie.Need-part-give-back-end
-part-give-back-end c = search needs
-
 give-back-requires : tie.Need-give-back-requires
 give-back-requires c κs =
     let s = c .before .before in
     let h = s .pre in
     (body-holds (h .0 .0) _ (h .0 .1), (in-body (h .0 .0) (λ m. Apart false m) (h .1 .0), in-body (h .0 .0) (λ m. (x : Segment Zone) × Stands m (s .args .at) (s .args .before) x × (pages x ≡ s .args .len) × (runPages x ≡ 0)) (h .1 .1)))
-
-same-length : tie.Need-same-length
-same-length c = search needs
 
 returns : tie.Need-returns
 returns c =
@@ -41,7 +35,7 @@ give-back-spec =
     (tie.spec
     sub-give-back
     part-give-back-start
-    part-give-back-end
+    (search needs)
     give-back-requires
-    same-length
+    (search needs)
     returns)

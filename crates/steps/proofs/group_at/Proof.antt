@@ -13,9 +13,6 @@ sub-group c = has-header (c .before .pre .0 .0)
 part-group-start : tie.Need-part-group-start
 part-group-start c = has-header (c .before .pre .0 .0)
 
-part-group-end : tie.Need-part-group-end
-part-group-end c = search needs
-
 group-requires : tie.Need-group-requires
 group-requires c κs = let h = c .before .before .pre in (body-holds (h .0 .0) _ (h .0 .1), in-body (h .0 .0) (λ m. (b : ℕ) × (k g : ℕ) × Stands m (c .before .before .args .p) b (direct k g)) (h .1))
 
@@ -23,4 +20,4 @@ returns : tie.Need-returns
 returns c = λ b k g s. c .group .ensures b k g (in-body (c .before .before .before .pre .0 .0) (λ m. Stands m (c .before .before .before .args .p) b (direct k g)) s)
 
 pub group-at-spec : {M : Type 1} → statement M
-group-at-spec = tie.close (tie.spec sub-group part-group-start part-group-end group-requires returns)
+group-at-spec = tie.close (tie.spec sub-group part-group-start (search needs) group-requires returns)

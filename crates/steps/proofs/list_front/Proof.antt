@@ -17,9 +17,6 @@ push-requires : tie.Need-push-requires
 unfolding decode
 push-requires c κs = let h = c .before .before .pre in (header-lent (h .0), h .1 .0, h .1 .1, h .1 .2)
 
-same-length : tie.Need-same-length
-same-length c = search needs
-
 returns : tie.Need-returns
 unfolding decode
 returns c = header-put (c .before .before .before .before .before .pre .0) _ _ _ _ refl (c .before .before .push .ensures)
@@ -27,4 +24,4 @@ returns c = header-put (c .before .before .before .before .before .pre .0) _ _ _
 pub list-front-spec : {M : Type 1} → statement M
 list-front-spec =
     tie.close
-    (tie.spec slice-relend-prefix-push slice-aggregate-push push-requires same-length returns)
+    (tie.spec slice-relend-prefix-push slice-aggregate-push push-requires (search needs) returns)

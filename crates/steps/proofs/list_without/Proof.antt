@@ -17,9 +17,6 @@ remove-requires : tie.Need-remove-requires
 unfolding decode
 remove-requires c κs = let h = c .before .before .pre in (header-lent (h .0), h .1 .0, h .1 .1)
 
-same-length : tie.Need-same-length
-same-length c = search needs
-
 returns : tie.Need-returns
 unfolding decode
 returns c = header-put (c .before .before .before .before .before .pre .0) _ _ _ _ refl (c .before .before .remove .ensures)
@@ -31,5 +28,5 @@ list-without-spec =
     slice-relend-prefix-remove
     slice-aggregate-remove
     remove-requires
-    same-length
+    (search needs)
     returns)

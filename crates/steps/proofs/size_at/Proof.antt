@@ -14,9 +14,6 @@ sub-size c = has-header (c .before .pre .0 .0)
 part-size-start : tie.Need-part-size-start
 part-size-start c = has-header (c .before .pre .0 .0)
 
-part-size-end : tie.Need-part-size-end
-part-size-end c = search needs
-
 size-requires : tie.Need-size-requires
 size-requires c κs = let h = c .before .before .pre in (body-holds (h .0 .0) _ (h .0 .1), in-body (h .0 .0) (λ m. (b : ℕ) × (x : Segment Zone) × Stands m (c .before .before .args .p) b x) (h .1))
 
@@ -24,4 +21,4 @@ returns : tie.Need-returns
 returns c = λ b x s. c .size .ensures b x (in-body (c .before .before .before .pre .0 .0) (λ m. Stands m (c .before .before .before .args .p) b x) s)
 
 pub size-at-spec : {M : Type 1} → statement M
-size-at-spec = tie.close (tie.spec sub-size part-size-start part-size-end size-requires returns)
+size-at-spec = tie.close (tie.spec sub-size part-size-start (search needs) size-requires returns)

@@ -17,9 +17,6 @@ spare-pop-requires : tie.Need-spare-pop-requires
 unfolding decode
 spare-pop-requires c κs = header-lent (c .before .before .pre)
 
-same-length : tie.Need-same-length
-same-length c = search needs
-
 returns : tie.Need-returns
 unfolding decode
 returns c = header-put (c .before .before .before .before .before .pre) _ _ _ _ refl (c .before .before .spare-pop .ensures)
@@ -31,5 +28,5 @@ spare-behind-spec =
     slice-relend-prefix-spare-pop
     slice-aggregate-spare-pop
     spare-pop-requires
-    same-length
+    (search needs)
     returns)

@@ -17,9 +17,6 @@ spare-push-requires : tie.Need-spare-push-requires
 unfolding decode
 spare-push-requires c κs = let h = c .before .before .pre in (header-lent (h .0), h .1 .0, h .1 .1)
 
-same-length : tie.Need-same-length
-same-length c = search needs
-
 returns : tie.Need-returns
 unfolding decode
 returns c = header-put (c .before .before .before .before .before .pre .0) _ _ _ _ refl (c .before .before .spare-push .ensures)
@@ -31,5 +28,5 @@ spare-front-spec =
     slice-relend-prefix-spare-push
     slice-aggregate-spare-push
     spare-push-requires
-    same-length
+    (search needs)
     returns)

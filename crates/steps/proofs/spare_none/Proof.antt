@@ -17,9 +17,6 @@ spare-clear-requires : tie.Need-spare-clear-requires
 unfolding decode
 spare-clear-requires c κs = header-lent (c .before .before .pre)
 
-same-length : tie.Need-same-length
-same-length c = search needs
-
 returns : tie.Need-returns
 unfolding decode
 returns c = header-put (c .before .before .before .before .before .pre) _ _ _ _ refl (c .before .before .spare-clear .ensures)
@@ -31,5 +28,5 @@ spare-none-spec =
     slice-relend-prefix-spare-clear
     slice-aggregate-spare-clear
     spare-clear-requires
-    same-length
+    (search needs)
     returns)

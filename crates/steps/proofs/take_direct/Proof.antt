@@ -15,16 +15,10 @@ sub-take-direct c = has-header (c .before .pre .0 .0)
 part-take-direct-start : tie.Need-part-take-direct-start
 part-take-direct-start c = has-header (c .before .pre .0 .0)
 
-part-take-direct-end : tie.Need-part-take-direct-end
-part-take-direct-end c = search needs
-
 take-direct-requires : tie.Need-take-direct-requires
 take-direct-requires c κs =
     let s = c .before .before in
     let h = s .pre in (body-holds (h .0 .0) _ (h .0 .1), in-body (h .0 .0) (λ m. (b : ℕ) × Stands m (s .args .at) b (run (s .args .len)) × (0 < s .args .need) × (s .args .need ≤ s .args .len)) (h .1))
-
-same-length : tie.Need-same-length
-same-length c = search needs
 
 returns : tie.Need-returns
 returns c =
@@ -39,7 +33,7 @@ take-direct-spec =
     (tie.spec
     sub-take-direct
     part-take-direct-start
-    part-take-direct-end
+    (search needs)
     take-direct-requires
-    same-length
+    (search needs)
     returns)

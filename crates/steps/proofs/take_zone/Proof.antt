@@ -18,16 +18,10 @@ sub-take-zone c = has-header (c .before .pre .0 .0)
 part-take-zone-start : tie.Need-part-take-zone-start
 part-take-zone-start c = has-header (c .before .pre .0 .0)
 
-part-take-zone-end : tie.Need-part-take-zone-end
-part-take-zone-end c = search needs
-
 take-zone-requires : tie.Need-take-zone-requires
 take-zone-requires c κs =
     let s = c .before .before in
     let h = s .pre in (body-holds (h .0 .0) _ (h .0 .1), in-body (h .0 .0) (λ m. (b : ℕ) × Stands m (s .args .at) b (run (s .args .len)) × (8 ≤ s .args .len) × (0 < s .args .group)) (h .1))
-
-same-length : tie.Need-same-length
-same-length c = search needs
 
 returns : tie.Need-returns
 returns c =
@@ -42,7 +36,7 @@ take-zone-spec =
     (tie.spec
     sub-take-zone
     part-take-zone-start
-    part-take-zone-end
+    (search needs)
     take-zone-requires
-    same-length
+    (search needs)
     returns)

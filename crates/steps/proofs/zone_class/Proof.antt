@@ -15,12 +15,6 @@ add-e c = let h = c .before .before .pre in let r = part-end (h .0) _ (h .1) _ (
 mul-class-of : tie.Need-mul-class-of
 mul-class-of c = let h = c .before .before .pre in let r = part-end (h .0) _ (h .1) _ (c .zone-start .ensures) in omega arith
 
-sub-class-of : tie.Need-sub-class-of
-sub-class-of c = search needs
-
-part-class-of-start : tie.Need-part-class-of-start
-part-class-of-start c = search needs
-
 part-class-of-end : tie.Need-part-class-of-end
 part-class-of-end c = let h = c .before .before .pre in let r = part-end (h .0) _ (h .1) _ (c .zone-start .ensures) in omega arith
 
@@ -37,8 +31,8 @@ zone-class-spec =
     zone-start-requires
     add-e
     mul-class-of
-    sub-class-of
-    part-class-of-start
+    (search needs)
+    (search needs)
     part-class-of-end
     class-of-requires
     returns)

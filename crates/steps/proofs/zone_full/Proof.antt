@@ -16,12 +16,6 @@ add-e c = let h = c .before .before .pre in let r = part-end (h .0) _ (h .1) _ (
 mul-is-full : tie.Need-mul-is-full
 mul-is-full c = let h = c .before .before .pre in let r = part-end (h .0) _ (h .1) _ (c .zone-start .ensures) in omega arith
 
-sub-is-full : tie.Need-sub-is-full
-sub-is-full c = search needs
-
-part-is-full-start : tie.Need-part-is-full-start
-part-is-full-start c = search needs
-
 part-is-full-end : tie.Need-part-is-full-end
 part-is-full-end c = let h = c .before .before .pre in let r = part-end (h .0) _ (h .1) _ (c .zone-start .ensures) in omega arith
 
@@ -38,8 +32,8 @@ zone-full-spec =
     zone-start-requires
     add-e
     mul-is-full
-    sub-is-full
-    part-is-full-start
+    (search needs)
+    (search needs)
     part-is-full-end
     is-full-requires
     returns)

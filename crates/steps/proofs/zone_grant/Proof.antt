@@ -20,12 +20,6 @@ add-e c = let h = c .before .before .pre in let r = part-end (h .0) _ (h .1) _ (
 mul-grant : tie.Need-mul-grant
 mul-grant c = let h = c .before .before .pre in let r = part-end (h .0) _ (h .1) _ (c .zone-start .ensures) in omega arith
 
-sub-grant : tie.Need-sub-grant
-sub-grant c = search needs
-
-part-grant-start : tie.Need-part-grant-start
-part-grant-start c = search needs
-
 part-grant-end : tie.Need-part-grant-end
 part-grant-end c = let h = c .before .before .pre in let r = part-end (h .0) _ (h .1) _ (c .zone-start .ensures) in omega arith
 
@@ -34,9 +28,6 @@ grant-requires c κs =
     let h = c .before .before .before .pre in
     let a = c .before .zone-start .ensures in
     (part-zone (h .0) _ (h .1) _ a, ap (λ z. full z) (part-is (h .0) _ (h .1) _ a) ∙ h .2, h .3, h .4)
-
-same-length : tie.Need-same-length
-same-length c = search needs
 
 returns : tie.Need-returns
 returns c =
@@ -54,9 +45,9 @@ zone-grant-spec =
     zone-start-requires
     add-e
     mul-grant
-    sub-grant
-    part-grant-start
+    (search needs)
+    (search needs)
     part-grant-end
     grant-requires
-    same-length
+    (search needs)
     returns)

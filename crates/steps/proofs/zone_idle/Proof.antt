@@ -16,12 +16,6 @@ add-e c = let h = c .before .before .pre in let r = part-end (h .0) _ (h .1) _ (
 mul-is-idle : tie.Need-mul-is-idle
 mul-is-idle c = let h = c .before .before .pre in let r = part-end (h .0) _ (h .1) _ (c .zone-start .ensures) in omega arith
 
-sub-is-idle : tie.Need-sub-is-idle
-sub-is-idle c = search needs
-
-part-is-idle-start : tie.Need-part-is-idle-start
-part-is-idle-start c = search needs
-
 part-is-idle-end : tie.Need-part-is-idle-end
 part-is-idle-end c = let h = c .before .before .pre in let r = part-end (h .0) _ (h .1) _ (c .zone-start .ensures) in omega arith
 
@@ -38,8 +32,8 @@ zone-idle-spec =
     zone-start-requires
     add-e
     mul-is-idle
-    sub-is-idle
-    part-is-idle-start
+    (search needs)
+    (search needs)
     part-is-idle-end
     is-idle-requires
     returns)

@@ -16,12 +16,6 @@ add-e c = let h = c .before .before .pre in let r = part-end (h .0) _ (h .1) _ (
 mul-owner : tie.Need-mul-owner
 mul-owner c = let h = c .before .before .pre in let r = part-end (h .0) _ (h .1) _ (c .zone-start .ensures) in omega arith
 
-sub-owner : tie.Need-sub-owner
-sub-owner c = search needs
-
-part-owner-start : tie.Need-part-owner-start
-part-owner-start c = search needs
-
 part-owner-end : tie.Need-part-owner-end
 part-owner-end c = let h = c .before .before .pre in let r = part-end (h .0) _ (h .1) _ (c .zone-start .ensures) in omega arith
 
@@ -40,8 +34,8 @@ zone-owner-spec =
     zone-start-requires
     add-e
     mul-owner
-    sub-owner
-    part-owner-start
+    (search needs)
+    (search needs)
     part-owner-end
     owner-requires
     returns)

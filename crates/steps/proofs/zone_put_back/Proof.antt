@@ -22,12 +22,6 @@ add-e c = let h = c .before .before .pre in let r = part-end (h .0) _ (h .1) _ (
 mul-put-back : tie.Need-mul-put-back
 mul-put-back c = let h = c .before .before .pre in let r = part-end (h .0) _ (h .1) _ (c .zone-start .ensures) in omega arith
 
-sub-put-back : tie.Need-sub-put-back
-sub-put-back c = search needs
-
-part-put-back-start : tie.Need-part-put-back-start
-part-put-back-start c = search needs
-
 part-put-back-end : tie.Need-part-put-back-end
 part-put-back-end c = let h = c .before .before .pre in let r = part-end (h .0) _ (h .1) _ (c .zone-start .ensures) in omega arith
 
@@ -36,9 +30,6 @@ put-back-requires c κs =
     let h = c .before .before .before .pre in
     let a = c .before .zone-start .ensures in
     (part-zone (h .0) _ (h .1) _ a, subst (λ z. 0 < getD (z .owners) (c .before .before .before .args .chunk) 0) (sym (part-is (h .0) _ (h .1) _ a)) (h .2))
-
-same-length : tie.Need-same-length
-same-length c = search needs
 
 returns : tie.Need-returns
 returns c =
@@ -53,9 +44,9 @@ zone-put-back-spec =
     zone-start-requires
     add-e
     mul-put-back
-    sub-put-back
-    part-put-back-start
+    (search needs)
+    (search needs)
     part-put-back-end
     put-back-requires
-    same-length
+    (search needs)
     returns)

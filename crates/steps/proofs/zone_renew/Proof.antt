@@ -19,20 +19,8 @@ add-e c = let h = c .before .before .pre in let r = part-end (h .0) _ (h .1) _ (
 mul-set-up : tie.Need-mul-set-up
 mul-set-up c = let h = c .before .before .pre in let r = part-end (h .0) _ (h .1) _ (c .zone-start .ensures) in omega arith
 
-sub-set-up : tie.Need-sub-set-up
-sub-set-up c = search needs
-
-part-set-up-start : tie.Need-part-set-up-start
-part-set-up-start c = search needs
-
 part-set-up-end : tie.Need-part-set-up-end
 part-set-up-end c = let h = c .before .before .pre in let r = part-end (h .0) _ (h .1) _ (c .zone-start .ensures) in omega arith
-
-set-up-requires : tie.Need-set-up-requires
-set-up-requires c κs = search needs
-
-same-length : tie.Need-same-length
-same-length c = search needs
 
 returns : tie.Need-returns
 returns c =
@@ -47,9 +35,9 @@ zone-renew-spec =
     zone-start-requires
     add-e
     mul-set-up
-    sub-set-up
-    part-set-up-start
+    (search needs)
+    (search needs)
     part-set-up-end
-    set-up-requires
-    same-length
+    (search needs)
+    (search needs)
     returns)

@@ -16,12 +16,6 @@ add-e c = let h = c .before .before .pre in let r = part-end (h .0) _ (h .1) _ (
 mul-touched : tie.Need-mul-touched
 mul-touched c = let h = c .before .before .pre in let r = part-end (h .0) _ (h .1) _ (c .zone-start .ensures) in omega arith
 
-sub-touched : tie.Need-sub-touched
-sub-touched c = search needs
-
-part-touched-start : tie.Need-part-touched-start
-part-touched-start c = search needs
-
 part-touched-end : tie.Need-part-touched-end
 part-touched-end c = let h = c .before .before .pre in let r = part-end (h .0) _ (h .1) _ (c .zone-start .ensures) in omega arith
 
@@ -38,8 +32,8 @@ zone-touched-spec =
     zone-start-requires
     add-e
     mul-touched
-    sub-touched
-    part-touched-start
+    (search needs)
+    (search needs)
     part-touched-end
     touched-requires
     returns)

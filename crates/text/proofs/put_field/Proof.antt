@@ -11,11 +11,8 @@ put-number-requires c κs = left-bounded (left-field {l = c .before .before .arg
 put-byte-requires : tie.Need-put-byte-requires
 put-byte-requires c κs = left-bounded (left-step (left-field _ _) (c .before .before .before .put-number .ensures)) (c .before .before .before .before .before .before .pre)
 
-same-length : tie.Need-same-length
-same-length c = search needs
-
 returns : tie.Need-returns
 returns c = left-done (left-step (left-step (left-field _ _) (c .before .before .before .before .before .before .put-number .ensures)) (c .before .before .put-byte .ensures))
 
 pub put-field-spec : {M : Type 1} → statement M
-put-field-spec = tie.close (tie.spec put-number-requires put-byte-requires same-length returns)
+put-field-spec = tie.close (tie.spec put-number-requires put-byte-requires (search needs) returns)

@@ -33,9 +33,6 @@ put-byte-requires c κs =
     let s = start (c .before) in
     omega (arith, ap length (line-none (s .args .numbers .now) (c .before .if1 .taken)))
 
-same-length : tie.Need-same-length Inv-loop μ-loop
-same-length c = search needs
-
 returns : tie.Need-returns Inv-loop μ-loop
 returns c =
     let t = c .before .before .before .before in
@@ -44,27 +41,12 @@ returns c =
 loop-holds : tie.Need-loop-holds Inv-loop μ-loop
 loop-holds c = (omega arith, refl, left-line _ (c .if1 .left))
 
-mul-put-field : tie.Need-mul-put-field Inv-loop μ-loop
-mul-put-field c = search needs
-
-shared-slice-read-put-field : tie.Need-shared-slice-read-put-field Inv-loop μ-loop
-shared-slice-read-put-field c = search needs
-
-add-end-of : tie.Need-add-end-of Inv-loop μ-loop
-add-end-of c = search needs
-
-end-of-requires : tie.Need-end-of-requires Inv-loop μ-loop
-end-of-requires c κs = search needs
-
 put-field-requires : tie.Need-put-field-requires Inv-loop μ-loop
 put-field-requires c κs =
     let t = c .before .before .before in
     let l = loop-before-turn t in
     let s = start-before-loop l in
     left-bounded (left-number _ _ (t .loop-test .taken) (c .end-of .ensures) (l .loop .inv .2)) (s .pre)
-
-add-i : tie.Need-add-i Inv-loop μ-loop
-add-i c = search needs
 
 loop-less : tie.Need-loop-less Inv-loop μ-loop
 loop-less c = omega arith
@@ -88,15 +70,15 @@ put-line-spec =
     Inv-loop
     μ-loop
     put-byte-requires
-    same-length
+    (search needs)
     returns
     loop-holds
-    mul-put-field
-    shared-slice-read-put-field
-    add-end-of
-    end-of-requires
+    (search needs)
+    (search needs)
+    (search needs)
+    (search needs)
     put-field-requires
-    add-i
+    (search needs)
     loop-less
     loop-again
     same-length-2

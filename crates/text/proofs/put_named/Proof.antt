@@ -30,9 +30,6 @@ put-field-requires c κs =
     let s = start p₁ in
     left-bounded (left-step (left-step (left-named _ _) (p₁ .put-bytes .ensures)) (p .put-byte .ensures)) (s .pre)
 
-same-length : tie.Need-same-length
-same-length c = search needs
-
 returns : tie.Need-returns
 returns c =
     let p = c .before .before .before .before .before .before in
@@ -42,4 +39,4 @@ returns c =
 pub put-named-spec : {M : Type 1} → statement M
 put-named-spec =
     tie.close
-    (tie.spec put-bytes-requires put-byte-requires put-field-requires same-length returns)
+    (tie.spec put-bytes-requires put-byte-requires put-field-requires (search needs) returns)

@@ -9,15 +9,6 @@ use Rattle.text.proofs.read_field.Tie as tie
 abbrev read-number : tie.After-value → tie.After-read-number
 read-number c = c .before .before
 
-read-number-requires : tie.Need-read-number-requires
-read-number-requires c κs = search needs
-
-enum-known-value : tie.Need-enum-known-value
-enum-known-value c = search needs
-
-enum-told : tie.Need-enum-told
-enum-told c = search needs
-
 returns : tie.Need-returns
 returns c = field-none _ _ _ (sym (c .before .before .read-number .ensures) ∙ c .enum-told .given .1)
 
@@ -27,17 +18,11 @@ returns-2 c =
     let r = read-number v in
     field-past _ _ _ _ _ (sym (r .read-number .ensures) ∙ v .value .given .1) (c .if1 .taken)
 
-shared-slice-read-if2 : tie.Need-shared-slice-read-if2
-shared-slice-read-if2 c = search needs
-
 returns-3 : tie.Need-returns-3
 returns-3 c =
     let v = c .before .before .before .before in
     let r = read-number v in
     field-other _ _ _ _ _ (sym (r .read-number .ensures) ∙ v .value .given .1) (c .before .before .if1 .left) (c .if2 .taken)
-
-add-t7 : tie.Need-add-t7
-add-t7 c = search needs
 
 returns-4 : tie.Need-returns-4
 returns-4 c =
@@ -49,12 +34,12 @@ pub read-field-spec : {M : Type 1} → statement M
 read-field-spec =
     tie.close
     (tie.spec
-    read-number-requires
-    enum-known-value
-    enum-told
+    (search needs)
+    (search needs)
+    (search needs)
     returns
     returns-2
-    shared-slice-read-if2
+    (search needs)
     returns-3
-    add-t7
+    (search needs)
     returns-4)

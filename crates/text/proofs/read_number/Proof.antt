@@ -34,23 +34,11 @@ else1 c = c .before .before .before .before .before
 returns : tie.Need-returns Inv-loop μ-loop
 returns c = none-past _ _ (c .if1 .taken)
 
-shared-slice-read-first : tie.Need-shared-slice-read-first Inv-loop μ-loop
-shared-slice-read-first c = search needs
-
-is-digit-requires : tie.Need-is-digit-requires Inv-loop μ-loop
-is-digit-requires c κs = search needs
-
 returns-2 : tie.Need-returns-2 Inv-loop μ-loop
 returns-2 c = none-other _ _ (c .before .before .before .if1 .left) (sym (c .before .is-digit .ensures) ∙ not-true _ (c .if2 .taken))
 
-sub-wide : tie.Need-sub-wide Inv-loop μ-loop
-sub-wide c = digit-range _ (sym (c .before .is-digit .ensures) ∙ not-false _ (c .if2 .left)) .0
-
-wide-requires : tie.Need-wide-requires Inv-loop μ-loop
-wide-requires c κs = search needs
-
-add-i : tie.Need-add-i Inv-loop μ-loop
-add-i c = search needs
+sub-value : tie.Need-sub-value Inv-loop μ-loop
+sub-value c = digit-range _ (sym (c .before .is-digit .ensures) ∙ not-false _ (c .if2 .left)) .0
 
 loop-holds : tie.Need-loop-holds Inv-loop μ-loop
 loop-holds c =
@@ -58,13 +46,7 @@ loop-holds c =
     let s₁ = start e₁ in
     let e = sym (c .before .before .is-digit .ensures) ∙ not-false _ (c .before .if2 .left) in
     let d = digit-range (getD (s₁ .args .s .now) (s₁ .args .at) 0) e in
-    (omega arith, omega (arith, c .wide .ensures, d .1), begins _ _ (e₁ .if1 .left) e (c .wide .ensures))
-
-shared-slice-read-b : tie.Need-shared-slice-read-b Inv-loop μ-loop
-shared-slice-read-b c = search needs
-
-is-digit-requires-2 : tie.Need-is-digit-requires-2 Inv-loop μ-loop
-is-digit-requires-2 c κs = search needs
+    (omega arith, omega (arith, c .value .ensures, d .1), begins _ _ (e₁ .if1 .left) e (c .value .ensures))
 
 cast-t17 : tie.Need-cast-t17 Inv-loop μ-loop
 cast-t17 c = omega arith
@@ -85,29 +67,23 @@ returns-4 c =
 mul-v : tie.Need-mul-v Inv-loop μ-loop
 mul-v c = omega arith
 
-sub-wide-2 : tie.Need-sub-wide-2 Inv-loop μ-loop
-sub-wide-2 c = digit-range _ (sym (c .before .before .is-digit2 .ensures) ∙ not-false _ (c .before .if3 .left)) .0
-
-wide-requires-2 : tie.Need-wide-requires-2 Inv-loop μ-loop
-wide-requires-2 c κs = search needs
+sub-value-2 : tie.Need-sub-value-2 Inv-loop μ-loop
+sub-value-2 c = digit-range _ (sym (c .before .before .is-digit2 .ensures) ∙ not-false _ (c .before .if3 .left)) .0
 
 add-v : tie.Need-add-v Inv-loop μ-loop
 add-v c =
     let i₁ = c .before .before .before in
     let l = loop-before-turn (turn i₁) in
     let s₁ = start (else1 l) in
-    omega (arith, c .wide2 .ensures, digit-range (getD (s₁ .args .s .now) (l .loop .i) 0) (sym (i₁ .is-digit2 .ensures) ∙ not-false _ (c .before .before .if3 .left)) .1)
+    omega (arith, c .value2 .ensures, digit-range (getD (s₁ .args .s .now) (l .loop .i) 0) (sym (i₁ .is-digit2 .ensures) ∙ not-false _ (c .before .before .if3 .left)) .1)
 
 returns-5 : tie.Need-returns-5 Inv-loop μ-loop
 returns-5 c =
     let i = c .before .before .before .before in
     let t = turn i in
     let l = loop-before-turn t in
-    on-large _ (l .loop .v) _ (t .loop-test .taken) (sym (i .is-digit2 .ensures) ∙ not-false _ (c .before .before .before .if3 .left)) (c .before .wide2 .ensures) (omega (arith, c .if5 .taken))
+    on-large _ (l .loop .v) _ (t .loop-test .taken) (sym (i .is-digit2 .ensures) ∙ not-false _ (c .before .before .before .if3 .left)) (c .before .value2 .ensures) (omega (arith, c .if5 .taken))
     ∙ l .loop .inv .2
-
-add-i-2 : tie.Need-add-i-2 Inv-loop μ-loop
-add-i-2 c = search needs
 
 loop-less : tie.Need-loop-less Inv-loop μ-loop
 loop-less c = omega arith
@@ -117,7 +93,7 @@ loop-again c =
     let i = c .before .before .before .before in
     let t = turn i in
     let l = loop-before-turn t in
-    (omega arith, omega arith, on-more _ _ _ (t .loop-test .taken) (sym (i .is-digit2 .ensures) ∙ not-false _ (c .before .before .before .if3 .left)) (c .before .wide2 .ensures) (c .before .before .if4 .left) ∙ l .loop .inv .2)
+    (omega arith, omega arith, on-more _ _ _ (t .loop-test .taken) (sym (i .is-digit2 .ensures) ∙ not-false _ (c .before .before .before .if3 .left)) (c .before .value2 .ensures) (c .before .before .if4 .left) ∙ l .loop .inv .2)
 
 cast-t20 : tie.Need-cast-t20 Inv-loop μ-loop
 cast-t20 c = omega arith
@@ -132,24 +108,24 @@ read-number-spec =
     Inv-loop
     μ-loop
     returns
-    shared-slice-read-first
-    is-digit-requires
+    (search needs)
+    (search needs)
     returns-2
-    sub-wide
-    wide-requires
-    add-i
+    sub-value
+    (search needs)
+    (search needs)
     loop-holds
-    shared-slice-read-b
-    is-digit-requires-2
+    (search needs)
+    (search needs)
     cast-t17
     returns-3
     returns-4
     mul-v
-    sub-wide-2
-    wide-requires-2
+    sub-value-2
+    (search needs)
     add-v
     returns-5
-    add-i-2
+    (search needs)
     loop-less
     loop-again
     cast-t20

@@ -13,17 +13,11 @@ give-back-requires c κs =
     let h = c .before .before .before .before .before .before .pre in
     give-asks (h .0 .0) (h .1 .0) (h .1 .1 .2) _ (h .0 .1) (given-listed (h .0 .0) (h .1 .0) (h .1 .1 .2) (c .before .before .before .unlist .ensures))
 
-sub-size-at : tie.Need-sub-size-at
-sub-size-at c = search needs
-
 size-at-requires : tie.Need-size-at-requires
 size-at-requires c κs =
     let h = c .before .before .before .before .before .before .before .before .before .before .pre in
     size-asks (h .0 .0) (h .1 .0) (h .1 .1 .2) _ (h .0 .1)
     (given-after (h .0 .0) (h .1 .0) (h .1 .1 .2) (given-listed (h .0 .0) (h .1 .0) (h .1 .1 .2) (c .before .before .before .before .before .before .before .unlist .ensures)) (c .before .before .before .give-back .ensures))
-
-same-length : tie.Need-same-length
-same-length c = search needs
 
 returns : tie.Need-returns
 returns c =
@@ -37,7 +31,7 @@ give-zone-spec =
     (tie.spec
     unlist-requires
     give-back-requires
-    sub-size-at
+    (search needs)
     size-at-requires
-    same-length
+    (search needs)
     returns)

@@ -6,9 +6,6 @@ use borrow.Author.Needs.{needs}
 use Rattle.trim.proofs.idle_at.Statement.{statement}
 use Rattle.trim.proofs.idle_at.Tie as tie
 
-kind-at-requires : tie.Need-kind-at-requires
-kind-at-requires c κs = search needs
-
 returns : tie.Need-returns
 returns c = λ b x s. no-zone x (λ k. c .if1 .taken (c .before .kind-at .ensures b x s ∙ k))
 
@@ -19,4 +16,4 @@ returns-2 : tie.Need-returns-2
 returns-2 c = λ b x s. c .zone-idle .ensures ∙ kind-idle s (sym (c .before .before .kind-at .ensures b x s) ∙ omega arith)
 
 pub idle-at-spec : {M : Type 1} → statement M
-idle-at-spec = tie.close (tie.spec kind-at-requires returns zone-idle-requires returns-2)
+idle-at-spec = tie.close (tie.spec (λ c κs. search needs) returns zone-idle-requires returns-2)

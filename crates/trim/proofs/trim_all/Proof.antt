@@ -29,18 +29,12 @@ give-zone-requires c κs =
     let f = sym (c .before .before .idle-at .ensures _ _ (stands i h)) ∙ c .before .if1 .taken in
     ((i .lent, i .sweep .size), (i .sweep .apart, (_, _, between i h f)))
 
-sub-p : tie.Need-sub-p Inv-loop μ-loop
-sub-p c = search needs
-
 add-p : tie.Need-add-p Inv-loop μ-loop
 add-p c =
     let i = c .before .before .before .before .before .before .before .before .loop .inv in
     let h = c .before .before .before .before .before .before .before .loop-test .taken in
     let f = sym (c .before .before .before .before .before .idle-at .ensures _ _ (stands i h)) ∙ c .before .before .before .before .if1 .taken in
     omega (arith, trim-bound i h f, c .before .before .give-zone .ensures _ _ (between i h f))
-
-add-count : tie.Need-add-count Inv-loop μ-loop
-add-count c = search needs
 
 loop-less : tie.Need-loop-less Inv-loop μ-loop
 loop-less c =
@@ -64,9 +58,6 @@ kind-at-requires c κs =
     let i = c .before .before .before .before .before .before .before .loop .inv in
     let h = c .before .before .before .before .before .before .loop-test .taken in
     (i .lent, (_, _, stands i h))
-
-run-len-requires : tie.Need-run-len-requires Inv-loop μ-loop
-run-len-requires c κs = search needs
 
 add-p-2 : tie.Need-add-p-2 Inv-loop μ-loop
 add-p-2 c =
@@ -103,14 +94,14 @@ trim-all-spec =
     loop-holds
     idle-at-requires
     give-zone-requires
-    sub-p
+    (search needs)
     add-p
-    add-count
+    (search needs)
     loop-less
     loop-again
     size-at-requires
     kind-at-requires
-    run-len-requires
+    (search needs)
     add-p-2
     loop-less-2
     loop-again-2

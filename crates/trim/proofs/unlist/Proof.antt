@@ -9,17 +9,11 @@ use borrow.Author.Needs.{needs}
 use Rattle.trim.proofs.unlist.Statement.{statement}
 use Rattle.trim.proofs.unlist.Tie as tie
 
-zone-class-requires : tie.Need-zone-class-requires
-zone-class-requires c κs = search needs
-
 cast-list-without : tie.Need-cast-list-without
 cast-list-without c = let h = c .before .before .before .before .pre in omega (arith, page-low (h .0) _ (h .1))
 
 list-without-requires : tie.Need-list-without-requires
 list-without-requires c κs = let h = c .before .before .before .before .pre in (h .0, (omega (arith, class-low (h .0) _ (h .1), c .before .zone-class .ensures), page-low (h .0) _ (h .1)))
-
-same-length : tie.Need-same-length
-same-length c = search needs
 
 returns : tie.Need-returns
 returns c =
@@ -29,4 +23,4 @@ returns c =
 pub unlist-spec : {M : Type 1} → statement M
 unlist-spec =
     tie.close
-    (tie.spec zone-class-requires cast-list-without list-without-requires same-length returns)
+    (tie.spec (λ c κs. search needs) cast-list-without list-without-requires (search needs) returns)

@@ -23,9 +23,6 @@ chunk-count-requires c κs = class-small _ (c .before .before .before .pre .0)
 hand-out-requires : tie.Need-hand-out-requires
 hand-out-requires c κs = let p = start (c .before .before) .pre in (zone-size _ (p .0), hand-out-words _ (p .0) _ (p .2) (p .3) (omega arith) .0)
 
-same-length : tie.Need-same-length
-same-length c = search needs
-
 returns : tie.Need-returns
 returns c =
     let done : tie.After-hand-out = c .before .before in
@@ -34,9 +31,6 @@ returns c =
 
 take-last-requires : tie.Need-take-last-requires
 take-last-requires c κs = let p = start (c .before .before) .pre in (taken _ (p .0) _ (p .2) (p .3) (p .1) (omega arith) .asks, omega arith)
-
-same-length-2 : tie.Need-same-length-2
-same-length-2 c = search needs
 
 returns-2 : tie.Need-returns-2
 returns-2 c =
@@ -52,8 +46,8 @@ grant-spec =
     slice-read-touched
     chunk-count-requires
     hand-out-requires
-    same-length
+    (search needs)
     returns
     take-last-requires
-    same-length-2
+    (search needs)
     returns-2)

@@ -10,12 +10,6 @@ use Rattle.zone.proofs.owner.Tie as tie
 returns : tie.Need-returns
 returns c = owner-far _ (c .before .pre) _ (c .if1 .taken)
 
-add-state : tie.Need-add-state
-add-state c = search needs
-
-mul-state : tie.Need-mul-state
-mul-state c = search needs
-
 shared-slice-read-state : tie.Need-shared-slice-read-state
 shared-slice-read-state c = omega (arith, zone-size _ (c .before .before .pre))
 
@@ -27,4 +21,4 @@ returns-3 c = sym (owner-none _ (c .if2 .left)) ∙ owner-read _ (c .before .bef
 
 pub owner-spec : {M : Type 1} → statement M
 owner-spec =
-    tie.close (tie.spec returns add-state mul-state shared-slice-read-state returns-2 returns-3)
+    tie.close (tie.spec returns (search needs) (search needs) shared-slice-read-state returns-2 returns-3)

@@ -6,21 +6,6 @@ use Rattle.zone.proofs.Figures.{set-up-encoding}
 use Rattle.zone.proofs.set_up.Statement.{statement}
 use Rattle.zone.proofs.set_up.Tie as tie
 
-sub-clear : tie.Need-sub-clear
-sub-clear c = search needs
-
-part-clear-start : tie.Need-part-clear-start
-part-clear-start c = search needs
-
-part-clear-end : tie.Need-part-clear-end
-part-clear-end c = search needs
-
-clear-requires : tie.Need-clear-requires
-clear-requires c κs = search needs
-
-slice-write-part : tie.Need-slice-write-part
-slice-write-part c = search needs
-
 slice-write-part-2 : tie.Need-slice-write-part-2
 slice-write-part-2 c = simp length-set (omega arith)
 
@@ -33,9 +18,6 @@ slice-write-part-4 c = simp length-set (omega arith)
 slice-write-part-5 : tie.Need-slice-write-part-5
 slice-write-part-5 c = simp length-set (omega arith)
 
-same-length : tie.Need-same-length
-same-length c = search needs
-
 returns : tie.Need-returns
 returns c =
     let cleared : tie.After-clear = c .before .before in
@@ -46,14 +28,14 @@ pub set-up-spec : {M : Type 1} → statement M
 set-up-spec =
     tie.close
     (tie.spec
-    sub-clear
-    part-clear-start
-    part-clear-end
-    clear-requires
-    slice-write-part
+    (search needs)
+    (search needs)
+    (search needs)
+    (search needs)
+    (search needs)
     slice-write-part-2
     slice-write-part-3
     slice-write-part-4
     slice-write-part-5
-    same-length
+    (λ c. search needs)
     returns)

@@ -25,30 +25,6 @@ start-before-loop c = c .before .before
 loop-holds : tie.Need-loop-holds Inv-loop μ-loop
 loop-holds c = (omega arith, refl)
 
-mul-slot : tie.Need-mul-slot Inv-loop μ-loop
-mul-slot c = search needs
-
-shared-slice-read-slot : tie.Need-shared-slice-read-slot Inv-loop μ-loop
-shared-slice-read-slot c = search needs
-
-add-behind : tie.Need-add-behind Inv-loop μ-loop
-add-behind c = search needs
-
-mul-is-zero : tie.Need-mul-is-zero Inv-loop μ-loop
-mul-is-zero c = search needs
-
-sub-is-zero : tie.Need-sub-is-zero Inv-loop μ-loop
-sub-is-zero c = search needs
-
-part-is-zero-start : tie.Need-part-is-zero-start Inv-loop μ-loop
-part-is-zero-start c = search needs
-
-part-is-zero-end : tie.Need-part-is-zero-end Inv-loop μ-loop
-part-is-zero-end c = search needs
-
-is-zero-requires : tie.Need-is-zero-requires Inv-loop μ-loop
-is-zero-requires c κs = search needs
-
 returns : tie.Need-returns Inv-loop μ-loop
 returns c =
     let t = c .before .before .before .before in
@@ -70,9 +46,6 @@ returns-2 c =
     legal-large (start .args .limit) (turn .class) (start .args .slots .now) (turn .i) (t .loop-test .taken) (c .before .if1 .left) (c .if2 .taken)
     ∙ turn .inv .1
 
-sub-next : tie.Need-sub-next Inv-loop μ-loop
-sub-next c = search needs
-
 returns-3 : tie.Need-returns-3 Inv-loop μ-loop
 returns-3 c =
     let t = c .before .before .before .before in
@@ -82,12 +55,6 @@ returns-3 c =
     let turn = l .loop in
     legal-falls (start .args .limit) (turn .class) (start .args .slots .now) (turn .i) (t .loop-test .taken) (c .before .before .if1 .left) (c .before .if2 .left) (c .if3 .taken)
     ∙ turn .inv .1
-
-add-i : tie.Need-add-i Inv-loop μ-loop
-add-i c = search needs
-
-loop-less : tie.Need-loop-less Inv-loop μ-loop
-loop-less c = search needs
 
 loop-again : tie.Need-loop-again Inv-loop μ-loop
 loop-again c =
@@ -114,19 +81,19 @@ are-legal-spec =
     Inv-loop
     μ-loop
     loop-holds
-    mul-slot
-    shared-slice-read-slot
-    add-behind
-    mul-is-zero
-    sub-is-zero
-    part-is-zero-start
-    part-is-zero-end
-    is-zero-requires
+    (search needs)
+    (search needs)
+    (search needs)
+    (search needs)
+    (search needs)
+    (search needs)
+    (search needs)
+    (search needs)
     returns
     returns-2
-    sub-next
+    (search needs)
     returns-3
-    add-i
-    loop-less
+    (search needs)
+    (search needs)
     loop-again
     returns-4)

@@ -15,35 +15,11 @@ Inv-loop slots₀ at v carry₀ i₀ slots carry i = (at ≤ i) × (i ≤ length
 abbrev μ-loop : tie.MeasureT-loop
 μ-loop slots₀ at v carry₀ i₀ slots carry i = length slots₀ - i
 
-loop-holds : tie.Need-loop-holds Inv-loop μ-loop
-loop-holds c = search needs
-
-mul-next : tie.Need-mul-next Inv-loop μ-loop
-mul-next c = search needs
-
-slice-read-next : tie.Need-slice-read-next Inv-loop μ-loop
-slice-read-next c = search needs
-
-mul-slots : tie.Need-mul-slots Inv-loop μ-loop
-mul-slots c = search needs
-
-slice-write-slots : tie.Need-slice-write-slots Inv-loop μ-loop
-slice-write-slots c = search needs
-
-add-i : tie.Need-add-i Inv-loop μ-loop
-add-i c = search needs
-
-loop-less : tie.Need-loop-less Inv-loop μ-loop
-loop-less c = search needs
-
 loop-again : tie.Need-loop-again Inv-loop μ-loop
 loop-again c =
     let turn = c .before .before .loop in
     let h : turn .i < length (turn .slots) = omega arith in
     (omega arith, omega arith, simp length-set (turn .inv .2), shift-more _ _ _ h ∙ turn .inv .3)
-
-same-length : tie.Need-same-length Inv-loop μ-loop
-same-length c = search needs
 
 returns : tie.Need-returns Inv-loop μ-loop
 returns c = let h : length (c .before .loop .slots) ≤ c .before .loop .i = omega arith in sym (shift-done _ _ _ h) ∙ c .before .loop .inv .3
@@ -54,13 +30,13 @@ shift-in-spec =
     (tie.spec
     Inv-loop
     μ-loop
-    loop-holds
-    mul-next
-    slice-read-next
-    mul-slots
-    slice-write-slots
-    add-i
-    loop-less
+    (λ c. search needs)
+    (search needs)
+    (search needs)
+    (search needs)
+    (search needs)
+    (search needs)
+    (search needs)
     loop-again
-    same-length
+    (search needs)
     returns)

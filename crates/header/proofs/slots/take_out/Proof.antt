@@ -10,9 +10,6 @@ use Rattle.header.proofs.slots.take_out.Tie as tie
 abbrev start-before-gather : tie.After-gather → tie.Start
 start-before-gather c = c .before .before .before
 
-gather-requires : tie.Need-gather-requires
-gather-requires c κs = search needs
-
 mul-clear : tie.Need-mul-clear
 mul-clear c =
     let g = c .before .before in
@@ -31,15 +28,6 @@ part-clear-start c =
     let s = start-before-gather g in
     let start = s in omega (arith, g .gather .ensures .0, length-remove (start .args .v) (start .args .slots .now))
 
-part-clear-end : tie.Need-part-clear-end
-part-clear-end c = search needs
-
-clear-requires : tie.Need-clear-requires
-clear-requires c κs = search needs
-
-same-length : tie.Need-same-length
-same-length c = search needs
-
 returns : tie.Need-returns
 returns c =
     let g = c .before .before .before .before .before .before in
@@ -52,11 +40,11 @@ pub take-out-spec : {M : Type 1} → statement M
 take-out-spec =
     tie.close
     (tie.spec
-    gather-requires
+    (search needs)
     mul-clear
     sub-clear
     part-clear-start
-    part-clear-end
-    clear-requires
-    same-length
+    (search needs)
+    (search needs)
+    (search needs)
     returns)

@@ -36,32 +36,11 @@ chunk-small c =
 loop-holds : tie.Need-loop-holds Inv-loop μ-loop
 loop-holds c = (omega arith, sym (all-none _))
 
-wide-requires : tie.Need-wide-requires Inv-loop μ-loop
-wide-requires c κs = search needs
-
-mul-wide : tie.Need-mul-wide Inv-loop μ-loop
-mul-wide c = search needs
-
-shared-slice-read-wide : tie.Need-shared-slice-read-wide Inv-loop μ-loop
-shared-slice-read-wide c = search needs
-
-wide-requires-2 : tie.Need-wide-requires-2 Inv-loop μ-loop
-wide-requires-2 c κs = search needs
-
 mul-wrong : tie.Need-mul-wrong Inv-loop μ-loop
 mul-wrong c = let a = chunk-small c in search needs
 
 shared-slice-read-wrong : tie.Need-shared-slice-read-wrong Inv-loop μ-loop
 shared-slice-read-wrong c = let a = chunk-small (c .before) in search needs
-
-add-wrong : tie.Need-add-wrong Inv-loop μ-loop
-add-wrong c = search needs
-
-add-i : tie.Need-add-i Inv-loop μ-loop
-add-i c = search needs
-
-loop-less : tie.Need-loop-less Inv-loop μ-loop
-loop-less c = search needs
 
 loop-again : tie.Need-loop-again Inv-loop μ-loop
 loop-again c =
@@ -79,14 +58,14 @@ are-in-place-spec =
     Inv-loop
     μ-loop
     loop-holds
-    wide-requires
-    mul-wide
-    shared-slice-read-wide
-    wide-requires-2
+    (search needs)
+    (search needs)
+    (search needs)
+    (search needs)
     mul-wrong
     shared-slice-read-wrong
-    add-wrong
-    add-i
-    loop-less
+    (search needs)
+    (search needs)
+    (search needs)
     loop-again
     returns)

@@ -32,46 +32,13 @@ K c = start c .args .touched
 abbrev M : tie.After-survey → ℕ
 M c = start c .args .chained
 
-mul-survey : tie.Need-mul-survey
-mul-survey c = search needs
-
-sub-survey : tie.Need-sub-survey
-sub-survey c = search needs
-
-part-survey-start : tie.Need-part-survey-start
-part-survey-start c = search needs
-
-part-survey-end : tie.Need-part-survey-end
-part-survey-end c = search needs
-
-survey-requires : tie.Need-survey-requires
-survey-requires c κs = search needs
-
 returns : tie.Need-returns
 returns c = let u = c .before .before in slots-full (S u) (K u) (M u) (sym (u .survey .ensures .1) ∙ le-ltb _ _ (c .if1 .taken))
-
-sub-survey-2 : tie.Need-sub-survey-2
-sub-survey-2 c = search needs
-
-part-survey-start-2 : tie.Need-part-survey-start-2
-part-survey-start-2 c = search needs
-
-part-survey-end-2 : tie.Need-part-survey-end-2
-part-survey-end-2 c = search needs
-
-survey-requires-2 : tie.Need-survey-requires-2
-survey-requires-2 c κs = search needs
 
 returns-2 : tie.Need-returns-2
 returns-2 c =
     let l = c .before .before in
     let u = upper l in slots-far (S u) (K u) (M u) (omega arith) (omega arith) (sym (l .survey2 .ensures .2) ∙ le-ltb _ _ (c .if2 .taken))
-
-add-if3 : tie.Need-add-if3
-add-if3 c = search needs
-
-sub-if3 : tie.Need-sub-if3
-sub-if3 c = search needs
 
 returns-3 : tie.Need-returns-3
 returns-3 c =
@@ -96,19 +63,19 @@ pub are-legal-spec : {M : Type 1} → statement M
 are-legal-spec =
     tie.close
     (tie.spec
-    mul-survey
-    sub-survey
-    part-survey-start
-    part-survey-end
-    survey-requires
+    (search needs)
+    (search needs)
+    (search needs)
+    (search needs)
+    (search needs)
     returns
-    sub-survey-2
-    part-survey-start-2
-    part-survey-end-2
-    survey-requires-2
+    (search needs)
+    (search needs)
+    (search needs)
+    (search needs)
     returns-2
-    add-if3
-    sub-if3
+    (search needs)
+    (search needs)
     returns-3
     are-in-place-requires
     returns-4)

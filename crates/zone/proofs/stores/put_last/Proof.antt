@@ -23,24 +23,6 @@ state c = c .before .before .before .before
 abbrev entry : tie.After-slice-known4 → tie.After-set-entry
 entry c = c .before .before
 
-slice-read-chained : tie.Need-slice-read-chained
-slice-read-chained c = search needs
-
-add-set-state : tie.Need-add-set-state
-add-set-state c = search needs
-
-set-state-requires : tie.Need-set-state-requires
-set-state-requires c κs = search needs
-
-set-entry-requires : tie.Need-set-entry-requires
-set-entry-requires c κs = search needs
-
-add-part : tie.Need-add-part
-add-part c = search needs
-
-slice-write-part : tie.Need-slice-write-part
-slice-write-part c = search needs
-
 same-length : tie.Need-same-length
 same-length c = simp length-set (omega (arith, entry c .set-entry .ensures .1))
 
@@ -56,11 +38,11 @@ pub put-last-spec : {M : Type 1} → statement M
 put-last-spec =
     tie.close
     (tie.spec
-    slice-read-chained
-    add-set-state
-    set-state-requires
-    set-entry-requires
-    add-part
-    slice-write-part
+    (search needs)
+    (search needs)
+    (search needs)
+    (search needs)
+    (search needs)
+    (search needs)
     same-length
     returns)

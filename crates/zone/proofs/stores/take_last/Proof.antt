@@ -28,35 +28,11 @@ state c = c .before .before
 chunk-is : (c : tie.After-wide) → entryIn (getD (start c .args .part .now) (headWords + c .wide .result) 0) ≡ lastChunk (start c .args .part .now)
 chunk-is c = let w : List ℕ = start c .args .part .now in ap (λ (n : ℕ). entryIn (getD w (headWords + n) 0)) (c .wide .ensures)
 
-slice-read-last : tie.Need-slice-read-last
-slice-read-last c = search needs
-
-sub-last : tie.Need-sub-last
-sub-last c = search needs
-
-wide-requires : tie.Need-wide-requires
-wide-requires c κs = search needs
-
-add-chunk : tie.Need-add-chunk
-add-chunk c = search needs
-
-mul-chunk : tie.Need-mul-chunk
-mul-chunk c = search needs
-
-slice-read-chunk : tie.Need-slice-read-chunk
-slice-read-chunk c = search needs
-
-set-entry-requires : tie.Need-set-entry-requires
-set-entry-requires c κs = search needs
-
 set-state-requires : tie.Need-set-state-requires
 set-state-requires c κs =
     let e = entry (c .before) in
     let l = last e in
     let p = start l .pre in (e .set-entry .ensures .1, rw (chunk-is l) (p .0 .near), p .1)
-
-slice-write-part : tie.Need-slice-write-part
-slice-write-part c = search needs
 
 same-length : tie.Need-same-length
 same-length c =
@@ -79,14 +55,14 @@ pub take-last-spec : {M : Type 1} → statement M
 take-last-spec =
     tie.close
     (tie.spec
-    slice-read-last
-    sub-last
-    wide-requires
-    add-chunk
-    mul-chunk
-    slice-read-chunk
-    set-entry-requires
+    (search needs)
+    (search needs)
+    (search needs)
+    (search needs)
+    (search needs)
+    (search needs)
+    (search needs)
     set-state-requires
-    slice-write-part
+    (search needs)
     same-length
     returns)

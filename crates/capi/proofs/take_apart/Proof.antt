@@ -1,0 +1,44 @@
+-- `take_apart` meets its contract. Assumes nothing.
+use mathlib.Core.Path.{_∙_, sym, ap}
+use mathlib.Core.Bool.{false}
+use Rattle.capi.specs.Values.{toldOf}
+use Rattle.capi.specs.declared.Told.{Told}
+use borrow.Author.Needs.{needs}
+use Rattle.capi.proofs.take_apart.Statement.{statement}
+use Rattle.capi.proofs.take_apart.Tie as tie
+
+returns : tie.Need-returns
+returns c = c .valued .ensures ∙ sym (ap toldOf (c .before .before .answer .given .1))
+
+returns-2 : tie.Need-returns-2
+returns-2 c =
+    c .refused .ensures ∙ (λ i. record { refusal = c .before .number .ensures i; some = false; first = 0; both = false; second = 0 }) ∙ sym (ap toldOf (c .before .before .before .answer2 .given .1))
+
+returns-3 : tie.Need-returns-3
+returns-3 c = c .refused2 .ensures ∙ sym (ap toldOf (c .before .enum-told .given .1))
+
+returns-4 : tie.Need-returns-4
+returns-4 c = c .valued2 .ensures ∙ sym (ap toldOf (c .before .before .answer3 .given .1))
+
+returns-5 : tie.Need-returns-5
+returns-5 c = sym (ap toldOf (c .before .answer4 .given .1))
+
+pub take-apart-spec : {M : Type 1} → statement M
+take-apart-spec =
+    tie.close
+    (tie.spec
+    (search needs)
+    (search needs)
+    (search needs)
+    (search needs)
+    (search needs)
+    (search needs)
+    (search needs)
+    (search needs)
+    (search needs)
+    (search needs)
+    returns
+    returns-2
+    returns-3
+    returns-4
+    returns-5)

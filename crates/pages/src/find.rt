@@ -1,0 +1,128 @@
+// Where things stand: the size of a segment, the free runs, the segment of a page. Nothing is written.
+ghost use mathlib.Core.Path.{_≡_};
+ghost use mathlib.Core.List.{List};
+ghost use Prim.Native.Nat.{ℕ};
+ghost use lib.Dec.{eqb};
+ghost use mathlib.Core.Bool.{cond};
+ghost use Rattle.model.specs.Arena.{Segment, direct, pages};
+ghost use Rattle.model.specs.Zone.{Zone};
+ghost use Rattle.model.specs.Pages.{claim};
+ghost use Rattle.pages.specs.Encoding.{kindRun};
+ghost use Rattle.pages.specs.Decoding.{segmentsOf, Holds};
+ghost use Rattle.pages.specs.Places.{found, runAtStart, Stands, Passed, firstRun, spotFrom};
+use crate::Found;
+use crate::Spot;
+use model::numbers::PAGE_WORDS;
+use model::numbers::ZONE_PAGES;
+use zone::layout::KIND_RUN;
+use zone::layout::KIND_ZONE;
+
+// The pages of a segment that is a run, else 0.
+pub fn run_len(kind: u32, len: usize) -> usize
+    ensures { λ r. ⌜ r ≡ cond (eqb kind kindRun) len 0 ⌝ }
+{
+    if kind == KIND_RUN {
+        return len;
+    }
+    0
+}
+
+// The pages of the segment that begins at page p.
+pub fn size(words: &[u32], n: usize, p: usize) -> usize
+    requires { ⌜ Holds (now words) n ⌝ }
+    requires { ⌜ ((b : ℕ) × (x : Segment Zone) × Stands (segmentsOf (now words)) p b x) ⌝ }
+    ensures { λ r. ⌜ ((b : ℕ) (x : Segment Zone) → Stands (segmentsOf (now (words .entry))) p b x → r ≡ pages x) ⌝ }
+{
+    let at = PAGE_WORDS * p;
+    if words[at] == KIND_ZONE {
+        return ZONE_PAGES;
+    }
+    model::wide(words[at + 1])
+}
+
+// The group of the direct block that begins at page p.
+pub fn group(words: &[u32], n: usize, p: usize) -> u32
+    requires { ⌜ Holds (now words) n ⌝ }
+    requires { ⌜ ((b k g : ℕ) × Stands (segmentsOf (now words)) p b (direct k g)) ⌝ }
+    ensures { λ r. ⌜ ((b k g : ℕ) → Stands (segmentsOf (now (words .entry))) p b (direct k g) → r ≡ g) ⌝ }
+{
+    words[PAGE_WORDS * p + 2]
+}
+
+// The first free run from the page on; a segment begins there, or the arena ends.
+fn next_run(words: &[u32], n: usize, page: usize) -> Found
+    requires { ⌜ Holds (now words) n ⌝ }
+    requires { ⌜ ((b : ℕ) × (l : List (Segment Zone)) × Passed (segmentsOf (now words)) page b l) ⌝ }
+    ensures { λ r. ⌜ ((b : ℕ) (l : List (Segment Zone)) → Passed (segmentsOf (now (words .entry))) page b l → r ≡ found (firstRun page l)) ⌝ }
+{
+    let mut p = page;
+    while p < n {
+        let len = size(words, n, p);
+        let at = PAGE_WORDS * p;
+        if words[at] == KIND_RUN {
+            return Found::Run { at: p, len: len };
+        }
+        p += len;
+    }
+    Found::Nothing
+}
+
+// The first free run, in ascending order, that has `need` pages.
+pub fn find_run(words: &[u32], n: usize, need: usize) -> Found
+    requires { ⌜ Holds (now words) n ⌝ }
+    ensures { λ r. ⌜ r ≡ found (claim need (segmentsOf (now (words .entry)))) ⌝ }
+{
+    let mut p: usize = 0;
+    let found = loop {
+        let Found::Run { at, len } = next_run(words, n, p) else {
+            break Found::Nothing;
+        };
+        if need <= len {
+            break Found::Run { at: at, len: len };
+        }
+        p = at + len;
+    };
+    found
+}
+
+// The segment that holds the page.
+pub fn find_segment(words: &[u32], n: usize, page: usize) -> Spot
+    requires { ⌜ Holds (now words) n ⌝ }
+    ensures { λ r. ⌜ r ≡ spotFrom page 0 0 (segmentsOf (now (words .entry))) ⌝ }
+{
+    let mut p: usize = 0;
+    let mut before: usize = 0;
+    while p < n {
+        let len = size(words, n, p);
+        let at = PAGE_WORDS * p;
+        let kind = words[at];
+        if page < p + len {
+            return Spot::Segment {
+                at: p,
+                kind: kind,
+                len: len,
+                before: before,
+            };
+        }
+        before = run_len(kind, len);
+        p += len;
+    }
+    Spot::Nowhere
+}
+
+// The pages of the run that begins behind the segment x at page `at`, of `len` pages, or 0.
+pub fn run_behind(words: &[u32], n: usize, at: usize, len: usize) -> usize
+    requires { ⌜ Holds (now words) n ⌝ }
+    requires { ⌜ ((b : ℕ) × (x : Segment Zone) × Stands (segmentsOf (now words)) at b x × (pages x ≡ len)) ⌝ }
+    ensures { λ r. ⌜ ((b : ℕ) (x : Segment Zone) (s : Stands (segmentsOf (now (words .entry))) at b x) → pages x ≡ len → r ≡ runAtStart (s .behind)) ⌝ }
+{
+    let next = at + len;
+    if n <= next {
+        return 0;
+    }
+    let word = PAGE_WORDS * next;
+    if words[word] == KIND_RUN {
+        return model::wide(words[word + 1]);
+    }
+    0
+}

@@ -1,0 +1,44 @@
+// The line that says an answer.
+ghost use Prim.Native.Nat.{_+_, _^_, _≤_, _<_};
+ghost use mathlib.Core.List.{[], _∷_};
+ghost use Rattle.model.specs.Text.{line};
+ghost use Rattle.text.specs.Writing.{Wrote};
+ghost use Rattle.uplink.specs.Answers.{answerText, badText};
+use model::Answer;
+
+// The line that says an answer: it has at most 64 bytes.
+pub fn put_answer(out: &mut [u8], at: usize, answer: Answer) -> usize
+    requires { ⌜ at < 2 ^ 32 ⌝ }
+    ensures { λ r. ⌜ Wrote (now (out .entry)) at (answerText answer) r (now (out .exit)) ⌝ }
+    ensures { λ r. ⌜ r ≤ at + 64 ⌝ }
+{
+    match answer {
+        Answer::Granted(offset) => text::put_named(out, at, b"at", model::long(offset)),
+        Answer::Refused(refusal) => text::put_named(
+            out,
+            at,
+            b"no",
+            model::long(model::number(refusal)),
+        ),
+        Answer::Done => text::put_bytes(out, at, b"ok\n"),
+        Answer::Counted(count) => text::put_named(out, at, b"ok", model::long(count)),
+        Answer::Block(group, room) => put_block(out, at, group, room),
+    }
+}
+
+fn put_block(out: &mut [u8], at: usize, group: u32, room: u32) -> usize
+    requires { ⌜ at < 2 ^ 32 ⌝ }
+    ensures { λ r. ⌜ Wrote (now (out .entry)) at (line (group ∷ room ∷ [])) r (now (out .exit)) ⌝ }
+    ensures { λ r. ⌜ r ≤ at + 64 ⌝ }
+{
+    let numbers = [model::long(group), model::long(room)];
+    text::put_line(out, at, &numbers)
+}
+
+// The line that answers a bad one.
+pub fn put_bad(out: &mut [u8], at: usize) -> usize
+    requires { ⌜ at < 2 ^ 32 ⌝ }
+    ensures { λ r. ⌜ Wrote (now (out .entry)) at badText r (now (out .exit)) ⌝ }
+{
+    text::put_bytes(out, at, b"?\n")
+}
