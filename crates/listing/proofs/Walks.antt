@@ -1,16 +1,17 @@
 -- The walks over the segments: the one that counts the rows of a kind, and the one that writes them. Assumes nothing.
-use Prim.Native.Nat.{ℕ, _+_, _*_, _≤_, _<_}
+use Prim.Native.Nat.{ℕ, _+_, _≤_, _<_}
 use mathlib.Core.Path.{_≡_, refl, sym, ap, _∙_, subst}
 use mathlib.Core.Bool.{Bool, true, false, cond}
 use mathlib.Core.List.{List, [], _∷_, _++_, append-assoc, append-nil}
 use native.Mathlib.Omega.{arith}
 use lib.Dec.{eqb}
-use lib.ListN.{length, getD, length-append}
+use lib.ListN.{length, length-append}
 use lib.Seq.{length-sets}
-use Rattle.model.specs.Numbers.{mostPages, pageWords}
+use Rattle.model.specs.Numbers.{mostPages}
 use Rattle.model.specs.Arena.{Segment, pages}
 use Rattle.model.specs.Zone.{Zone}
 use Rattle.model.specs.Text.{lines}
+use Rattle.pages.specs.Encoding.{kindOf}
 use Rattle.pages.specs.Decoding.{segmentsOf, Holds}
 use Rattle.pages.specs.Places.{runPages}
 use Rattle.pages.proofs.Walk.{Walk, Next, walk-start, next, past, at-it, walk-end}
@@ -42,12 +43,12 @@ module _ {k : ℕ} {w : List ℕ} {n a p : ℕ} (i : Counting k w n a p) where
   pub count-next : p < n → Next (i .walk)
   count-next h = next (i .walk) h
 
-  module _ (h : p < n) (o : ℕ) (same : o ≡ cond (eqb (getD w (pageWords * p) 0) k) 1 0) where
+  module _ (h : p < n) (kind : ℕ) (is : kind ≡ kindOf (count-next h .x)) (o : ℕ) (same : o ≡ cond (eqb kind k) 1 0) where
     one : o ≡ length (rowsAt k p (count-next h .x))
-    one = same ∙ ap (λ (j : ℕ). cond (eqb j k) 1 0) (count-next h .read .kind) ∙ sym (count-at k p (count-next h .x))
+    one = same ∙ ap (λ (j : ℕ). cond (eqb j k) 1 0) is ∙ sym (count-at k p (count-next h .x))
 
     pub count-few : o ≤ 1
-    count-few = omega (arith, same, one-most (eqb (getD w (pageWords * p) 0) k))
+    count-few = omega (arith, same, one-most (eqb kind k))
 
     pub count-more : (len : ℕ) → len ≡ pages (count-next h .x) → Counting k w n (a + o) (p + len)
     unfolding rowsOf

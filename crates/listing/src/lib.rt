@@ -19,11 +19,9 @@ ghost use Rattle.listing.specs.Rows.{rowOf, rowsAt, rowsOf, sectionText}
 ghost use Rattle.listing.specs.Into.{listAnswer, listedInto};
 use model::Answer;
 use model::Refusal;
-use model::numbers::PAGE_WORDS;
 use zone::layout::KIND_DIRECT;
 use zone::layout::KIND_RUN;
 use zone::layout::KIND_ZONE;
-use zone::layout::WORDS as ZONE_WORDS;
 
 // ---- rows
 
@@ -53,21 +51,20 @@ fn put_row(out: &mut [u8], at: usize, words: &[u32], n: usize, p: usize, kind: u
     requires { ⌜ ((b : ℕ) × (x : Segment Zone) × Stands (segmentsOf (now words)) p b x × Bounded at (lines (rowsAt kind p x))) ⌝ }
     ensures { λ r. ⌜ ((b : ℕ) (x : Segment Zone) → Stands (segmentsOf (now (words .entry))) p b x → Wrote (now (out .entry)) at (lines (rowsAt kind p x)) r (now (out .exit))) ⌝ }
 {
-    let w = PAGE_WORDS * p;
-    if words[w] != kind {
+    if pages::find::kind(words, n, p) != kind {
         return at;
     }
     if kind == KIND_ZONE {
-        let e = w + ZONE_WORDS;
-        return put_zone(out, at, &words[w..e], p);
+        let part = pages::find::zone_part(words, n, p);
+        return put_zone(out, at, part, p);
     }
     let page = p as u64;
-    let len = model::long(words[w + 1]);
+    let len = pages::find::size(words, n, p) as u64;
     if kind == KIND_RUN {
         let numbers = [page, len];
         return text::put_line(out, at, &numbers);
     }
-    let numbers = [page, len, model::long(words[w + 2])];
+    let numbers = [page, len, model::long(pages::find::group(words, n, p))];
     text::put_line(out, at, &numbers)
 }
 
@@ -104,8 +101,7 @@ fn count_rows(words: &[u32], n: usize, kind: u32) -> u64
     let mut p: usize = 0;
     let mut rows: u64 = 0;
     while p < n {
-        let w = PAGE_WORDS * p;
-        rows += same(words[w], kind);
+        rows += same(pages::find::kind(words, n, p), kind);
         p += pages::find::size(words, n, p);
     }
     rows

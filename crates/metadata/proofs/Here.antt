@@ -1,31 +1,28 @@
 -- What the code reads of the segment at a page. Assumes nothing.
-use Prim.Native.Nat.{ℕ, _+_, _-_, _*_, _≤_, _<_}
-use mathlib.Core.Path.{_≡_, refl, sym, ap, _∙_, subst}
-use mathlib.Core.List.{List, [], _++_}
+use Prim.Native.Nat.{ℕ, _-_, _≤_, _<_}
+use mathlib.Core.Path.{_≡_, refl, sym, ap, _∙_}
+use mathlib.Core.List.{List, []}
 use mathlib.Core.Bool.{Bool, true, false, cond}
 use native.Mathlib.Omega.{arith}
-use lib.ListN.{length, getD, take, drop}
-use lib.Seq.{take-at}
-use Rattle.model.specs.Numbers.{zonePages, classCount, pageWords}
-use Rattle.model.specs.Arena.{Segment, run, direct, zone, pages}
+use lib.ListN.{getD}
+use Rattle.model.specs.Numbers.{classCount}
+use Rattle.model.specs.Arena.{Segment, run, direct, zone}
 use Rattle.model.specs.Zone.{Zone, full}
 use Rattle.model.specs.PageMap.{idleZone}
 use Rattle.header.specs.Front.{stands}
-use Rattle.zone.specs.Encoding.{zoneEncoding, zoneWords}
+use Rattle.zone.specs.Encoding.{kindZone}
 use Rattle.zone.specs.Decoding.{isZone, zoneOf}
-use Rattle.zone.proofs.Encoded.{zone-iff, zone-decoded, encoding-zone}
-use Rattle.zone.proofs.Words.{length-encoding}
-use Rattle.pages.specs.Encoding.{kindOf, segmentEncoding}
-use Rattle.pages.proofs.Walk.{Read}
+use Rattle.zone.proofs.Encoded.{zone-iff, zone-decoded}
+use Rattle.pages.specs.Encoding.{kindOf}
 use Rattle.metadata.specs.Lists.{zoneFits, segmentFits, isOpen}
 
 -- A segment that is no zone fits, and counts for nothing.
-pub fits-other : (spare : List ℕ) (lists : List (List ℕ)) (p : ℕ) (x : Segment Zone) → (kindOf x ≡ 3 → ⊥) → true ≡ segmentFits spare lists p x
+pub fits-other : (spare : List ℕ) (lists : List (List ℕ)) (p : ℕ) (x : Segment Zone) → (kindOf x ≡ kindZone → ⊥) → true ≡ segmentFits spare lists p x
 fits-other spare lists p (run n) f = refl
 fits-other spare lists p (direct n g) f = refl
 fits-other spare lists p (zone z) f = absurd (f refl)
 
-pub open-other : (x : Segment Zone) → (kindOf x ≡ 3 → ⊥) → 0 ≡ isOpen x
+pub open-other : (x : Segment Zone) → (kindOf x ≡ kindZone → ⊥) → 0 ≡ isOpen x
 open-other (run n) f = refl
 open-other (direct n g) f = refl
 open-other (zone z) f = absurd (f refl)
@@ -72,30 +69,10 @@ module _ (spare : List ℕ) (lists : List (List ℕ)) (p : ℕ) (z : Zone) where
 pub class-low : (w : List ℕ) → isZone w ≡ true → zoneOf w .class < classCount
 class-low w t = let f = zone-iff w .0 t in omega (arith, f .1 .class, ap (λ u. zoneOf u .class) (f .2), ap (λ z. z .class) (zone-decoded (f .0) (f .1)))
 
--- The words of the zone at page p, as the code lends them.
-abbrev pub lentZone : ℕ → List ℕ → List ℕ
-lentZone p w = take (pageWords * p + zoneWords - pageWords * p) (drop (pageWords * p) w)
+-- The segment x is the zone z, which the code has read as y.
+module _ {y z : Zone} {x : Segment Zone} (read : y ≡ z) (is : x ≡ zone z) where
+  pub fits-zone : (spare : List ℕ) (lists : List (List ℕ)) (p : ℕ) → zoneFits spare lists p y ≡ segmentFits spare lists p x
+  fits-zone spare lists p = ap (zoneFits spare lists p) read ∙ ap (segmentFits spare lists p) (sym is)
 
-pub record ZoneHere (w : List ℕ) (p : ℕ) (x : Segment Zone) : Type 0 where
-  pub z : Zone
-  pub is : x ≡ zone z
-  pub good : isZone (lentZone p w) ≡ true
-  pub decoded : zoneOf (lentZone p w) ≡ z
-  pub eight : pages x ≡ 8
-
-pub zone-here : {w : List ℕ} {n p : ℕ} {x : Segment Zone} → Read w n p x → kindOf x ≡ 3 → ZoneHere w p x
-unfolding segmentEncoding
-zone-here {w} {n} {p} {x} r k = go x r k
-  where
-    go : (y : Segment Zone) → Read w n p y → kindOf y ≡ 3 → ZoneHere w p y
-    go (run m) q e = absurd (omega arith)
-    go (direct m g) q e = absurd (omega arith)
-    go (zone z) q e =
-        let part : lentZone p w ≡ zoneEncoding z = ap (λ k. take k (drop (pageWords * p) w)) (let u : pageWords * p + zoneWords - pageWords * p ≡ zoneWords = omega arith in u) ∙ ap (take zoneWords) (q .words) ∙ take-at (zoneEncoding z) (drop (pageWords * (p + zonePages)) w) zoneWords (length-encoding z) in
-        record { z = z; is = refl; good = ap isZone part ∙ encoding-zone z (q .ok .1); decoded = ap zoneOf part ∙ zone-decoded z (q .ok .1); eight = refl }
-
-pub fits-zone : {w : List ℕ} {p : ℕ} {x : Segment Zone} (spare : List ℕ) (lists : List (List ℕ)) (h : ZoneHere w p x) → zoneFits spare lists p (zoneOf (lentZone p w)) ≡ segmentFits spare lists p x
-fits-zone {w} {p} {x} spare lists h = ap (zoneFits spare lists p) (h .decoded) ∙ ap (segmentFits spare lists p) (sym (h .is))
-
-pub open-zone : {w : List ℕ} {p : ℕ} {x : Segment Zone} (h : ZoneHere w p x) → isOpen (zone (zoneOf (lentZone p w))) ≡ isOpen x
-open-zone {w} {p} {x} h = ap (λ z. isOpen (zone z)) (h .decoded) ∙ ap isOpen (sym (h .is))
+  pub open-zone : isOpen (zone y) ≡ isOpen x
+  open-zone = ap (λ v. isOpen (zone v)) read ∙ ap isOpen (sym is)

@@ -16,7 +16,6 @@ ghost use Rattle.model.specs.Numbers.{mostPages};
 use model::numbers::HEADER_WORDS;
 use model::numbers::PAGE_WORDS;
 use zone::layout::KIND_ZONE;
-use zone::layout::WORDS as ZONE_WORDS;
 
 // Whether the zone at the page stands where it should: a zone with a chunk not live is on its class's list, or on the empty list
 // and idle.
@@ -50,12 +49,11 @@ fn fits_at(head: &[u32], words: &[u32], n: usize, p: usize) -> bool
     requires { ⌜ ((b : ℕ) × (x : Segment Zone) × Stands (segmentsOf (now words)) p b x) ⌝ }
     ensures { λ r. ⌜ ((b : ℕ) (x : Segment Zone) → Stands (segmentsOf (now (words .entry))) p b x → r ≡ segmentFits (spareIn (now (head .entry))) (listsIn (now (head .entry))) p x) ⌝ }
 {
-    let at = PAGE_WORDS * p;
-    if words[at] != KIND_ZONE {
+    if pages::find::kind(words, n, p) != KIND_ZONE {
         return true;
     }
-    let e = at + ZONE_WORDS;
-    zone_fits(head, &words[at..e], p as u32)
+    let part = pages::find::zone_part(words, n, p);
+    zone_fits(head, part, p as u32)
 }
 
 // 1 if the segment at page p is a zone that has a chunk not live, else 0.
@@ -64,12 +62,10 @@ fn open_at(words: &[u32], n: usize, p: usize) -> u32
     requires { ⌜ ((b : ℕ) × (x : Segment Zone) × Stands (segmentsOf (now words)) p b x) ⌝ }
     ensures { λ r. ⌜ ((b : ℕ) (x : Segment Zone) → Stands (segmentsOf (now (words .entry))) p b x → r ≡ isOpen x) ⌝ }
 {
-    let at = PAGE_WORDS * p;
-    if words[at] != KIND_ZONE {
+    if pages::find::kind(words, n, p) != KIND_ZONE {
         return 0;
     }
-    let e = at + ZONE_WORDS;
-    zone_open(&words[at..e])
+    zone_open(pages::find::zone_part(words, n, p))
 }
 
 // Whether all zones stand where they should, and the lists have as many entries as there are zones that must stand on one.

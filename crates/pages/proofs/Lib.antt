@@ -13,3 +13,4 @@ pub mod AllLegal
 pub mod Checking
 pub mod Bytes
 pub mod Spots
+pub mod Inverse

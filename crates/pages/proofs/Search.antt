@@ -16,7 +16,7 @@ use Rattle.pages.specs.declared.Found.{Found}
 use Rattle.pages.specs.declared.Found.the-variants.{Run, Nothing}
 use Rattle.pages.specs.declared.Spot.{Spot}
 use Rattle.pages.specs.declared.Spot.the-variants.{Segment as At}
-use Rattle.pages.specs.Encoding.{kindOf}
+use Rattle.pages.specs.Encoding.{kindRun, kindOf}
 use Rattle.pages.specs.Decoding.{segmentsOf, Holds}
 use Rattle.pages.specs.Places.{found, runPages, runAtEnd, runAtStart, Stands, Passed, firstRun, spotFrom}
 use Rattle.pages.proofs.Walk.{read-at, passed-more, passed-stands, passed-on, Walk, walk-from, walk-start, Next, next, past, at-it, Behind, last, more, behind-it}
@@ -53,11 +53,11 @@ module _ {w : List ℕ} {n p len : ℕ} {f : Found} (i : Seeking w n f p) (h : p
   abbrev k : Next (i .1)
   k = next (i .1) h
 
-  pub seek-past : (getD w (pageWords * p) 0 ≡ 1 → ⊥) → Seeking w n f (p + len)
-  seek-past e = subst (λ l. Seeking w n f (p + l)) (sym size) (runPages (k .x), past (i .1) k 0 (run-past p (k .x) (k .rest) (λ q. e (k .read .kind ∙ q))))
+  pub seek-past : {kind : ℕ} → kind ≡ kindOf (k .x) → (kind ≡ kindRun → ⊥) → Seeking w n f (p + len)
+  seek-past t e = subst (λ l. Seeking w n f (p + l)) (sym size) (runPages (k .x), past (i .1) k 0 (run-past p (k .x) (k .rest) (λ q. e (t ∙ q))))
 
-  pub seek-hit : getD w (pageWords * p) 0 ≡ 1 → Run p len ≡ f
-  seek-hit e = ap (Run p) size ∙ sym (run-here p (k .x) (k .rest) (sym (k .read .kind) ∙ e)) ∙ at-it (i .1) k
+  pub seek-hit : {kind : ℕ} → kind ≡ kindOf (k .x) → kind ≡ kindRun → Run p len ≡ f
+  seek-hit t e = ap (Run p) size ∙ sym (run-here p (k .x) (k .rest) (sym t ∙ e)) ∙ at-it (i .1) k
 
 -- The search ---------------------------------------------------------------------------------------------------------------------
 

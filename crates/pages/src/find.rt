@@ -3,11 +3,12 @@ ghost use mathlib.Core.Path.{_≡_};
 ghost use mathlib.Core.List.{List};
 ghost use Prim.Native.Nat.{ℕ};
 ghost use lib.Dec.{eqb};
-ghost use mathlib.Core.Bool.{cond};
-ghost use Rattle.model.specs.Arena.{Segment, direct, pages};
+ghost use mathlib.Core.Bool.{true, cond};
+ghost use Rattle.zone.specs.Decoding.{isZone, zoneOf};
+ghost use Rattle.model.specs.Arena.{Segment, direct, zone, pages};
 ghost use Rattle.model.specs.Zone.{Zone};
 ghost use Rattle.model.specs.Pages.{claim};
-ghost use Rattle.pages.specs.Encoding.{kindRun};
+ghost use Rattle.pages.specs.Encoding.{kindRun, kindOf};
 ghost use Rattle.pages.specs.Decoding.{segmentsOf, Holds};
 ghost use Rattle.pages.specs.Places.{found, runAtStart, Stands, Passed, firstRun, spotFrom};
 use crate::Found;
@@ -16,6 +17,7 @@ use model::numbers::PAGE_WORDS;
 use model::numbers::ZONE_PAGES;
 use zone::layout::KIND_RUN;
 use zone::layout::KIND_ZONE;
+use zone::layout::WORDS as ZONE_WORDS;
 
 // The pages of a segment that is a run, else 0.
 pub fn run_len(kind: u32, len: usize) -> usize
@@ -27,17 +29,36 @@ pub fn run_len(kind: u32, len: usize) -> usize
     0
 }
 
-// The pages of the segment that begins at page p.
+// The kind of the segment that begins at page p.
+pub fn kind(words: &[u32], n: usize, p: usize) -> u32
+    requires { ⌜ Holds (now words) n ⌝ }
+    requires { ⌜ ((b : ℕ) × (x : Segment Zone) × Stands (segmentsOf (now words)) p b x) ⌝ }
+    ensures { λ r. ⌜ ((b : ℕ) (x : Segment Zone) → Stands (segmentsOf (now (words .entry))) p b x → r ≡ kindOf x) ⌝ }
+{
+    words[PAGE_WORDS * p]
+}
+
+// Its pages.
 pub fn size(words: &[u32], n: usize, p: usize) -> usize
     requires { ⌜ Holds (now words) n ⌝ }
     requires { ⌜ ((b : ℕ) × (x : Segment Zone) × Stands (segmentsOf (now words)) p b x) ⌝ }
     ensures { λ r. ⌜ ((b : ℕ) (x : Segment Zone) → Stands (segmentsOf (now (words .entry))) p b x → r ≡ pages x) ⌝ }
 {
-    let at = PAGE_WORDS * p;
-    if words[at] == KIND_ZONE {
+    if kind(words, n, p) == KIND_ZONE {
         return ZONE_PAGES;
     }
-    model::wide(words[at + 1])
+    model::wide(words[PAGE_WORDS * p + 1])
+}
+
+// Its words, if it is a zone.
+pub fn zone_part(words: &[u32], n: usize, p: usize) -> &[u32]
+    requires { ⌜ Holds (now words) n ⌝ }
+    requires { ⌜ ((b : ℕ) × (z : Zone) × Stands (segmentsOf (now words)) p b (zone z)) ⌝ }
+    ensures { λ r. ⌜ ((b : ℕ) (z : Zone) → Stands (segmentsOf (now (words .entry))) p b (zone z) → (isZone (now r) ≡ true) × (zoneOf (now r) ≡ z)) ⌝ }
+{
+    let a = PAGE_WORDS * p;
+    let e = a + ZONE_WORDS;
+    &words[a..e]
 }
 
 // The group of the direct block that begins at page p.
@@ -58,8 +79,7 @@ fn next_run(words: &[u32], n: usize, page: usize) -> Found
     let mut p = page;
     while p < n {
         let len = size(words, n, p);
-        let at = PAGE_WORDS * p;
-        if words[at] == KIND_RUN {
+        if kind(words, n, p) == KIND_RUN {
             return Found::Run { at: p, len: len };
         }
         p += len;
@@ -94,8 +114,7 @@ pub fn find_segment(words: &[u32], n: usize, page: usize) -> Spot
     let mut before: usize = 0;
     while p < n {
         let len = size(words, n, p);
-        let at = PAGE_WORDS * p;
-        let kind = words[at];
+        let kind = kind(words, n, p);
         if page < p + len {
             return Spot::Segment {
                 at: p,

@@ -19,19 +19,16 @@ start c = c .before .before
 loop-holds : tie.Need-loop-holds Inv-loop μ-loop
 loop-holds c = count-start (c .before .pre)
 
-mul-w : tie.Need-mul-w Inv-loop μ-loop
-mul-w c = omega (arith, c .before .loop .inv .most)
-
-mul-same : tie.Need-mul-same Inv-loop μ-loop
-mul-same c = omega (arith, c .before .loop .inv .most)
-
-shared-slice-read-same : tie.Need-shared-slice-read-same Inv-loop μ-loop
-shared-slice-read-same c = let k = count-next (c .before .before .loop .inv) (c .before .loop-test .taken) in omega (arith, k .read .long)
+kind-requires : tie.Need-kind-requires Inv-loop μ-loop
+kind-requires c κs =
+    let l = c .before in
+    let k = count-next (l .loop .inv) (c .loop-test .taken) in (start l .pre, (l .loop .inv .b, k .x, k .stands))
 
 add-rows : tie.Need-add-rows Inv-loop μ-loop
 add-rows c =
     let l = c .before .before .before in
-    omega (arith, count-few (l .loop .inv) (c .before .before .loop-test .taken) _ (c .same .ensures), l .loop .inv .few, l .loop .inv .most)
+    let k = count-next (l .loop .inv) (c .before .before .loop-test .taken) in
+    omega (arith, count-few (l .loop .inv) (c .before .before .loop-test .taken) _ (c .before .kind .ensures _ _ (k .stands)) _ (c .same .ensures), l .loop .inv .few, l .loop .inv .most)
 
 size-requires : tie.Need-size-requires Inv-loop μ-loop
 size-requires c κs =
@@ -53,7 +50,7 @@ loop-again : tie.Need-loop-again Inv-loop μ-loop
 loop-again c =
     let l = c .before .before .before .before in
     let k = count-next (l .loop .inv) (c .before .before .before .loop-test .taken) in
-    count-more (l .loop .inv) (c .before .before .before .loop-test .taken) _ (c .before .same .ensures) _ (c .size .ensures _ _ (k .stands))
+    count-more (l .loop .inv) (c .before .before .before .loop-test .taken) _ (c .before .before .kind .ensures _ _ (k .stands)) _ (c .before .same .ensures) _ (c .size .ensures _ _ (k .stands))
 
 returns : tie.Need-returns Inv-loop μ-loop
 returns c = count-end (c .before .loop .inv) (c .loop-test .left)
@@ -65,9 +62,7 @@ count-rows-spec =
     Inv-loop
     μ-loop
     loop-holds
-    mul-w
-    mul-same
-    shared-slice-read-same
+    kind-requires
     (search needs)
     add-rows
     size-requires

@@ -24,14 +24,11 @@ loop-holds c = walk-start 0 (c .before .pre)
 size-requires : tie.Need-size-requires Inv-loop μ-loop
 size-requires c κs = let k = next (c .before .loop .inv) (c .loop-test .taken) in (c .before .before .before .pre, (c .before .loop .before, k .x, k .stands))
 
-mul-at : tie.Need-mul-at Inv-loop μ-loop
-mul-at c = let k = next (c .before .before .loop .inv) (c .before .loop-test .taken) in let r = k .read in omega arith
-
-mul-kind : tie.Need-mul-kind Inv-loop μ-loop
-mul-kind c = let k = next (c .before .before .loop .inv) (c .before .loop-test .taken) in let r = k .read in omega arith
-
-shared-slice-read-kind : tie.Need-shared-slice-read-kind Inv-loop μ-loop
-shared-slice-read-kind c = let k = next (c .before .before .before .loop .inv) (c .before .before .loop-test .taken) in let r = k .read in omega (arith, r .ok .0)
+kind-requires : tie.Need-kind-requires Inv-loop μ-loop
+kind-requires c κs =
+    let t = c .before in
+    let l = loop t in
+    let k = next (l .loop .inv) (t .loop-test .taken) in (l .before .before .pre, (l .loop .before, k .x, k .stands))
 
 add-if1 : tie.Need-add-if1 Inv-loop μ-loop
 add-if1 c = let k = next (c .before .before .before .loop .inv) (c .before .before .loop-test .taken) in let r = k .read in let z = c .before .size .ensures _ _ (k .stands) in omega arith
@@ -40,7 +37,7 @@ returns : tie.Need-returns Inv-loop μ-loop
 returns c =
     let t = c .before .before .before in
     let l = loop t in
-    let k = next (l .loop .inv) (t .loop-test .taken) in spot-here _ (l .loop .inv) (t .loop-test .taken) (c .before .before .size .ensures _ _ (k .stands)) (k .read .kind) (c .if1 .taken)
+    let k = next (l .loop .inv) (t .loop-test .taken) in spot-here _ (l .loop .inv) (t .loop-test .taken) (c .before .before .size .ensures _ _ (k .stands)) (c .before .kind .ensures _ _ (k .stands)) (c .if1 .taken)
 
 add-p : tie.Need-add-p Inv-loop μ-loop
 add-p c =
@@ -59,7 +56,7 @@ loop-again c =
     let t = c .before .before .before .before in
     let l = loop t in
     let k = next (l .loop .inv) (t .loop-test .taken) in
-    spot-past _ (l .loop .inv) (t .loop-test .taken) (c .before .before .before .size .ensures _ _ (k .stands)) (k .read .kind) (c .run-len .result) (c .run-len .ensures) (c .before .if1 .left)
+    spot-past _ (l .loop .inv) (t .loop-test .taken) (c .before .before .before .size .ensures _ _ (k .stands)) (c .before .before .kind .ensures _ _ (k .stands)) (c .run-len .result) (c .run-len .ensures) (c .before .if1 .left)
 
 returns-2 : tie.Need-returns-2 Inv-loop μ-loop
 unfolding spotFrom
@@ -73,9 +70,7 @@ find-segment-spec =
     μ-loop
     loop-holds
     size-requires
-    mul-at
-    mul-kind
-    shared-slice-read-kind
+    kind-requires
     add-if1
     returns
     (search needs)

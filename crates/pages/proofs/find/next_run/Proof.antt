@@ -35,20 +35,15 @@ loop-holds c = λ b l q. seek-from (c .before .pre .0) q
 size-requires : tie.Need-size-requires Inv-loop μ-loop
 size-requires c κs = (start c .pre .0, (walk c .0, segment c .x, segment c .stands))
 
-mul-at : tie.Need-mul-at Inv-loop μ-loop
-mul-at c = let r = segment (c .before) .read in omega arith
-
-mul-if1 : tie.Need-mul-if1 Inv-loop μ-loop
-mul-if1 c = let r = segment (c .before) .read in omega arith
-
-shared-slice-read-if1 : tie.Need-shared-slice-read-if1 Inv-loop μ-loop
-shared-slice-read-if1 c = let r = segment (c .before .before) .read in omega (arith, r .ok .0)
+kind-requires : tie.Need-kind-requires Inv-loop μ-loop
+kind-requires c κs = let t = c .before in (start t .pre .0, (walk t .0, segment t .x, segment t .stands))
 
 returns : tie.Need-returns Inv-loop μ-loop
 returns c =
     let turn : tie.In-loop Inv-loop μ-loop = c .before .before .before in
     λ b l q. let i = turn .before .loop .inv b l q in
-    seek-hit i (turn .loop-test .taken) (c .before .before .size .ensures _ _ (next (i .1) (turn .loop-test .taken) .stands)) (c .if1 .taken)
+    let there = next (i .1) (turn .loop-test .taken) .stands in
+    seek-hit i (turn .loop-test .taken) (c .before .before .size .ensures _ _ there) (c .before .kind .ensures _ _ there) (c .if1 .taken)
 
 add-p : tie.Need-add-p Inv-loop μ-loop
 add-p c =
@@ -64,7 +59,8 @@ loop-again : tie.Need-loop-again Inv-loop μ-loop
 loop-again c =
     let turn : tie.In-loop Inv-loop μ-loop = c .before .before .before in
     λ b l q. let i = turn .before .loop .inv b l q in
-    seek-past i (turn .loop-test .taken) (c .before .before .size .ensures _ _ (next (i .1) (turn .loop-test .taken) .stands)) (c .if1 .left)
+    let there = next (i .1) (turn .loop-test .taken) .stands in
+    seek-past i (turn .loop-test .taken) (c .before .before .size .ensures _ _ there) (c .before .kind .ensures _ _ there) (c .if1 .left)
 
 returns-2 : tie.Need-returns-2 Inv-loop μ-loop
 returns-2 c = λ b l q. walk-end (c .before .loop .inv b l q .1) (c .loop-test .left)
@@ -77,9 +73,7 @@ next-run-spec =
     μ-loop
     loop-holds
     size-requires
-    mul-at
-    mul-if1
-    shared-slice-read-if1
+    kind-requires
     returns
     add-p
     loop-less

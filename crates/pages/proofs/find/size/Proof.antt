@@ -1,5 +1,5 @@
 -- `find::size` meets its contract. Assumes nothing.
-use Rattle.pages.proofs.Walk.{read-at}
+use Rattle.pages.proofs.Walk.{Read, read-at}
 use Rattle.pages.proofs.Laws.{zone-size}
 use mathlib.Core.Path.{sym, _∙_}
 use native.Mathlib.Omega.{arith}
@@ -7,40 +7,39 @@ use borrow.Author.Needs.{needs}
 use Rattle.pages.proofs.find.size.Statement.{statement}
 use Rattle.pages.proofs.find.size.Tie as tie
 
-mul-at : tie.Need-mul-at
-mul-at c = let r = read-at (c .before .pre .0) (c .before .pre .1 .2) in omega arith
-
-mul-if1 : tie.Need-mul-if1
-mul-if1 c = let r = read-at (c .before .pre .0) (c .before .pre .1 .2) in omega arith
-
-shared-slice-read-if1 : tie.Need-shared-slice-read-if1
-shared-slice-read-if1 c = let r = read-at (c .before .before .pre .0) (c .before .before .pre .1 .2) in omega (arith, r .ok .0)
+-- What the words say of the segment, from where its kind has been told.
+abbrev told : (c : tie.After-kind) → Read (c .before .before .args .words .now) (c .before .before .args .n) (c .before .before .args .p) (c .before .before .pre .1 .1)
+told c = let h = c .before .before .pre in read-at (h .0) (h .1 .2)
 
 returns : tie.Need-returns
-returns c = λ b x s. let r = read-at (c .before .before .before .pre .0) s in sym (zone-size x (sym (r .kind) ∙ c .if1 .taken))
-
-add-wide : tie.Need-add-wide
-add-wide c = let r = read-at (c .before .before .before .pre .0) (c .before .before .before .pre .1 .2) in omega arith
+returns c = λ b x s. sym (zone-size x (sym (c .before .kind .ensures _ _ s) ∙ c .if1 .taken))
 
 mul-wide : tie.Need-mul-wide
-mul-wide c = let r = read-at (c .before .before .before .pre .0) (c .before .before .before .pre .1 .2) in omega arith
+mul-wide c = let r = told (c .before) in omega arith
+
+add-wide : tie.Need-add-wide
+add-wide c = let r = told (c .before) in omega arith
+
+mul-wide-2 : tie.Need-mul-wide-2
+mul-wide-2 c = let r = told (c .before) in omega arith
 
 shared-slice-read-wide : tie.Need-shared-slice-read-wide
-shared-slice-read-wide c = let r = read-at (c .before .before .before .before .pre .0) (c .before .before .before .before .pre .1 .2) in omega (arith, r .ok .0)
+shared-slice-read-wide c = let r = told (c .before .before) in omega (arith, r .ok .0)
 
 returns-2 : tie.Need-returns-2
-returns-2 c = λ b x s. let r = read-at (c .before .before .before .before .before .pre .0) s in c .wide .ensures ∙ r .size (λ k. c .before .before .if1 .left (r .kind ∙ k))
+returns-2 c =
+    let k : tie.After-kind = c .before .before .before in
+    λ b x s. c .wide .ensures ∙ read-at (k .before .before .pre .0) s .size (λ q. c .before .before .if1 .left (k .kind .ensures _ _ s ∙ q))
 
 pub size-spec : {M : Type 1} → statement M
 size-spec =
     tie.close
     (tie.spec
-    mul-at
-    mul-if1
-    shared-slice-read-if1
+    (λ c κs. search needs)
     returns
-    add-wide
     mul-wide
+    add-wide
+    mul-wide-2
     shared-slice-read-wide
     (search needs)
     returns-2)
