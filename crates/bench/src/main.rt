@@ -8,6 +8,7 @@ ghost use Rattle.lemmas.specs.Zeros.{zeros};
 ghost use Rattle.metadata.specs.Decoding.{isState};
 ghost use Rattle.uplink.specs.Fragments.{Sound, held};
 ghost use Rattle.bench.specs.Fragments.{ServedAll};
+use libc::STDERR_FILENO;
 use libc::STDIN_FILENO;
 use libc::STDOUT_FILENO;
 use uplink::Reader;
@@ -60,17 +61,26 @@ fn serve_fragment(reader: Reader, meta: &mut [u32], fragment: &[u8], out: &mut [
     Served { reader, written }
 }
 
-// The end of the input: a last line without LF.
-fn serve_end(reader: Reader, meta: &mut [u32], out: &mut [u8])
+// The end of the input: a last line without LF. Whether its reply could be written.
+fn serve_end(reader: Reader, meta: &mut [u32], out: &mut [u8]) -> bool
     requires { ⌜ Sound reader ⌝ }
     requires { ⌜ 207 ≤ length (now out) ⌝ }
 {
     let len = desk::serve_last(reader, meta, &mut out[..REPLY]);
-    io::write_all(STDOUT_FILENO, &out[..len]);
+    io::write_all(STDOUT_FILENO, &out[..len])
+}
+
+// The two lines of standard error, one at most in a run. Where standard error fails too, nobody is left to tell.
+fn tell_unread() {
+    io::write_all(STDERR_FILENO, b"bench: standard input cannot be read\n");
+}
+
+fn tell_unwritten() {
+    io::write_all(STDERR_FILENO, b"bench: standard output cannot be written\n");
 }
 
 // Reads what is there, serves it, and reads on. A loop has to end, and nothing says that an input does: so this one counts its reads
-// down, from a number that no run uses up.
+// down, from a number that no run uses up. A read or a write that fails ends it, with a line on standard error.
 fn run(meta: &mut [u32], input: &mut [u8], out: &mut [u8])
     requires { ⌜ 207 ≤ length (now out) ⌝ }
 {
@@ -79,15 +89,19 @@ fn run(meta: &mut [u32], input: &mut [u8], out: &mut [u8])
     while reads > 0 {
         let got = libc::read(STDIN_FILENO, input);
         if got < 0 {
+            tell_unread();
             return;
         }
         let n = io::count(got, input);
         if n == 0 {
-            serve_end(reader, meta, out);
+            if !serve_end(reader, meta, out) {
+                tell_unwritten();
+            }
             return;
         }
         let served = serve_fragment(reader, meta, &input[..n], out);
         if !served.written {
+            tell_unwritten();
             return;
         }
         reader = served.reader;

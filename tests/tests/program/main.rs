@@ -1,6 +1,6 @@
 //! The bench program, run through pipes and held to the second program: document 01's cases, every
 //! size of a chunk, every kind of line that is no call, generated scripts in pieces of any length, a person who
-//! waits for each answer, and any bytes at all.
+//! waits for each answer, and any bytes at all; and streams that fail.
 //!
 //!     cargo test --offline --locked -p tests --test program
 
@@ -8,6 +8,7 @@ mod any_bytes;
 mod cases;
 mod dialogue;
 mod examples;
+mod failing;
 mod generated;
 mod malformed;
 mod sizes;
