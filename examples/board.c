@@ -1,20 +1,43 @@
 /*
- * A board of 24 pages that several groups share: requests, a refusal, a return, a reset, a trim, and the listing in between.
+ * A board of 24 pages that several groups share: requests, a refusal, a return, a reset, a trim, and the listing in between. Two groups
+ * write to their blocks and read back what they wrote.
  *
  *     ./library
  *     cc -std=c99 -Wall -Wextra -Wpedantic -Werror -Itarget/nostrimel examples/board.c target/nostrimel/libnostrimel.a
  *
- * It prints what board.txt holds. Every answer is compared with the expected one; the first that differs ends it with status 1.
+ * It prints what board.out holds. Every answer is compared with the expected one; the first that differs ends it with status 1. It is
+ * C99, and C++17 as well.
  */
 #include <nostrimel.h>
 
 #include <stdio.h>
 #include <stdlib.h>
+#include <string.h>
 
-enum { PAGES = 24, WORDS = NOSTRIMEL_WORDS(PAGES) };
+#if NOSTRIMEL_LAYOUT != 1
+#error "This program was written for words of layout 1."
+#endif
 
-/* The metadata, which the library is lent with each call. The arena that the offsets are for would be 24 * 4,096 bytes. */
+#define PAGES 24u
+#define WORDS NOSTRIMEL_WORDS(PAGES)
+
+/* The metadata, which the library is lent with each call. */
 static uint32_t meta[WORDS];
+
+/*
+ * The arena, which the library never sees: it hands out offsets from its start. A block begins where the arena begins plus the offset, and
+ * is aligned as the offset is, up to the alignment of the arena: here that of its first member.
+ */
+static union {
+    uint64_t aligned;
+    unsigned char bytes[PAGES * NOSTRIMEL_PAGE_BYTES];
+} arena;
+
+/* The block that begins at an offset. */
+static unsigned char *block(uint32_t offset)
+{
+    return arena.bytes + offset;
+}
 
 /* Ends the program unless what came is what was expected. */
 static void expect(const char *what, unsigned long came, unsigned long expected)
@@ -72,6 +95,22 @@ static void ask(uint32_t offset, uint32_t expected_group, uint32_t expected_room
     printf("at %u: %u bytes of group %u\n", (unsigned)offset, (unsigned)room, (unsigned)group);
 }
 
+/* Writes a note to a block. A block has as many bytes as were asked for, and these are fewer. */
+static void write_note(uint32_t group, uint32_t offset, const char *note)
+{
+    memcpy(block(offset), note, strlen(note) + 1);
+    printf("group %2u writes to %u: %s\n", (unsigned)group, (unsigned)offset, note);
+}
+
+/* Reads it back. */
+static void read_note(uint32_t group, uint32_t offset, const char *expected)
+{
+    const char *note = (const char *)block(offset);
+
+    expect("note", strcmp(note, expected) == 0, 1);
+    printf("group %2u reads at %u: %s\n", (unsigned)group, (unsigned)offset, note);
+}
+
 /*
  * Free runs (start page, pages), blocks of whole pages (start page, pages, group), zones (start page, class, live chunks). The text
  * has no NUL at its end; its length says where that is.
@@ -89,7 +128,7 @@ static void list(void)
 
 int main(void)
 {
-    uint32_t small, large, count;
+    uint32_t small, neighbour, large, count;
 
     /* Words that nobody has started are no state: they are static, so all zero. */
     expect("trim before init", nostrimel_trim(meta, WORDS, &count), NOSTRIMEL_NO_STATE);
@@ -98,11 +137,22 @@ int main(void)
 
     /* 100 bytes are a chunk of 104 in a zone of 8 pages; 9,000 bytes are three pages; 8,191 bytes are the largest chunk. */
     small = request(1, 100, 0);
-    request(2, 97, 104);
+    neighbour = request(2, 97, 104);
     large = request(3, 9000, 8 * NOSTRIMEL_PAGE_BYTES);
     request(1, 8191, 11 * NOSTRIMEL_PAGE_BYTES);
     ask(small, 1, 104);
     ask(large, 3, 3 * NOSTRIMEL_PAGE_BYTES);
+
+    /* The groups fill their blocks to the last byte asked for, and none writes over another's. */
+    memset(block(neighbour), 2, 97);
+    memset(block(large), 3, 9000);
+    write_note(1, small, "relay 7 on");
+    write_note(3, large, "a script of 9,000 bytes");
+    read_note(1, small, "relay 7 on");
+    read_note(3, large, "a script of 9,000 bytes");
+    expect("group 2's first byte", block(neighbour)[0], 2);
+    expect("group 2's last byte", block(neighbour)[96], 2);
+    expect("group 3's last byte", block(large)[8999], 3);
 
     /* Five pages are left, and these would be six. */
     refused(4, 24576, NOSTRIMEL_NO_ROOM);

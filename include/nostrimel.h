@@ -5,8 +5,15 @@
  * that the caller lends with each call, the metadata; between calls it keeps nothing anywhere else. Requests below 8,192 bytes
  * get a chunk in a zone of 8 pages, larger ones whole pages.
  *
- *     ./library       writes target/nostrimel/libnostrimel.a and puts this file beside it
- *     cc -std=c99 -Itarget/nostrimel board.c target/nostrimel/libnostrimel.a
+ *     ./library                  writes target/nostrimel/libnostrimel.a and puts this file beside it
+ *     ./library --prefix DIR     also installs both below DIR, with a file for pkg-config
+ *     cc -std=c99 board.c $(PKG_CONFIG_PATH=DIR/lib/pkgconfig pkg-config --cflags --libs nostrimel)
+ *
+ * For which processors. The archive is one ELF object for x86-64 (any: SSE2 is all that it needs) with the calling convention of
+ * System V, which Linux uses; its code is position independent. Any other processor needs another archive, which the kit's compiler
+ * does not write. A linker for one refuses this archive: GNU ld says "skipping incompatible .../libnostrimel.a when searching for
+ * -lnostrimel" and "cannot find -lnostrimel", or of the file itself "Relocations in generic ELF (EM: 62)"; lld says
+ * "libnostrimel.a(capi.o) is incompatible with aarch64linux".
  *
  * Answers. Every function returns 0, or the number of the refusal (enum nostrimel_refusal). Which numbers a function can return
  * stands at the function, in the order in which they are tested: the first that applies is returned. A refused call changes no
@@ -25,7 +32,14 @@
  * What the library needs: memset, and nothing else from outside (no heap, no input or output). It keeps nothing in static memory.
  *
  * How many words. An arena of N pages has its state in the first NOSTRIMEL_WORDS(N) words. More may be lent; the words behind are
- * never read or changed.
+ * never read or changed. A word is stored as the processor stores a uint32_t, which on x86-64 is the lowest byte first.
+ *
+ * What it costs.
+ *   - Memory: four bytes a word, which is 4,096 bytes and 2,080 for each page. So the metadata are about half as large as the
+ *     arena: 54,016 bytes for 24 pages (98,304 bytes), 536,576 for 256 (1,048,576).
+ *   - Time: each call but nostrimel_init reads all of its state's words before it does anything, since any of them may be wrong. On
+ *     one machine most calls took one to two microseconds at 24 pages and 8 to 24 at 256; docs/PERFORMANCE.md has the others.
+ *   - Stack: NOSTRIMEL_STACK_BYTES are enough for any call.
  */
 #ifndef NOSTRIMEL_H
 #define NOSTRIMEL_H
@@ -33,9 +47,26 @@
 #include <stddef.h>
 #include <stdint.h>
 
+/* Results that must be looked at: a call's number says whether its other results were written. */
+#if defined(__cplusplus) && __cplusplus >= 201703L
+#define NOSTRIMEL_LOOK_AT [[nodiscard]]
+#elif defined(__STDC_VERSION__) && __STDC_VERSION__ >= 202311L
+#define NOSTRIMEL_LOOK_AT [[nodiscard]]
+#elif defined(__GNUC__)
+#define NOSTRIMEL_LOOK_AT __attribute__((warn_unused_result))
+#else
+#define NOSTRIMEL_LOOK_AT
+#endif
+
 #ifdef __cplusplus
 extern "C" {
 #endif
+
+/*
+ * Which layout the words have (docs/LAYOUT.md). It grows whenever the words of some state change, so words that were kept are to be
+ * lent only to a library with the number of the one that wrote them. #if compares it.
+ */
+#define NOSTRIMEL_LAYOUT 1u
 
 /* Bytes of a page, the most pages of an arena, and its groups: 1 to NOSTRIMEL_GROUPS. */
 #define NOSTRIMEL_PAGE_BYTES 4096u
@@ -45,8 +76,14 @@ extern "C" {
 /* The largest size that a request may name, in bytes: all of the largest arena. */
 #define NOSTRIMEL_MAX_SIZE 1048576u
 
-/* How many words of metadata an arena of so many pages needs: 13,504 for 24 pages, 134,144 for 256. */
-#define NOSTRIMEL_WORDS(pages) ((size_t)1024 + (size_t)520 * (size_t)(pages))
+/* How many words of metadata an arena of so many pages needs: 13,504 for 24 pages, 134,144 for 256. #if can compute it. */
+#define NOSTRIMEL_WORDS(pages) (1024ul + 520ul * (pages))
+
+/*
+ * Bytes of stack that a call uses at most. That is measured and not proved: in twenty thousand calls of all kinds, on painted stacks,
+ * a listing used 504 at most and any other call 360 (tests/c/stack.c, which fails where a call uses more than this).
+ */
+#define NOSTRIMEL_STACK_BYTES 1024u
 
 /* Bytes of the longest listing of any valid state (proved: none is longer, and one is that long). With a text of this capacity no
  * listing is refused for want of room; for an arena of 24 pages or fewer 207 are enough. */
@@ -71,7 +108,7 @@ enum nostrimel_refusal {
  * among them.
  * Refusals: BAD_PAGES, FEW_WORDS.
  */
-uint32_t nostrimel_init(uint32_t *meta, size_t words, uint32_t pages);
+NOSTRIMEL_LOOK_AT uint32_t nostrimel_init(uint32_t *meta, size_t words, uint32_t pages);
 
 /*
  * Requests a block of at least size bytes for a group. *offset is where it begins, in bytes from the arena's start. The block is
@@ -82,33 +119,33 @@ uint32_t nostrimel_init(uint32_t *meta, size_t words, uint32_t pages);
  * as far as the arena's start is.
  * Refusals: NO_STATE, BAD_GROUP, BAD_SIZE, NO_ROOM.
  */
-uint32_t nostrimel_allocate(uint32_t *meta, size_t words, uint32_t group, uint32_t size, uint32_t *offset);
+NOSTRIMEL_LOOK_AT uint32_t nostrimel_allocate(uint32_t *meta, size_t words, uint32_t group, uint32_t size, uint32_t *offset);
 
 /*
  * Returns the group's live block that begins at the offset.
  * Refusals: NO_STATE, BAD_GROUP, NO_BLOCK (a second return and an offset inside a block among them), OTHER_GROUP.
  */
-uint32_t nostrimel_free(uint32_t *meta, size_t words, uint32_t group, uint32_t offset);
+NOSTRIMEL_LOOK_AT uint32_t nostrimel_free(uint32_t *meta, size_t words, uint32_t group, uint32_t offset);
 
 /*
  * Returns all live blocks of a group, in ascending offset, each as nostrimel_free would. *count is how many there were; 0 is
  * possible.
  * Refusals: NO_STATE, BAD_GROUP.
  */
-uint32_t nostrimel_reset(uint32_t *meta, size_t words, uint32_t group, uint32_t *count);
+NOSTRIMEL_LOOK_AT uint32_t nostrimel_reset(uint32_t *meta, size_t words, uint32_t group, uint32_t *count);
 
 /*
  * Gives the pages of every zone without a live chunk back. *count is how many zones there were; 0 is possible.
  * Refusals: NO_STATE.
  */
-uint32_t nostrimel_trim(uint32_t *meta, size_t words, uint32_t *count);
+NOSTRIMEL_LOOK_AT uint32_t nostrimel_trim(uint32_t *meta, size_t words, uint32_t *count);
 
 /*
  * Tells of the live block that begins at the offset: the group that holds it, and its room in bytes, which is the size asked for
  * rounded up to the chunk's or to whole pages. Changes no word.
  * Refusals: NO_STATE, NO_BLOCK.
  */
-uint32_t nostrimel_query(const uint32_t *meta, size_t words, uint32_t offset, uint32_t *group, uint32_t *room);
+NOSTRIMEL_LOOK_AT uint32_t nostrimel_query(const uint32_t *meta, size_t words, uint32_t offset, uint32_t *group, uint32_t *room);
 
 /*
  * Writes the listing at the front of the text; *length is its bytes. Later bytes stay, and no NUL is written behind it. It is
@@ -117,7 +154,7 @@ uint32_t nostrimel_query(const uint32_t *meta, size_t words, uint32_t offset, ui
  * ascending order of start pages. Changes no word.
  * Refusals: NO_STATE, SHORT_BUFFER.
  */
-uint32_t nostrimel_listing(const uint32_t *meta, size_t words, uint8_t *text, size_t capacity, size_t *length);
+NOSTRIMEL_LOOK_AT uint32_t nostrimel_listing(const uint32_t *meta, size_t words, uint8_t *text, size_t capacity, size_t *length);
 
 #ifdef __cplusplus
 }
