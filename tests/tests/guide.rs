@@ -1,5 +1,5 @@
-//! docs/GUIDE.md: its calls are made in the order in which they stand there, on the second program and
-//! on the bench program, and its answers, its drawings and its table of sizes are the ones that come.
+//! docs/GUIDE.md and docs/TEACHER.md: their calls are made in the order in which they stand there, on the second program and
+//! on the bench program, and their answers, drawings and tables of sizes are the ones that come.
 
 use reference::bench::{Bench, WORDS};
 use reference::sizes::{chunk_count, chunk_size, need, Need, PAGE_BYTES, ZONE_PAGES};
@@ -8,6 +8,7 @@ use std::collections::VecDeque;
 use tests::program::answers;
 
 const GUIDE: &str = include_str!("../../docs/GUIDE.md");
+const TEACHER: &str = include_str!("../../docs/TEACHER.md");
 
 /// What stands before a line that is typed.
 const TYPED: &str = "> ";
@@ -18,9 +19,9 @@ struct Block {
     lines: Vec<&'static str>,
 }
 
-fn blocks() -> Vec<Block> {
+fn blocks(document: &'static str) -> Vec<Block> {
     let mut blocks = Vec::new();
-    let mut lines = GUIDE.lines();
+    let mut lines = document.lines();
     while let Some(line) = lines.next() {
         if let Some(kind) = line.strip_prefix("```") {
             let lines = lines.by_ref().take_while(|line| *line != "```").collect();
@@ -31,14 +32,34 @@ fn blocks() -> Vec<Block> {
 }
 
 #[test]
-fn every_answer_and_every_drawing() {
-    let mut bench = Bench::new(WORDS);
+fn every_answer_and_every_drawing_of_the_guide() {
+    let (sessions, drawings) = hold(GUIDE);
+    assert!(sessions >= 24 && drawings >= 21, "{sessions}, {drawings}");
+}
+
+#[test]
+fn every_answer_and_every_drawing_for_the_teacher() {
+    let (sessions, drawings) = hold(TEACHER);
+    assert!(sessions >= 5 && drawings >= 1, "{sessions}, {drawings}");
+}
+
+/// Every block of a document is what comes; how many sessions and drawings there were. A session is the bench program's, on from where
+/// the last one ended, unless a number of words is named: then it is the second program's with so many.
+fn hold(document: &'static str) -> (usize, usize) {
+    let (mut words, mut bench) = (WORDS, Bench::new(WORDS));
     let (mut sessions, mut drawings) = (0, 0);
-    for block in blocks() {
+    for block in blocks(document) {
         let told = block.lines.join("\n");
         let stands = match block.kind.split_once(' ').unwrap_or((block.kind, "")) {
-            ("session", "") => {
+            ("session", lent) => {
                 sessions += 1;
+                let lent = match lent {
+                    "" => WORDS,
+                    _ => lent.parse().expect("a number of words"),
+                };
+                if lent != words {
+                    (words, bench) = (lent, Bench::new(lent));
+                }
                 talk(&mut bench, &block.lines)
             }
             (kind, of) => {
@@ -54,10 +75,10 @@ fn every_answer_and_every_drawing() {
         };
         assert_eq!(
             told, stands,
-            "\nThe guide has:\n{told}\n\nIt should have:\n{stands}\n"
+            "\nThe document has:\n{told}\n\nIt should have:\n{stands}\n"
         );
     }
-    assert!(sessions >= 20 && drawings >= 18, "{sessions}, {drawings}");
+    (sessions, drawings)
 }
 
 /// The typed lines of a block, each with what the second program answers behind it.
@@ -76,7 +97,8 @@ fn talk(bench: &mut Bench, lines: &[&str]) -> String {
 #[test]
 fn the_bench_program_answers_the_same() {
     let lines = || {
-        let sessions = blocks().into_iter().filter(|block| block.kind == "session");
+        let blocks = [GUIDE, TEACHER].into_iter().flat_map(blocks);
+        let sessions = blocks.filter(|block| block.kind == "session");
         sessions.flat_map(|block| block.lines)
     };
     let typed: String = lines()
@@ -91,31 +113,73 @@ fn the_bench_program_answers_the_same() {
     assert_eq!(came, told);
 }
 
+/// The cells of the guide's table that begins with a head.
+fn table(head: &str) -> Vec<Vec<String>> {
+    let lines = GUIDE.lines().skip_while(|line| !line.starts_with(head));
+    let rows = lines.skip(2).take_while(|line| line.starts_with('|'));
+    rows.map(|row| {
+        let cells = row.trim_matches('|').split('|');
+        cells.map(|cell| cell.trim().replace(',', "")).collect()
+    })
+    .collect()
+}
+
+fn number(text: &str) -> u32 {
+    text.parse().unwrap_or_else(|_| panic!("a number: {text}"))
+}
+
+fn class_of(size: u32) -> u32 {
+    match need(size) {
+        Need::Chunk { class } => class,
+        Need::Pages { .. } => panic!("{size} bytes take no chunk"),
+    }
+}
+
 #[test]
-fn the_table_of_sizes() {
-    let rows: Vec<Vec<u32>> = GUIDE
-        .lines()
-        .skip_while(|line| !line.starts_with("| bytes asked for |"))
-        .skip(2)
-        .take_while(|line| line.starts_with('|'))
-        .map(|line| {
-            let fields = line.trim_matches('|').split('|');
-            let numbers = fields.map(|field| field.trim().replace(',', ""));
-            numbers
-                .map(|number| number.parse().expect("a number"))
-                .collect()
-        })
-        .collect();
+fn the_table_of_examples_of_sizes() {
+    let rows = table("| bytes asked for |");
     assert!(rows.len() >= 5);
     for row in rows {
-        let class = match need(row[0]) {
-            Need::Chunk { class } => class,
-            Need::Pages { .. } => panic!("{} bytes take no chunk", row[0]),
-        };
+        let row: Vec<u32> = row.iter().map(|cell| number(cell)).collect();
+        let class = class_of(row[0]);
         let (chunk, chunks) = (chunk_size(class), chunk_count(class));
         let left = ZONE_PAGES * PAGE_BYTES - chunk * chunks;
         assert_eq!(row, [row[0], chunk, class, chunks, left]);
     }
+}
+
+/// Each row of document 01's table, tried with every size of it: `256–511 | 32 | c/32 + 15`.
+#[test]
+fn the_table_of_sizes() {
+    let rows = table("| size | step |");
+    assert_eq!(rows.len(), 7);
+    let mut next = 1;
+    for row in rows {
+        let (first, last) = row[0].split_once('–').expect("two sizes");
+        let (first, last, step) = (number(first), number(last), number(&row[1]));
+        assert_eq!(first, next, "sizes are left out");
+        let mut formula = row[2].split([' ', '/']);
+        assert_eq!(
+            (formula.next(), formula.next()),
+            (Some("c"), Some(row[1].as_str()))
+        );
+        let added = match (formula.next(), formula.next()) {
+            (Some("+"), Some(added)) => i64::from(number(added)),
+            (Some("−"), Some(taken)) => -i64::from(number(taken)),
+            other => panic!("a formula: {other:?}"),
+        };
+        for size in first..=last {
+            let rounded = (size + step - 1) / step * step;
+            let class = i64::from(rounded / step) + added;
+            assert_eq!(
+                (i64::from(class_of(size)), chunk_size(class_of(size))),
+                (class, rounded),
+                "{size}"
+            );
+        }
+        next = last + 1;
+    }
+    assert_eq!(next, 8_192);
 }
 
 /// Three columns for each page. What is longer than a page stands in brackets.

@@ -7,7 +7,7 @@ use std::path::{Path, PathBuf};
 
 /// Words in backticks that are no names of the tree: of the bench program's lines and answers, of C and Rattle, of the kit and of shells;
 /// files that are built; and the signs of the cases.
-pub const FOREIGN: [&str; 27] = [
+pub const FOREIGN: [&str; 28] = [
     "?",
     ">",
     ".out",
@@ -35,6 +35,7 @@ pub const FOREIGN: [&str; 27] = [
     "N*4096",
     "N*4096-1",
     "N-2",
+    "--words",
 ];
 
 /// Files in which a name is said to be, from the root.
