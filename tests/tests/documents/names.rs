@@ -7,7 +7,7 @@ use std::path::{Path, PathBuf};
 
 /// Words in backticks that are no names of the tree: of the bench program's lines and answers, of C and Rattle, of the kit and of shells;
 /// files that are built; and the signs of the cases.
-pub const FOREIGN: [&str; 28] = [
+pub const FOREIGN: [&str; 32] = [
     "?",
     ">",
     ".out",
@@ -36,6 +36,10 @@ pub const FOREIGN: [&str; 28] = [
     "N*4096-1",
     "N-2",
     "--words",
+    "--help",
+    "#if",
+    "cargo",
+    "bin/rt",
 ];
 
 /// Files in which a name is said to be, from the root.
@@ -124,10 +128,13 @@ impl Names {
         }
     }
 
-    /// A file or a folder: from the root, beside the document, in crates/ or in some crate.
+    /// A file or a folder: from the root, beside the document, in crates/ or in some crate; or one that is built.
     pub fn is_path(&self, word: &str, document: &str) -> bool {
         if !word.contains(['/', '.']) && !self.files.contains(word) {
             return false;
+        }
+        if word.starts_with("target/") {
+            return true;
         }
         let word = word.trim_start_matches("./").trim_end_matches('/');
         let folder = Path::new(document).parent().expect("a document's folder");
