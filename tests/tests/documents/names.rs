@@ -7,7 +7,7 @@ use std::path::{Path, PathBuf};
 
 /// Words in backticks that are no names of the tree: of the bench program's lines and answers, of C and Rattle, of the kit and of shells;
 /// files that are built; and the signs of the cases.
-pub const FOREIGN: [&str; 32] = [
+pub const FOREIGN: [&str; 33] = [
     "?",
     ">",
     ".out",
@@ -24,6 +24,7 @@ pub const FOREIGN: [&str; 32] = [
     "sum=",
     "rattle-kit-5b",
     "memset",
+    "search",
     "N",
     "logic-built",
     "logic-built=trusted",
