@@ -5,3 +5,4 @@ pub mod States
 pub mod Here
 pub mod Fitting
 pub mod Checked
+pub mod Fresh

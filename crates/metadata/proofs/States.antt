@@ -197,6 +197,11 @@ encoding-read w r = (λ i. headerEncoding (r .segments .covers i) (spareIn (head
 front-long : (w : List ℕ) (a k : ℕ) → a + k ≤ length w → length (take a w) ≡ a
 front-long w a k h = length-take-le a w (omega arith)
 
+-- It has the pages that the header names.
+pub state-pages : (w : List ℕ) → isState w ≡ true → total (decode w .segments) ≡ pagesIn (headerPart w)
+unfolding decode
+state-pages w t = state-read w t .segments .covers
+
 pub state-begins : (w : List ℕ) → isState w ≡ true → BeginsWith w (decode w)
 state-begins w t =
     let r = state-read w t in

@@ -1,17 +1,20 @@
 // The metadata words as a whole: whether they begin with the words of a valid state (`state-iff`). Any words may be lent.
 ghost use mathlib.Core.Path.{_≡_};
 ghost use mathlib.Core.Bool.{true, cond};
-ghost use Prim.Native.Nat.{ℕ, _+_, _<_};
+ghost use Prim.Native.Nat.{ℕ, _+_, _≤_, _<_};
 ghost use lib.ListN.{length};
-ghost use Rattle.model.specs.Arena.{Segment};
+ghost use Rattle.model.specs.Arena.{Segment, total};
 ghost use Rattle.model.specs.Zone.{Zone, full};
+ghost use Rattle.model.specs.State.{freshState};
+ghost use Rattle.model.specs.Perform.{wordsFor};
 ghost use Rattle.zone.specs.Decoding.{isZone, zoneOf};
 ghost use Rattle.pages.specs.Decoding.{segmentsOf, Holds};
 ghost use Rattle.pages.specs.Places.{Stands};
 ghost use Rattle.header.specs.Keys.{keysOf};
 ghost use Rattle.header.specs.Encoding.{spareIn, listsIn, Header};
 ghost use Rattle.metadata.specs.Lists.{zoneFits, segmentFits, isOpen, fitFrom};
-ghost use Rattle.metadata.specs.Decoding.{isState};
+ghost use Rattle.metadata.specs.Encoding.{encode};
+ghost use Rattle.metadata.specs.Decoding.{decode, isState};
 ghost use Rattle.model.specs.Numbers.{mostPages};
 use model::numbers::HEADER_WORDS;
 use model::numbers::PAGE_WORDS;
@@ -86,6 +89,14 @@ fn lists_fit(head: &[u32], words: &[u32], n: usize) -> bool
     open == entries
 }
 
+// The words of an arena of n pages.
+pub fn words_for(n: usize) -> usize
+    requires { ⌜ n ≤ mostPages ⌝ }
+    ensures { λ r. ⌜ r ≡ wordsFor n ⌝ }
+{
+    HEADER_WORDS + PAGE_WORDS * n
+}
+
 // Whether the words begin with the encoding of a valid state.
 pub fn check(words: &[u32]) -> bool
     ensures { λ r. ⌜ r ≡ isState (now (words .entry)) ⌝ }
@@ -97,7 +108,7 @@ pub fn check(words: &[u32]) -> bool
         return false;
     }
     let n = header::pages(&words[..HEADER_WORDS]) as usize;
-    let e = HEADER_WORDS + PAGE_WORDS * n;
+    let e = words_for(n);
     if words.len() < e {
         return false;
     }
@@ -105,4 +116,21 @@ pub fn check(words: &[u32]) -> bool
         return false;
     }
     lists_fit(&words[..HEADER_WORDS], &words[HEADER_WORDS..e], n)
+}
+
+// The pages of the arena with whose words the words begin.
+pub fn pages(words: &[u32]) -> usize
+    requires { ⌜ isState (now words) ≡ true ⌝ }
+    ensures { λ r. ⌜ r ≡ total (decode (now (words .entry)) .segments) ⌝ }
+{
+    header::pages(&words[..HEADER_WORDS]) as usize
+}
+
+// Sets the words up for an arena of so many pages, all free, whatever they held.
+pub fn set_up(words: &mut [u32], pages: u32)
+    requires { ⌜ (length (now words) ≡ wordsFor pages) × (0 < pages) × (pages ≤ mostPages) ⌝ }
+    ensures { λ _. ⌜ now (words .exit) ≡ encode (freshState pages) ⌝ }
+{
+    header::set_up(&mut words[..HEADER_WORDS], pages);
+    pages::cut::set_up(&mut words[HEADER_WORDS..], pages as usize);
 }
