@@ -32,7 +32,10 @@ body-all : (a : ℕ) (w : List ℕ) → mid a (length w - a) w ≡ drop a w
 body-all a w = take-all (length w - a) (drop a w) (omega (arith, length-drop a w))
 
 put-all : (a : ℕ) (w v : List ℕ) → putMid a (length w - a) w v ≡ take a w ++ v
-put-all a w v = ap (λ l. take a w ++ (v ++ l)) (ap (λ k. drop k (drop a w)) (let e : length w - a ≡ length (drop a w) = omega (arith, length-drop a w) in e) ∙ drop-length (drop a w)) ∙ ap (λ l. take a w ++ l) (append-nil v)
+put-all a w v = ap (λ l. take a w ++ (v ++ l)) none ∙ ap (λ l. take a w ++ l) (append-nil v)
+  where
+    none : drop (length w - a) (drop a w) ≡ []
+    none = let e : length w - a ≡ length (drop a w) = omega (arith, length-drop a w) in ap (λ k. drop k (drop a w)) e ∙ drop-length (drop a w)
 
 front-long : (a : ℕ) (w : List ℕ) → a ≤ length w → a ≡ length (take a w)
 front-long a w h = sym (length-take-le a w h)
@@ -57,7 +60,8 @@ module _ {w : List ℕ} (h : Lent w) where
   pub of-body {ℓ} : (P : List (Segment Zone) → Type ℓ) → P (segmentsOf (bodyIn w)) → P (decode w .segments)
   of-body P k = subst P segments-body k
 
-  pub body-back : (v : List ℕ) (f : List (Segment Zone) → List (Segment Zone)) → total (f (decode w .segments)) ≡ total (decode w .segments) → v ≡ segmentsEncoding (f (segmentsOf (bodyIn w))) → putMid headerWords (length w - headerWords) w v ≡ encode (arranged (decode w) (f (decode w .segments)) (decode w .lists) (decode w .spare))
+  pub body-back : (v : List ℕ) (f : List (Segment Zone) → List (Segment Zone)) → total (f (decode w .segments)) ≡ total (decode w .segments) →
+      v ≡ segmentsEncoding (f (segmentsOf (bodyIn w))) → putMid headerWords (length w - headerWords) w v ≡ encode (arranged (decode w) (f (decode w .segments)) (decode w .lists) (decode w .spare))
   body-back v f e k = put-all headerWords w v ∙ body-put h v (f (decode w .segments)) e (k ∙ ap (λ m. segmentsEncoding (f m)) segments-body)
 
   -- Every segment has pages.
@@ -77,5 +81,8 @@ module _ {m : List (Segment Zone)} {p b : ℕ} {x : Segment Zone} (s : Stands m 
   pub release-total : total (release (p * 4096) m) ≡ total m
   release-total = total-joined (λ _. false) 0 (edit (p * 4096) freePages m) ∙ omega (arith, total-edit (p * 4096) freePages m (record { away = 0; segment = x }) stands-begins (omega arith))
 
-pub carve-total : {m : List (Segment Zone)} {p b len : ℕ} (s : Stands m p b (run len)) (need : ℕ) (x : Segment Zone) → pages x ≡ need → 0 < need → need ≤ len → total (carve (record { page = p; size = len }) need x m) ≡ total m
-carve-total {m} {p} {b} {len} s need x e pos h = total-edit (p * 4096) (λ _. x ∷ withRun (len - need) []) m (record { away = 0; segment = run len }) (stands-begins s (omega arith)) (omega (arith, total-withRun {Z = Zone} (len - need) []))
+pub carve-total : {m : List (Segment Zone)} {p b len : ℕ} (s : Stands m p b (run len)) (need : ℕ) (x : Segment Zone) → pages x ≡ need → 0 < need → need ≤ len →
+    total (carve (record { page = p; size = len }) need x m) ≡ total m
+carve-total {m} {p} {b} {len} s need x e pos h =
+    total-edit (p * 4096) (λ _. x ∷ withRun (len - need) []) m (record { away = 0; segment = run len }) (stands-begins s (omega arith))
+    (omega (arith, total-withRun {Z = Zone} (len - need) []))

@@ -4,7 +4,7 @@ use mathlib.Core.Path.{_≡_, sym, ap, _∙_, subst}
 use mathlib.Core.List.{List, [], _∷_}
 use native.Mathlib.Omega.{arith}
 use lib.ListN.{length, set}
-use Rattle.model.specs.Numbers.{classCount, mostPages}
+use Rattle.model.specs.Numbers.{classCount}
 use Rattle.model.specs.Arena.{Segment, zone, pages, total}
 use Rattle.model.specs.Zone.{Zone}
 use Rattle.model.specs.State.{State, listOf, arranged, ZoneAt, zoneIn, zoneAt, putZone}
@@ -13,7 +13,7 @@ use Rattle.model.proofs.Arena.{each-edit}
 use Rattle.model.proofs.Moves.{put-size, put-new}
 use Rattle.header.specs.Keys.{keysOf}
 use Rattle.header.specs.Encoding.{Fits, listSlots}
-use Rattle.header.proofs.Kept.{fits-push, fits-remove, length-keys-set}
+use Rattle.header.proofs.Kept.{fits-remove, length-keys-set}
 use Rattle.pages.specs.Encoding.{Writable}
 use Rattle.pages.specs.Places.{Stands}
 use Rattle.pages.proofs.Middle.{edit-stands}
@@ -21,7 +21,7 @@ use Rattle.metadata.specs.Encoding.{encode}
 use Rattle.metadata.specs.Decoding.{decode}
 use Rattle.metadata.proofs.States.{valid-fits}
 use Rattle.steps.specs.Lent.{Encodes, Good}
-use Rattle.steps.specs.Moves.{fronted, unlisted, rezoned}
+use Rattle.steps.specs.Moves.{unlisted, rezoned}
 use Rattle.steps.proofs.Lent.{lent, lent-long, lent-decoded, valid-lent}
 
 -- Words of a valid state.
@@ -44,9 +44,6 @@ module _ {w : List ℕ} {s : State} (h : Encodes w s) (v : List ℕ) where
     fits = subst (λ n. Fits n (s .spare) (s .lists)) (sym (put-size (s .segments) p z z′ b)) (h .fits);
     sound = each-edit Writable (p * 4096) (λ _. zone z′ ∷ []) (λ _ _. ((omega arith, k), tt)) (s .segments) (h .sound);
   }
-
-  pub kept-front : (c p : ℕ) → c < classCount → p < mostPages → length (keysOf (s .lists)) < listSlots → v ≡ encode (fronted c p s) → Encodes v (fronted c p s)
-  kept-front c p a b k e = record { words = e; fits = fits-push (h .fits) c p a b k; sound = h .sound }
 
   pub kept-without : (c p : ℕ) → c < classCount → v ≡ encode (unlisted c p s) → Encodes v (unlisted c p s)
   kept-without c p a e = record { words = e; fits = fits-remove (h .fits) c p a; sound = h .sound }

@@ -14,6 +14,7 @@ use Rattle.model.specs.Arena.{Segment, zone, total, Each}
 use Rattle.model.specs.Zone.{Zone}
 use Rattle.model.specs.State.{State, arranged, ZoneAt, putZone}
 use Rattle.model.specs.Valid.{ValidZone, Valid}
+use Rattle.model.specs.Perform.{wordsFor}
 use Rattle.model.proofs.Arena.{total-append, Split, split}
 use Rattle.header.specs.Encoding as header
 use Rattle.header.specs.Encoding.{headerEncoding, pagesIn, Header}
@@ -50,19 +51,19 @@ module _ {w : List ℕ} {s : State} (h : Encodes w s) where
   G-long : length G ≡ pageWords * total (s .segments)
   G-long = length-segments (s .segments) (h .sound)
 
-  pub lent-long : length w ≡ headerWords + pageWords * total (s .segments)
+  pub lent-long : length w ≡ wordsFor (total (s .segments))
   lent-long = ap length two ∙ length-append H G ∙ (λ i. H-long i + G-long i)
 
   header-is : take headerWords w ≡ H
   header-is = ap (take headerWords) two ∙ take-at H G headerWords H-long
 
-  pub header-encodes : header.Encodes (take headerWords w) (total (s .segments)) (s .spare) (s .lists)
+  header-encodes : header.Encodes (take headerWords w) (total (s .segments)) (s .spare) (s .lists)
   header-encodes = record { words = header-is; fits = h .fits }
 
   pub header-lent : Header (take headerWords w)
   header-lent = encodes-header header-encodes
 
-  pub pages-lent : pagesIn (take headerWords w) ≡ total (s .segments)
+  pages-lent : pagesIn (take headerWords w) ≡ total (s .segments)
   pages-lent = pages-read header-encodes
 
   body-is : drop headerWords w ≡ G
@@ -72,7 +73,12 @@ module _ {w : List ℕ} {s : State} (h : Encodes w s) where
   segments-lent = ap segmentsOf body-is ∙ segments-decoded (s .segments) (h .sound)
 
   pub body-lent : (n : ℕ) → n ≡ total (s .segments) → Holds (drop headerWords w) n
-  body-lent n e = record { words = body-is ∙ ap segmentsEncoding (sym segments-lent); sound = subst (λ m. Each Writable m) (sym segments-lent) (h .sound); covers = ap (λ m. total m) segments-lent ∙ sym e; most = omega (arith, h .fits .most) }
+  body-lent n e = record {
+    words = body-is ∙ ap segmentsEncoding (sym segments-lent);
+    sound = subst (λ m. Each Writable m) (sym segments-lent) (h .sound);
+    covers = ap (λ m. total m) segments-lent ∙ sym e;
+    most = omega (arith, h .fits .most);
+  }
 
   part-all : pagesPart w ≡ drop headerWords w
   part-all = ap (λ k. take (pageWords * k) (drop headerWords w)) pages-lent ∙ take-all (pageWords * total (s .segments)) (drop headerWords w) (omega (arith, ap length body-is, G-long))
@@ -82,7 +88,8 @@ module _ {w : List ℕ} {s : State} (h : Encodes w s) where
   lent-decoded = λ i. record { segments = (ap segmentsOf part-all ∙ segments-lent) i; lists = lists-read header-encodes i; spare = spare-read header-encodes i }
 
   -- The header has come back.
-  pub header-put : (v : List ℕ) (n : ℕ) (spare : List ℕ) (lists : List (List ℕ)) → n ≡ pagesIn (take headerWords w) → v ≡ headerEncoding n spare lists → v ++ drop headerWords w ≡ encode (arranged s (s .segments) lists spare)
+  pub header-put : (v : List ℕ) (n : ℕ) (spare : List ℕ) (lists : List (List ℕ)) → n ≡ pagesIn (take headerWords w) → v ≡ headerEncoding n spare lists →
+      v ++ drop headerWords w ≡ encode (arranged s (s .segments) lists spare)
   unfolding encode
   header-put v n spare lists e f = (λ i. f i ++ body-is i) ∙ ap (λ k. headerEncoding k spare lists ++ G) (e ∙ pages-lent)
 
@@ -108,8 +115,11 @@ module _ {w : List ℕ} {s : State} (h : Encodes w s) where
     abbrev front : List ℕ
     front = H ++ segmentsEncoding (there .before)
 
-    front-long : length front ≡ headerWords + pageWords * p
-    front-long = length-append H (segmentsEncoding (there .before)) ∙ (λ i. H-long i + length-segments (there .before) (each-left (there .before) (zone z ∷ there .behind) sound-all) i) ∙ ap (λ k. headerWords + pageWords * k) starts
+    front-long : length front ≡ wordsFor p
+    front-long =
+        length-append H (segmentsEncoding (there .before))
+        ∙ (λ i. H-long i + length-segments (there .before) (each-left (there .before) (zone z ∷ there .behind) sound-all) i)
+        ∙ ap (λ k. wordsFor k) starts
 
     abbrev rest : List ℕ
     rest = segmentsEncoding (there .behind)
@@ -121,10 +131,10 @@ module _ {w : List ℕ} {s : State} (h : Encodes w s) where
     three : w ≡ front ++ (zoneEncoding z ++ rest)
     three = two ∙ ap (λ m. H ++ segmentsEncoding m) (there .whole) ∙ apart z
 
-    pub zone-inside : (p + zonePages ≤ total (s .segments)) × (total (s .segments) ≤ mostPages) × (length w ≡ headerWords + pageWords * total (s .segments))
+    pub zone-inside : (p + zonePages ≤ total (s .segments)) × (total (s .segments) ≤ mostPages) × (length w ≡ wordsFor (total (s .segments)))
     zone-inside = (omega (arith, starts, ap (λ l. total l) (there .whole), total-append (there .before) (zone z ∷ there .behind)), h .fits .most, lent-long)
 
-    module _ (a k : ℕ) (at : a ≡ headerWords + pageWords * p) (size : k ≡ zoneWords) where
+    module _ (a k : ℕ) (at : a ≡ wordsFor p) (size : k ≡ zoneWords) where
       part-is : mid a k w ≡ zoneEncoding z
       part-is = ap (mid a k) three ∙ mid-at front (zoneEncoding z) rest a k (front-long ∙ sym at) (length-encoding z ∙ sym size)
 
@@ -144,7 +154,13 @@ module _ {w : List ℕ} {s : State} (h : Encodes w s) where
           ∙ (λ i. headerEncoding (same i) (s .spare) (s .lists) ++ segmentsEncoding (sym (there .edits (λ _. zone z′ ∷ [])) i))
         where
           same : total (s .segments) ≡ total (putZone p z′ (s .segments))
-          same = omega (arith, ap (λ l. total l) (there .whole), ap (λ l. total l) (there .edits (λ _. zone z′ ∷ [])), total-append (there .before) (zone z ∷ there .behind), total-append (there .before) (zone z′ ∷ there .behind))
+          same = omega (
+            arith,
+            ap (λ l. total l) (there .whole),
+            ap (λ l. total l) (there .edits (λ _. zone z′ ∷ [])),
+            total-append (there .before) (zone z ∷ there .behind),
+            total-append (there .before) (zone z′ ∷ there .behind),
+          )
 
 -- A valid state's words.
 pub valid-lent : (w : List ℕ) (s : State) → Valid s → w ≡ encode s → Encodes w s

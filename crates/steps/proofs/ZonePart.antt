@@ -1,14 +1,15 @@
 -- One zone's words, as the code lends them on from word a. Assumes nothing.
-use Prim.Native.Nat.{ℕ, _+_, _-_, _*_, _≤_}
+use Prim.Native.Nat.{ℕ, _+_, _-_, _≤_}
 use mathlib.Core.Path.{_≡_, ap, _∙_}
 use mathlib.Core.Bool.{true}
 use mathlib.Core.List.{List}
 use native.Mathlib.Omega.{arith}
 use lib.ListN.{length}
 use Rattle.lemmas.specs.Parts.{mid, putMid}
-use Rattle.model.specs.Numbers.{mostPages, headerWords, pageWords}
+use Rattle.model.specs.Numbers.{mostPages}
 use Rattle.model.specs.Zone.{Zone}
 use Rattle.model.specs.State.{zoneAt}
+use Rattle.model.specs.Perform.{wordsFor}
 use Rattle.zone.specs.Encoding.{zoneWords, zoneEncoding}
 use Rattle.zone.specs.Decoding.{isZone, zoneOf}
 use Rattle.metadata.specs.Encoding.{encode}
@@ -21,8 +22,8 @@ module _ {w : List ℕ} (h : Lent w) (p : ℕ) (b : ZoneHere (decode w) p) where
   pub part-page : p ≤ mostPages
   part-page = let r = zone-inside h p (zoneAt p (decode w .segments)) b in omega arith
 
-  module _ (a : ℕ) (at : a ≡ headerWords + pageWords * p) where
-    pub part-end : (a + zoneWords ≤ length w) × (length w ≤ 134144)
+  module _ (a : ℕ) (at : a ≡ wordsFor p) where
+    pub part-end : (a + zoneWords ≤ length w) × (length w ≤ wordsFor mostPages)
     part-end = let r = zone-inside h p (zoneAt p (decode w .segments)) b in (omega arith, omega arith)
 
     size : a + zoneWords - a ≡ zoneWords
@@ -35,5 +36,7 @@ module _ {w : List ℕ} (h : Lent w) (p : ℕ) (b : ZoneHere (decode w) p) where
     part-is = zone-read h p (zoneAt p (decode w .segments)) b a (a + zoneWords - a) at size
 
     -- Such words come back as those of f of the zone.
-    pub part-put : (f : Zone → Zone) (v : List ℕ) → v ≡ zoneEncoding (f (zoneOf (mid a (a + zoneWords - a) w))) → putMid a (a + zoneWords - a) w v ≡ encode (rezoned p (f (zoneAt p (decode w .segments))) (decode w))
-    part-put f v e = zone-put h p (zoneAt p (decode w .segments)) b a (a + zoneWords - a) at size v (f (zoneAt p (decode w .segments))) (e ∙ ap (λ z. zoneEncoding (f z)) part-is)
+    pub part-put : (f : Zone → Zone) (v : List ℕ) → v ≡ zoneEncoding (f (zoneOf (mid a (a + zoneWords - a) w))) →
+        putMid a (a + zoneWords - a) w v ≡ encode (rezoned p (f (zoneAt p (decode w .segments))) (decode w))
+    part-put f v e =
+        zone-put h p (zoneAt p (decode w .segments)) b a (a + zoneWords - a) at size v (f (zoneAt p (decode w .segments))) (e ∙ ap (λ z. zoneEncoding (f z)) part-is)

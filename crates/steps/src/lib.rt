@@ -3,27 +3,48 @@
 ghost use mathlib.Core.Path.{_≡_};
 ghost use mathlib.Core.Bool.{true, false};
 ghost use mathlib.Core.List.{[], _∷_};
-ghost use Prim.Native.Nat.{ℕ, _+_, _*_, _≤_, _<_};
+ghost use Prim.Native.Nat.{ℕ, _≤_, _<_};
 ghost use lib.ListN.{length, getD, drop};
 ghost use Rattle.model.specs.Arena.{Segment, run, direct, zone, pages, total};
 ghost use Rattle.model.specs.Zone.{Zone, touched, full, newZone, nextChunk, granted, putBack};
-ghost use Rattle.model.specs.State.{State, zoneAt};
+ghost use Rattle.model.specs.Pages.{claim};
+ghost use Rattle.model.specs.State.{State, listOf, zoneAt};
 ghost use Rattle.model.specs.PageMap.{idleZone};
 ghost use Rattle.model.specs.Valid.{Apart};
 ghost use Rattle.header.specs.Keys.{keysOf};
 ghost use Rattle.header.specs.Encoding.{spareSlots, listSlots};
+ghost use Rattle.header.specs.Front.{frontOf};
+ghost use Rattle.zone.specs.Decoding.{isZone, zoneOf};
 ghost use Rattle.pages.specs.Encoding.{kindOf};
-ghost use Rattle.pages.specs.Places.{runPages, Stands};
+ghost use Rattle.pages.specs.Places.{found, runPages, Stands, spotFrom};
 ghost use Rattle.metadata.specs.Encoding.{encode};
 ghost use Rattle.metadata.specs.Decoding.{decode};
 ghost use Rattle.steps.specs.Lent.{Lent, ZoneHere};
 ghost use Rattle.steps.specs.Moves.{fronted, unlisted, spared, rezoned, carved, released};
-ghost use Rattle.model.specs.Numbers.{zonePages, mostGroup, classCount, mostPages, headerWords, pageWords};
+ghost use Rattle.model.specs.Numbers.{zonePages, mostGroup, classCount, mostPages};
+use header::Front;
 use model::numbers::HEADER_WORDS;
-use model::numbers::PAGE_WORDS;
+use pages::Found;
+use pages::Spot;
 use zone::layout::WORDS as ZONE_WORDS;
 
 // ---- the lists
+
+// The front of the class's list.
+pub fn list_first(words: &[u32], class: u32) -> Front
+    requires { ⌜ Lent (now words) × (class < classCount) ⌝ }
+    ensures { λ r. ⌜ r ≡ frontOf (listOf (decode (now (words .entry))) class) ⌝ }
+{
+    header::first(&words[..HEADER_WORDS], class)
+}
+
+// How many zones the class's list has.
+pub fn list_count(words: &[u32], class: u32) -> u32
+    requires { ⌜ Lent (now words) × (class < classCount) ⌝ }
+    ensures { λ r. ⌜ r ≡ length (listOf (decode (now (words .entry))) class) ⌝ }
+{
+    header::count(&words[..HEADER_WORDS], class)
+}
 
 // The page goes to the front of the class's list, which has room for one more.
 pub fn list_front(words: &mut [u32], class: u32, page: u32)
@@ -41,6 +62,22 @@ pub fn list_without(words: &mut [u32], class: u32, page: u32)
     ensures { λ _. ⌜ now (words .exit) ≡ encode (unlisted class page (decode (now (words .entry)))) ⌝ }
 {
     header::remove(&mut words[..HEADER_WORDS], class, page);
+}
+
+// The front of the empty list.
+pub fn spare_first(words: &[u32]) -> Front
+    requires { ⌜ Lent (now words) ⌝ }
+    ensures { λ r. ⌜ r ≡ frontOf (decode (now (words .entry)) .spare) ⌝ }
+{
+    header::spare_first(&words[..HEADER_WORDS])
+}
+
+// How many zones the empty list has.
+pub fn spare_count(words: &[u32]) -> u32
+    requires { ⌜ Lent (now words) ⌝ }
+    ensures { λ r. ⌜ r ≡ length (decode (now (words .entry)) .spare) ⌝ }
+{
+    header::spare_count(&words[..HEADER_WORDS])
 }
 
 // The page goes to the front of the empty list, which has room for one more.
@@ -70,12 +107,14 @@ pub fn spare_none(words: &mut [u32])
 
 // ---- one zone
 
-// The words from which a zone that begins at the page has its own.
-fn zone_start(page: usize) -> usize
-    requires { ⌜ page ≤ mostPages ⌝ }
-    ensures { λ r. ⌜ r ≡ headerWords + pageWords * page ⌝ }
+// The words of the zone that begins at the page.
+fn zone_part(words: &[u32], page: usize) -> &[u32]
+    requires { ⌜ Lent (now words) × ZoneHere (decode (now words)) page ⌝ }
+    ensures { λ r. ⌜ (isZone (now r) ≡ true) × (zoneOf (now r) ≡ zoneAt page (decode (now (words .entry)) .segments)) ⌝ }
 {
-    HEADER_WORDS + PAGE_WORDS * page
+    let a = metadata::words_for(page);
+    let e = a + ZONE_WORDS;
+    &words[a..e]
 }
 
 // The zone's class.
@@ -83,9 +122,7 @@ pub fn zone_class(words: &[u32], page: usize) -> u32
     requires { ⌜ Lent (now words) × ZoneHere (decode (now words)) page ⌝ }
     ensures { λ r. ⌜ r ≡ zoneAt page (decode (now (words .entry)) .segments) .class ⌝ }
 {
-    let a = zone_start(page);
-    let e = a + ZONE_WORDS;
-    zone::class_of(&words[a..e])
+    zone::class_of(zone_part(words, page))
 }
 
 // The chunks that it has handed out since set-up.
@@ -93,9 +130,7 @@ pub fn zone_touched(words: &[u32], page: usize) -> u32
     requires { ⌜ Lent (now words) × ZoneHere (decode (now words)) page ⌝ }
     ensures { λ r. ⌜ r ≡ touched (zoneAt page (decode (now (words .entry)) .segments)) ⌝ }
 {
-    let a = zone_start(page);
-    let e = a + ZONE_WORDS;
-    zone::touched(&words[a..e])
+    zone::touched(zone_part(words, page))
 }
 
 // A chunk's group, 0 where it is not live.
@@ -103,9 +138,7 @@ pub fn zone_owner(words: &[u32], page: usize, chunk: u32) -> u32
     requires { ⌜ Lent (now words) × ZoneHere (decode (now words)) page ⌝ }
     ensures { λ r. ⌜ r ≡ getD (zoneAt page (decode (now (words .entry)) .segments) .owners) chunk 0 ⌝ }
 {
-    let a = zone_start(page);
-    let e = a + ZONE_WORDS;
-    zone::owner(&words[a..e], chunk)
+    zone::owner(zone_part(words, page), chunk)
 }
 
 // Whether no chunk is live.
@@ -113,9 +146,7 @@ pub fn zone_idle(words: &[u32], page: usize) -> bool
     requires { ⌜ Lent (now words) × ZoneHere (decode (now words)) page ⌝ }
     ensures { λ r. ⌜ r ≡ idleZone (zoneAt page (decode (now (words .entry)) .segments)) ⌝ }
 {
-    let a = zone_start(page);
-    let e = a + ZONE_WORDS;
-    zone::is_idle(&words[a..e])
+    zone::is_idle(zone_part(words, page))
 }
 
 // Whether every chunk is live.
@@ -123,9 +154,7 @@ pub fn zone_full(words: &[u32], page: usize) -> bool
     requires { ⌜ Lent (now words) × ZoneHere (decode (now words)) page ⌝ }
     ensures { λ r. ⌜ r ≡ full (zoneAt page (decode (now (words .entry)) .segments)) ⌝ }
 {
-    let a = zone_start(page);
-    let e = a + ZONE_WORDS;
-    zone::is_full(&words[a..e])
+    zone::is_full(zone_part(words, page))
 }
 
 // It grants a chunk to the group.
@@ -133,7 +162,7 @@ pub fn zone_grant(words: &mut [u32], page: usize, group: u32) -> u32
     requires { ⌜ Lent (now words) × ZoneHere (decode (now words)) page × (full (zoneAt page (decode (now words) .segments)) ≡ false) × (0 < group) × (group ≤ mostGroup) ⌝ }
     ensures { λ r. ⌜ (r ≡ nextChunk (zoneAt page (decode (now (words .entry)) .segments))) × (now (words .exit) ≡ encode (rezoned page (granted group (zoneAt page (decode (now (words .entry)) .segments))) (decode (now (words .entry))))) ⌝ }
 {
-    let a = zone_start(page);
+    let a = metadata::words_for(page);
     let e = a + ZONE_WORDS;
     zone::grant(&mut words[a..e], group)
 }
@@ -143,7 +172,7 @@ pub fn zone_put_back(words: &mut [u32], page: usize, chunk: u32)
     requires { ⌜ Lent (now words) × ZoneHere (decode (now words)) page × (0 < getD (zoneAt page (decode (now words) .segments) .owners) chunk 0) ⌝ }
     ensures { λ _. ⌜ now (words .exit) ≡ encode (rezoned page (putBack chunk (zoneAt page (decode (now (words .entry)) .segments))) (decode (now (words .entry)))) ⌝ }
 {
-    let a = zone_start(page);
+    let a = metadata::words_for(page);
     let e = a + ZONE_WORDS;
     zone::put_back(&mut words[a..e], chunk);
 }
@@ -153,7 +182,7 @@ pub fn zone_renew(words: &mut [u32], page: usize, class: u32, group: u32)
     requires { ⌜ Lent (now words) × ZoneHere (decode (now words)) page × (0 < group) ⌝ }
     ensures { λ _. ⌜ now (words .exit) ≡ encode (rezoned page (newZone class group) (decode (now (words .entry)))) ⌝ }
 {
-    let a = zone_start(page);
+    let a = metadata::words_for(page);
     let e = a + ZONE_WORDS;
     zone::set_up(&mut words[a..e], class, group);
 }
@@ -166,7 +195,7 @@ pub fn kind_at(words: &[u32], p: usize) -> u32
     requires { ⌜ ((b : ℕ) × (x : Segment Zone) × Stands (decode (now words) .segments) p b x) ⌝ }
     ensures { λ r. ⌜ ((b : ℕ) (x : Segment Zone) → Stands (decode (now (words .entry)) .segments) p b x → r ≡ kindOf x) ⌝ }
 {
-    let at = HEADER_WORDS + PAGE_WORDS * p;
+    let at = metadata::words_for(p);
     words[at]
 }
 
@@ -179,6 +208,15 @@ pub fn size_at(words: &[u32], n: usize, p: usize) -> usize
     pages::find::size(&words[HEADER_WORDS..], n, p)
 }
 
+// Its pages if it is a run, else 0.
+pub fn run_at(words: &[u32], n: usize, p: usize) -> usize
+    requires { ⌜ Lent (now words) × (n ≡ total (decode (now words) .segments)) ⌝ }
+    requires { ⌜ ((b : ℕ) × (x : Segment Zone) × Stands (decode (now words) .segments) p b x) ⌝ }
+    ensures { λ r. ⌜ ((b : ℕ) (x : Segment Zone) → Stands (decode (now (words .entry)) .segments) p b x → r ≡ runPages x) ⌝ }
+{
+    pages::find::run_len(kind_at(words, p), size_at(words, n, p))
+}
+
 // The group of the direct block that begins at page p.
 pub fn group_at(words: &[u32], n: usize, p: usize) -> u32
     requires { ⌜ Lent (now words) × (n ≡ total (decode (now words) .segments)) ⌝ }
@@ -186,6 +224,22 @@ pub fn group_at(words: &[u32], n: usize, p: usize) -> u32
     ensures { λ r. ⌜ ((b k g : ℕ) → Stands (decode (now (words .entry)) .segments) p b (direct k g) → r ≡ g) ⌝ }
 {
     pages::find::group(&words[HEADER_WORDS..], n, p)
+}
+
+// The segment that holds the page.
+pub fn find_segment(words: &[u32], n: usize, page: usize) -> Spot
+    requires { ⌜ Lent (now words) × (n ≡ total (decode (now words) .segments)) ⌝ }
+    ensures { λ r. ⌜ r ≡ spotFrom page 0 0 (decode (now (words .entry)) .segments) ⌝ }
+{
+    pages::find::find_segment(&words[HEADER_WORDS..], n, page)
+}
+
+// The first free run, in ascending order, that has `need` pages.
+pub fn find_run(words: &[u32], n: usize, need: usize) -> Found
+    requires { ⌜ Lent (now words) × (n ≡ total (decode (now words) .segments)) ⌝ }
+    ensures { λ r. ⌜ r ≡ found (claim need (decode (now (words .entry)) .segments)) ⌝ }
+{
+    pages::find::find_run(&words[HEADER_WORDS..], n, need)
 }
 
 // The run at page `at` gives its low `need` pages to a direct block of the group.

@@ -22,7 +22,9 @@ give-back-requires : tie.Need-give-back-requires
 give-back-requires c κs =
     let s = c .before .before in
     let h = s .pre in
-    (body-holds (h .0 .0) _ (h .0 .1), (in-body (h .0 .0) (λ m. Apart false m) (h .1 .0), in-body (h .0 .0) (λ m. (x : Segment Zone) × Stands m (s .args .at) (s .args .before) x × (pages x ≡ s .args .len) × (runPages x ≡ 0)) (h .1 .1)))
+    let l = h .0 .0 in
+    let there = in-body l (λ m. (x : Segment Zone) × Stands m (s .args .at) (s .args .before) x × (pages x ≡ s .args .len) × (runPages x ≡ 0)) (h .1 .1) in
+    (body-holds l _ (h .0 .1), (in-body l (λ m. Apart false m) (h .1 .0), there))
 
 returns : tie.Need-returns
 returns c =

@@ -8,25 +8,25 @@ use Rattle.steps.proofs.zone_grant.Statement.{statement}
 use Rattle.steps.proofs.zone_grant.Tie as tie
 
 -- The places that answers speak of, each from the next one.
-abbrev start : tie.After-zone-start → tie.Start
+abbrev start : tie.After-words-for → tie.Start
 start c = c .before .before
 
-zone-start-requires : tie.Need-zone-start-requires
-zone-start-requires c κs = let h = c .before .pre in part-page (h .0) _ (h .1)
+words-for-requires : tie.Need-words-for-requires
+words-for-requires c κs = let h = c .before .pre in part-page (h .0) _ (h .1)
 
 add-e : tie.Need-add-e
-add-e c = let h = c .before .before .pre in let r = part-end (h .0) _ (h .1) _ (c .zone-start .ensures) in omega arith
+add-e c = let h = c .before .before .pre in let r = part-end (h .0) _ (h .1) _ (c .words-for .ensures) in omega arith
 
 mul-grant : tie.Need-mul-grant
-mul-grant c = let h = c .before .before .pre in let r = part-end (h .0) _ (h .1) _ (c .zone-start .ensures) in omega arith
+mul-grant c = let h = c .before .before .pre in let r = part-end (h .0) _ (h .1) _ (c .words-for .ensures) in omega arith
 
 part-grant-end : tie.Need-part-grant-end
-part-grant-end c = let h = c .before .before .pre in let r = part-end (h .0) _ (h .1) _ (c .zone-start .ensures) in omega arith
+part-grant-end c = let h = c .before .before .pre in let r = part-end (h .0) _ (h .1) _ (c .words-for .ensures) in omega arith
 
 grant-requires : tie.Need-grant-requires
 grant-requires c κs =
     let h = c .before .before .before .pre in
-    let a = c .before .zone-start .ensures in
+    let a = c .before .words-for .ensures in
     (part-zone (h .0) _ (h .1) _ a, ap (λ z. full z) (part-is (h .0) _ (h .1) _ a) ∙ h .2, h .3, h .4)
 
 returns : tie.Need-returns
@@ -34,7 +34,7 @@ returns c =
     let z₁ = c .before .before .before .before in
     let s = start z₁ in
     let h = s .pre in
-    let a = z₁ .zone-start .ensures in
+    let a = z₁ .words-for .ensures in
     let e = c .before .before .grant .ensures in
     (e .0 ∙ ap (λ z. nextChunk z) (part-is (h .0) _ (h .1) _ a), part-put (h .0) _ (h .1) _ a (λ z. granted (s .args .group) z) _ (e .1))
 
@@ -42,7 +42,7 @@ pub zone-grant-spec : {M : Type 1} → statement M
 zone-grant-spec =
     tie.close
     (tie.spec
-    zone-start-requires
+    words-for-requires
     add-e
     mul-grant
     (search needs)

@@ -10,38 +10,38 @@ use Rattle.steps.proofs.zone_put_back.Statement.{statement}
 use Rattle.steps.proofs.zone_put_back.Tie as tie
 
 -- The places that answers speak of, each from the next one.
-abbrev start : tie.After-zone-start → tie.Start
+abbrev start : tie.After-words-for → tie.Start
 start c = c .before .before
 
-zone-start-requires : tie.Need-zone-start-requires
-zone-start-requires c κs = let h = c .before .pre in part-page (h .0) _ (h .1)
+words-for-requires : tie.Need-words-for-requires
+words-for-requires c κs = let h = c .before .pre in part-page (h .0) _ (h .1)
 
 add-e : tie.Need-add-e
-add-e c = let h = c .before .before .pre in let r = part-end (h .0) _ (h .1) _ (c .zone-start .ensures) in omega arith
+add-e c = let h = c .before .before .pre in let r = part-end (h .0) _ (h .1) _ (c .words-for .ensures) in omega arith
 
 mul-put-back : tie.Need-mul-put-back
-mul-put-back c = let h = c .before .before .pre in let r = part-end (h .0) _ (h .1) _ (c .zone-start .ensures) in omega arith
+mul-put-back c = let h = c .before .before .pre in let r = part-end (h .0) _ (h .1) _ (c .words-for .ensures) in omega arith
 
 part-put-back-end : tie.Need-part-put-back-end
-part-put-back-end c = let h = c .before .before .pre in let r = part-end (h .0) _ (h .1) _ (c .zone-start .ensures) in omega arith
+part-put-back-end c = let h = c .before .before .pre in let r = part-end (h .0) _ (h .1) _ (c .words-for .ensures) in omega arith
 
 put-back-requires : tie.Need-put-back-requires
 put-back-requires c κs =
     let h = c .before .before .before .pre in
-    let a = c .before .zone-start .ensures in
+    let a = c .before .words-for .ensures in
     (part-zone (h .0) _ (h .1) _ a, subst (λ z. 0 < getD (z .owners) (c .before .before .before .args .chunk) 0) (sym (part-is (h .0) _ (h .1) _ a)) (h .2))
 
 returns : tie.Need-returns
 returns c =
     let z₁ = c .before .before .before .before in
     let s = start z₁ in
-    let h = s .pre in let a = z₁ .zone-start .ensures in part-put (h .0) _ (h .1) _ a (λ z. putBack (s .args .chunk) z) _ (c .before .before .put-back .ensures)
+    let h = s .pre in let a = z₁ .words-for .ensures in part-put (h .0) _ (h .1) _ a (λ z. putBack (s .args .chunk) z) _ (c .before .before .put-back .ensures)
 
 pub zone-put-back-spec : {M : Type 1} → statement M
 zone-put-back-spec =
     tie.close
     (tie.spec
-    zone-start-requires
+    words-for-requires
     add-e
     mul-put-back
     (search needs)

@@ -1,9 +1,9 @@
 -- `spare_first` meets its contract. Assumes nothing.
-use Rattle.steps.proofs.Lent.{header-lent}
-use Rattle.steps.proofs.Body.{header-long}
 use Rattle.metadata.specs.Decoding.{decode}
-use Rattle.allocate.proofs.spare_first.Statement.{statement}
-use Rattle.allocate.proofs.spare_first.Tie as tie
+use Rattle.steps.proofs.Body.{header-long}
+use Rattle.steps.proofs.Lent.{header-lent}
+use Rattle.steps.proofs.spare_first.Statement.{statement}
+use Rattle.steps.proofs.spare_first.Tie as tie
 
 slice-aggregate-spare-first : tie.Need-slice-aggregate-spare-first
 slice-aggregate-spare-first c = header-long (c .before .before .pre)

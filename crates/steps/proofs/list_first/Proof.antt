@@ -1,9 +1,9 @@
 -- `list_first` meets its contract. Assumes nothing.
-use Rattle.steps.proofs.Lent.{header-lent}
-use Rattle.steps.proofs.Body.{header-long}
 use Rattle.metadata.specs.Decoding.{decode}
-use Rattle.allocate.proofs.list_first.Statement.{statement}
-use Rattle.allocate.proofs.list_first.Tie as tie
+use Rattle.steps.proofs.Body.{header-long}
+use Rattle.steps.proofs.Lent.{header-lent}
+use Rattle.steps.proofs.list_first.Statement.{statement}
+use Rattle.steps.proofs.list_first.Tie as tie
 
 slice-aggregate-first : tie.Need-slice-aggregate-first
 slice-aggregate-first c = header-long (c .before .before .pre .0)
