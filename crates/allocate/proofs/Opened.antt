@@ -6,7 +6,7 @@ use mathlib.Core.List.{List, [], _∷_, List·Memᴰ, List·Memᴰ·head}
 use mathlib.Core.Option.{none, some}
 use native.Mathlib.Omega.{arith}
 use lib.ListN.{length, getD, set, drop}
-use Rattle.model.specs.Numbers.{zonePages, mostPages}
+use Rattle.model.specs.Numbers.{pageBytes, zonePages, mostPages}
 use Rattle.model.specs.declared.Answer.the-variants.{Granted, Refused}
 use Rattle.model.specs.declared.Refusal.the-variants.{NoRoom}
 use Rattle.model.specs.Arena.{Segment, zone}
@@ -20,6 +20,7 @@ use Rattle.model.proofs.ValidAllocate.{chunk-valid}
 use Rattle.header.specs.declared.Front.the-variants.{Page, Nothing}
 use Rattle.header.specs.Front.{frontOf}
 use Rattle.header.specs.Keys.{keysOf}
+use Rattle.header.specs.Encoding.{listSlots}
 use Rattle.header.proofs.Kept.{fits-spare-pop}
 use Rattle.pages.specs.declared.Found.the-variants as search
 use Rattle.pages.specs.Places.{found}
@@ -52,11 +53,14 @@ module _ {w : List ℕ} {n c g : ℕ} (h : Asked w n c g) (empty : frontOf (list
 
   -- The new zone at page p goes onto its list, where the segments are now m′ and the empty list is sp.
   module _ (p : ℕ) (m′ : List (Segment Zone)) (sp : List ℕ) (rule : chunkFrom c g s (listOf s c) ≡ opened c s m′ p sp) (s₂ : State) (same : s₂ .lists ≡ s .lists) {w₂ : List ℕ} (k : Encodes w₂ s₂) where
-    list-room : length (keysOf (decode w₂ .lists)) < 32
-    list-room = subst (λ x. length (keysOf x) < 32) (sym (ap (λ x. x .lists) (lent-decoded k) ∙ same)) (room-for s (opened c s m′ p sp .after) c p (result-valid (opened c s m′ p sp) rule) (h .good .lent .fits .classes) (h .class) none-open refl)
+    list-room : length (keysOf (decode w₂ .lists)) < listSlots
+    list-room = subst (λ x. length (keysOf x) < listSlots) (sym (ap (λ x. x .lists) (lent-decoded k) ∙ same))
+        (room-for s (opened c s m′ p sp .after) c p (result-valid (opened c s m′ p sp) rule) (h .good .lent .fits .classes) (h .class) none-open refl)
 
     list-put : s₂ .segments ≡ m′ → s₂ .spare ≡ sp → {w₃ : List ℕ} → w₃ ≡ encode (fronted c p (decode w₂)) → w₃ ≡ encode (chunkFrom c g s (listOf s c) .after)
-    list-put a b e = follows (λ x. fronted c p x) k e ∙ (λ i. encode (record { segments = a i; lists = (ap (λ ls. set ls c (p ∷ getD ls c [])) same ∙ ap (λ l. set (s .lists) c (p ∷ l)) none-open) i; spare = b i })) ∙ ap (λ o. encode (o .after)) (sym rule)
+    list-put a b e =
+        let ls = ap (λ ls. set ls c (p ∷ getD ls c [])) same ∙ ap (λ l. set (s .lists) c (p ∷ l)) none-open in
+        follows (λ x. fronted c p x) k e ∙ (λ i. encode (record { segments = a i; lists = ls i; spare = b i })) ∙ ap (λ o. encode (o .after)) (sym rule)
 
   -- The first zone of the empty list ------------------------------------------------------------------------------------------------
 
@@ -76,7 +80,7 @@ module _ {w : List ℕ} {n c g : ℕ} (h : Asked w n c g) (empty : frontOf (list
     pub renew-page : p < mostPages
     renew-page = h .good .lent .fits .spare-pages p on-spare
 
-    pub renew-answer : Granted (p * 4096) ≡ chunkFrom c g s (listOf s c) .answer
+    pub renew-answer : Granted (p * pageBytes) ≡ chunkFrom c g s (listOf s c) .answer
     renew-answer = ap (λ o. o .answer) (sym renew-rule)
 
     abbrev s₁ : State
@@ -93,7 +97,7 @@ module _ {w : List ℕ} {n c g : ℕ} (h : Asked w n c g) (empty : frontOf (list
         pub renewed-words : Encodes w₂ (rezoned p new s₁)
         renewed-words = between s₁ (opened c s (putZone p new m) p ps .after) (behind-words .fits) (result-valid (opened c s (putZone p new m) p ps) renew-rule) (follows (λ x. rezoned p new x) behind-words e₂)
 
-        pub renewed-room : length (keysOf (decode w₂ .lists)) < 32
+        pub renewed-room : length (keysOf (decode w₂ .lists)) < listSlots
         renewed-room = list-room p (putZone p new m) ps renew-rule (rezoned p new s₁) refl renewed-words
 
         pub renewed : {w₃ : List ℕ} → w₃ ≡ encode (fronted c p (decode w₂)) → w₃ ≡ encode (chunkFrom c g s (listOf s c) .after)
@@ -102,43 +106,43 @@ module _ {w : List ℕ} {n c g : ℕ} (h : Asked w n c g) (empty : frontOf (list
   -- Pages from the runs -------------------------------------------------------------------------------------------------------------
 
   module _ (bare : frontOf (s .spare) ≡ Nothing) where
-    zone-rule : chunkFrom c g s (listOf s c) ≡ zoneFrom c g s (claim 8 m)
+    zone-rule : chunkFrom c g s (listOf s c) ≡ zoneFrom c g s (claim zonePages m)
     zone-rule = ap (chunkFrom c g s) none-open ∙ ap (fromSpare c g s) (front-nothing (s .spare) bare)
 
     -- There are none.
-    no-zone : found (claim 8 m) ≡ search.Nothing → chunkFrom c g s (listOf s c) ≡ zoneFrom c g s none
-    no-zone e = zone-rule ∙ ap (zoneFrom c g s) (found-nothing (claim 8 m) e)
+    no-zone : found (claim zonePages m) ≡ search.Nothing → chunkFrom c g s (listOf s c) ≡ zoneFrom c g s none
+    no-zone e = zone-rule ∙ ap (zoneFrom c g s) (found-nothing (claim zonePages m) e)
 
-    pub no-zone-answer : found (claim 8 m) ≡ search.Nothing → Refused NoRoom ≡ chunkFrom c g s (listOf s c) .answer
+    pub no-zone-answer : found (claim zonePages m) ≡ search.Nothing → Refused NoRoom ≡ chunkFrom c g s (listOf s c) .answer
     no-zone-answer e = ap (λ o. o .answer) (sym (no-zone e))
 
-    pub no-zone-words : found (claim 8 m) ≡ search.Nothing → w ≡ encode (chunkFrom c g s (listOf s c) .after)
+    pub no-zone-words : found (claim zonePages m) ≡ search.Nothing → w ≡ encode (chunkFrom c g s (listOf s c) .after)
     no-zone-words e = h .good .lent .words ∙ ap (λ o. encode (o .after)) (sym (no-zone e))
 
-    module _ {p k : ℕ} (run-found : found (claim 8 m) ≡ search.Run p k) where
+    module _ {p k : ℕ} (run-found : found (claim zonePages m) ≡ search.Run p k) where
       abbrev m′ : List (Segment Zone)
       m′ = carve (record { page = p; size = k }) zonePages (zone new) m
 
-      claimed : claim 8 m ≡ some (record { page = p; size = k })
-      claimed = found-run (claim 8 m) p k run-found
+      claimed : claim zonePages m ≡ some (record { page = p; size = k })
+      claimed = found-run (claim zonePages m) p k run-found
 
       open-rule : chunkFrom c g s (listOf s c) ≡ opened c s m′ p (s .spare)
       open-rule = zone-rule ∙ ap (zoneFrom c g s) claimed
 
-      pub open-free : Free m 8 p k
-      open-free = free m 8 p k (omega arith) claimed
+      pub open-free : Free m zonePages p k
+      open-free = free m zonePages p k (omega arith) claimed
 
       pub open-page : p < mostPages
       open-page = omega (arith, open-free .inside, open-free .enough, h .good .lent .fits .most)
 
-      pub open-answer : Granted (p * 4096) ≡ chunkFrom c g s (listOf s c) .answer
+      pub open-answer : Granted (p * pageBytes) ≡ chunkFrom c g s (listOf s c) .answer
       open-answer = ap (λ o. o .answer) (sym open-rule)
 
       module _ {w₁ : List ℕ} (e : w₁ ≡ encode (carved (record { page = p; size = k }) zonePages (zone new) s)) where
         pub open-words : Encodes w₁ (carved (record { page = p; size = k }) zonePages (zone new) s)
         open-words = between s (opened c s m′ p (s .spare) .after) (h .good .lent .fits) (result-valid (opened c s m′ p (s .spare)) open-rule) e
 
-        pub open-room : length (keysOf (decode w₁ .lists)) < 32
+        pub open-room : length (keysOf (decode w₁ .lists)) < listSlots
         open-room = list-room p m′ (s .spare) open-rule (carved (record { page = p; size = k }) zonePages (zone new) s) refl open-words
 
         pub opened-words : {w₂ : List ℕ} → w₂ ≡ encode (fronted c p (decode w₁)) → w₂ ≡ encode (chunkFrom c g s (listOf s c) .after)

@@ -8,7 +8,7 @@ use native.Mathlib.Omega.{arith}
 use lib.Dec.{leb}
 use borrow.Author.Tests.{leb-true, lt-ltb, le-ltb}
 use Rattle.lemmas.proofs.Cases.{and-right}
-use Rattle.model.specs.Numbers.{mostPages, mostBytes}
+use Rattle.model.specs.Numbers.{pageBytes, largeSize, mostBytes, mostPages}
 use Rattle.model.specs.declared.Answer.{Answer}
 use Rattle.model.specs.declared.Answer.the-variants.{Granted, Refused}
 use Rattle.model.specs.declared.Refusal.the-variants.{BadGroup, BadSize, NoRoom}
@@ -45,11 +45,11 @@ module _ (s : State) (g n : ℕ) where
   pub accepted : groupOk g ≡ true → sizeOk n ≡ true → supplied g n s ≡ allocate g n s
   accepted t u = rw (t, u)
 
-  pub small : (k : ℕ) → n < 8192 → k ≡ classOf n → chunkFrom k g s (listOf s k) ≡ supplied g n s
-  small k h e = ap (λ j. chunkFrom j g s (listOf s j)) e ∙ rw (lt-ltb n 8192 h)
+  pub small : (k : ℕ) → n < largeSize → k ≡ classOf n → chunkFrom k g s (listOf s k) ≡ supplied g n s
+  small k h e = ap (λ j. chunkFrom j g s (listOf s j)) e ∙ rw (lt-ltb n largeSize h)
 
-  pub large : 8192 ≤ n → directFrom (pagesFor n) g s (claim (pagesFor n) (s .segments)) ≡ supplied g n s
-  large h = rw (le-ltb n 8192 h)
+  pub large : largeSize ≤ n → directFrom (pagesFor n) g s (claim (pagesFor n) (s .segments)) ≡ supplied g n s
+  large h = rw (le-ltb n largeSize h)
 
 -- Whole pages.
 module _ {w : List ℕ} {n need : ℕ} (h : Good w n) (pos : 0 < need) (g : ℕ) where
@@ -69,5 +69,5 @@ module _ {w : List ℕ} {n need : ℕ} (h : Good w n) (pos : 0 < need) (g : ℕ)
     pub pages-page : p < mostPages
     pages-page = omega (arith, pages-free .inside, pages-free .enough, h .lent .fits .most)
 
-    pub pages-taken : {w₁ : List ℕ} → w₁ ≡ encode (carved (record { page = p; size = k }) need (direct need g) s) → Makes (directFrom need g s (claim need (s .segments))) (Granted (p * 4096)) w₁
+    pub pages-taken : {w₁ : List ℕ} → w₁ ≡ encode (carved (record { page = p; size = k }) need (direct need g) s) → Makes (directFrom need g s (claim need (s .segments))) (Granted (p * pageBytes)) w₁
     pages-taken f = made (ap (directFrom need g s) (sym claimed)) (refl, f)

@@ -9,16 +9,15 @@ use lib.ListN.{set}
 use Rattle.lemmas.specs.Times.{Distinct, remove}
 use Rattle.lemmas.proofs.Sets.{set-same}
 use Rattle.lemmas.proofs.Distinct.{remove-here, remove-absent}
-use Rattle.model.specs.Numbers.{mostPages}
+use Rattle.model.specs.Numbers.{pageBytes, zoneBytes, mostPages}
 use Rattle.model.specs.declared.Answer.the-variants.{Granted}
 use Rattle.model.specs.Sizes.{room, chunks}
-use Rattle.model.specs.Arena.{Segment, zone}
+use Rattle.model.specs.Arena.{Segment}
 use Rattle.model.specs.Zone.{Zone, full, nextChunk, granted}
 use Rattle.model.specs.State.{State, listOf, ZoneAt, zoneAt, putZone}
-use Rattle.model.specs.Valid.{ValidZone, ValidSegment, OpenAt, Valid}
+use Rattle.model.specs.Valid.{OpenAt, Valid}
 use Rattle.model.specs.Allocate.{served, chunkFrom}
 use Rattle.model.proofs.Sizes.{chunk-begins}
-use Rattle.model.proofs.Arena.{each-locate}
 use Rattle.model.proofs.Zones.{grants}
 use Rattle.model.proofs.Moves.{put-new}
 use Rattle.model.proofs.ValidAllocate.{chunk-valid}
@@ -28,7 +27,7 @@ use Rattle.metadata.specs.Encoding.{encode}
 use Rattle.metadata.specs.Decoding.{decode}
 use Rattle.steps.specs.Lent.{Encodes, ZoneHere}
 use Rattle.steps.specs.Moves.{rezoned, unlisted}
-use Rattle.steps.proofs.Lent.{lent-decoded}
+use Rattle.steps.proofs.Lent.{lent-decoded, zone-valid}
 use Rattle.allocate.specs.Asked.{Asked}
 use Rattle.allocate.proofs.Found.{front-page}
 use Rattle.steps.proofs.Zones.{zone-at, zone-there}
@@ -71,21 +70,18 @@ module _ {w : List ℕ} {n c g : ℕ} (h : Asked w n c g) {p : ℕ} (front : fro
   pub serve-open : full z ≡ false
   serve-open = ap (λ y. full y) (zone-at m p (opens .0) (opens .1)) ∙ opens .3
 
-  zone-valid : ValidZone z
-  zone-valid = each-locate ValidSegment m (p * 4096) (record { away = 0; segment = zone z }) (h .good .valid .sound) serve-zone
-
   class-is : z .class ≡ c
   class-is = ap (λ y. y .class) (zone-at m p (opens .0) (opens .1)) ∙ opens .2
 
   -- The chunk lies inside the zone.
-  pub serve-inside : {i r : ℕ} → i ≡ nextChunk z → r ≡ room c → i * r < 32768
+  pub serve-inside : {i r : ℕ} → i ≡ nextChunk z → r ≡ room c → i * r < zoneBytes
   serve-inside {i} {r} e f =
-      let k : nextChunk z < chunks c = subst (λ y. nextChunk z < chunks y) class-is (grants g (h .least) (h .most) z zone-valid serve-open .inside) in
+      let k : nextChunk z < chunks c = subst (λ y. nextChunk z < chunks y) class-is (grants g (h .least) (h .most) z (zone-valid (h .good .lent) p z serve-zone) serve-open .inside) in
       let q : i * r ≡ nextChunk z * room c = λ j. e j * f j in
       omega (arith, chunk-begins c (nextChunk z) k)
 
-  pub serve-answer : {i r : ℕ} → i ≡ nextChunk z → r ≡ room c → Granted (p * 4096 + i * r) ≡ chunkFrom c g s (listOf s c) .answer
-  serve-answer e f = (λ j. Granted (p * 4096 + e j * f j)) ∙ ap (λ o. o .answer) (sym rule)
+  pub serve-answer : {i r : ℕ} → i ≡ nextChunk z → r ≡ room c → Granted (p * pageBytes + i * r) ≡ chunkFrom c g s (listOf s c) .answer
+  serve-answer e f = (λ j. Granted (p * pageBytes + e j * f j)) ∙ ap (λ o. o .answer) (sym rule)
 
   -- The chunk has been granted.
   module _ {w₁ : List ℕ} (e : w₁ ≡ encode (rezoned p (granted g z) s)) where
@@ -105,7 +101,8 @@ module _ {w : List ℕ} {n c g : ℕ} (h : Asked w n c g) {p : ℕ} (front : fro
     abbrev listing : Bool → List (List ℕ)
     listing t = set (s .lists) c (cond t ps (p ∷ ps))
 
-    as-ruled : {t : Bool} {w₂ : List ℕ} (ls : List (List ℕ)) → t ≡ full (granted g z) → ls ≡ listing t → w₂ ≡ encode (record { segments = putZone p (granted g z) m; lists = ls; spare = s .spare }) → w₂ ≡ encode (chunkFrom c g s (listOf s c) .after)
+    as-ruled : {t : Bool} {w₂ : List ℕ} (ls : List (List ℕ)) → t ≡ full (granted g z) → ls ≡ listing t →
+        w₂ ≡ encode (record { segments = putZone p (granted g z) m; lists = ls; spare = s .spare }) → w₂ ≡ encode (chunkFrom c g s (listOf s c) .after)
     as-ruled ls q k f = f ∙ (λ i. encode (record { segments = putZone p (granted g z) m; lists = (k ∙ ap listing q) i; spare = s .spare })) ∙ ap (λ o. encode (o .after)) (sym rule)
 
     pub stays : {t : Bool} → t ≡ full (zoneAt p (decode w₁ .segments)) → t ≡ false → w₁ ≡ encode (chunkFrom c g s (listOf s c) .after)
@@ -115,4 +112,6 @@ module _ {w : List ℕ} {n c g : ℕ} (h : Asked w n c g) {p : ℕ} (front : fro
     once = subst (λ l. Distinct l) list-is (h .good .valid .once c)
 
     pub leaves : {t : Bool} {w₂ : List ℕ} → t ≡ full (zoneAt p (decode w₁ .segments)) → t ≡ true → w₂ ≡ encode (unlisted c p (decode w₁)) → w₂ ≡ encode (chunkFrom c g s (listOf s c) .after)
-    leaves q f k = as-ruled (set (s .lists) c (remove p (listOf s c))) (sym f ∙ granted-full q) (ap (set (s .lists) c) (ap (remove p) list-is ∙ remove-here p ps refl ∙ remove-absent p ps (once .0))) (follows (λ x. unlisted c p x) granted-words k)
+    leaves q f k =
+        let gone = ap (remove p) list-is ∙ remove-here p ps refl ∙ remove-absent p ps (once .0) in
+        as-ruled (set (s .lists) c (remove p (listOf s c))) (sym f ∙ granted-full q) (ap (set (s .lists) c) gone) (follows (λ x. unlisted c p x) granted-words k)

@@ -8,47 +8,19 @@ ghost use Rattle.model.specs.Calls.{sizeOk};
 ghost use Rattle.model.specs.Allocate.{directFrom, chunkFrom, supplied, allocate as allocated};
 ghost use Rattle.header.specs.declared.Front.the-variants.{Page, Nothing};
 ghost use Rattle.header.specs.Front.{frontOf};
-ghost use Rattle.pages.specs.Places.{found};
 ghost use Rattle.metadata.specs.Decoding.{decode};
-ghost use Rattle.steps.specs.Lent.{Lent, Good};
+ghost use Rattle.steps.specs.Lent.{Good};
 ghost use Rattle.allocate.specs.Asked.{Asked};
 ghost use Rattle.steps.specs.Outcomes.{Makes};
-ghost use Rattle.model.specs.Numbers.{mostGroup, classCount, mostBytes};
+ghost use Rattle.model.specs.Numbers.{mostGroup, mostBytes};
 use header::Front;
 use model::Answer;
 use model::Refusal;
-use model::numbers::HEADER_WORDS;
 use model::numbers::LARGE_SIZE;
 use model::numbers::MOST_BYTES;
 use model::numbers::PAGE_BYTES;
 use model::numbers::ZONE_PAGES;
 use pages::Found;
-
-// ---- what is looked up
-
-// The front of the class's list.
-fn list_first(words: &[u32], class: u32) -> Front
-    requires { ⌜ Lent (now words) × (class < classCount) ⌝ }
-    ensures { λ r. ⌜ r ≡ frontOf (listOf (decode (now (words .entry))) class) ⌝ }
-{
-    header::first(&words[..HEADER_WORDS], class)
-}
-
-// The front of the empty list.
-fn spare_first(words: &[u32]) -> Front
-    requires { ⌜ Lent (now words) ⌝ }
-    ensures { λ r. ⌜ r ≡ frontOf (decode (now (words .entry)) .spare) ⌝ }
-{
-    header::spare_first(&words[..HEADER_WORDS])
-}
-
-// The first free run, in ascending order, that has `need` pages.
-fn find_run(words: &[u32], n: usize, need: usize) -> Found
-    requires { ⌜ Good (now words) n ⌝ }
-    ensures { λ r. ⌜ r ≡ found (claim need (decode (now (words .entry)) .segments)) ⌝ }
-{
-    pages::find::find_run(&words[HEADER_WORDS..], n, need)
-}
 
 // ---- whole pages
 
@@ -57,7 +29,7 @@ fn supply_pages(words: &mut [u32], n: usize, group: u32, need: usize) -> Answer
     requires { ⌜ Good (now words) n × (0 < need) ⌝ }
     ensures { λ r. ⌜ Makes (directFrom need group (decode (now (words .entry))) (claim need (decode (now (words .entry)) .segments))) r (now (words .exit)) ⌝ }
 {
-    let Found::Run { at, len } = find_run(words, n, need) else {
+    let Found::Run { at, len } = steps::find_run(words, n, need) else {
         return Answer::Refused(Refusal::NoRoom);
     };
     steps::take_direct(words, n, at, len, need, group);
@@ -100,7 +72,7 @@ fn open_zone(words: &mut [u32], n: usize, class: u32, group: u32) -> Answer
     requires { ⌜ (frontOf (listOf (decode (now words)) class) ≡ Nothing) × (frontOf (decode (now words) .spare) ≡ Nothing) ⌝ }
     ensures { λ r. ⌜ Makes (chunkFrom class group (decode (now (words .entry))) (listOf (decode (now (words .entry))) class)) r (now (words .exit)) ⌝ }
 {
-    let Found::Run { at, len } = find_run(words, n, ZONE_PAGES) else {
+    let Found::Run { at, len } = steps::find_run(words, n, ZONE_PAGES) else {
         return Answer::Refused(Refusal::NoRoom);
     };
     steps::take_zone(words, n, at, len, class, group);
@@ -114,10 +86,10 @@ fn supply_chunk(words: &mut [u32], n: usize, class: u32, group: u32) -> Answer
     requires { ⌜ Asked (now words) n class group ⌝ }
     ensures { λ r. ⌜ Makes (chunkFrom class group (decode (now (words .entry))) (listOf (decode (now (words .entry))) class)) r (now (words .exit)) ⌝ }
 {
-    if let Front::Page(page) = list_first(words, class) {
+    if let Front::Page(page) = steps::list_first(words, class) {
         return serve(words, n, class, page, group);
     }
-    if let Front::Page(page) = spare_first(words) {
+    if let Front::Page(page) = steps::spare_first(words) {
         return renew(words, n, class, page, group);
     }
     open_zone(words, n, class, group)

@@ -1,10 +1,9 @@
 // Live blocks: where the block that begins at a byte stands, and the answer to a query.
 ghost use mathlib.Core.Path.{_≡_};
-ghost use mathlib.Core.List.{List};
-ghost use Prim.Native.Nat.{ℕ, _+_, _*_, _<_, _≤_};
+ghost use Prim.Native.Nat.{_+_, _*_, _<_};
+ghost use Rattle.model.specs.Numbers.{pageBytes, zoneBytes};
 ghost use Rattle.model.specs.Arena.{Segment, zone};
 ghost use Rattle.model.specs.Zone.{Zone};
-ghost use Rattle.model.specs.State.{State};
 ghost use Rattle.model.specs.Trim.{queryAt};
 ghost use Rattle.pages.specs.Places.{Stands};
 ghost use Rattle.metadata.specs.Decoding.{decode};
@@ -12,7 +11,6 @@ ghost use Rattle.steps.specs.Lent.{Good};
 ghost use Rattle.blocks.specs.Places.{Tells};
 use model::Answer;
 use model::Refusal;
-use model::numbers::HEADER_WORDS;
 use model::numbers::PAGE_BYTES;
 use pages::Spot;
 use zone::layout::KIND_DIRECT;
@@ -40,8 +38,8 @@ pub enum Place {
 // The live chunk that begins `away` bytes behind the start of the zone at page `at`.
 fn find_chunk(words: &[u32], n: usize, at: usize, before: usize, away: u32) -> Place
     requires { ⌜ Good (now words) n ⌝ }
-    requires { ⌜ ((z : Zone) × Stands (decode (now words) .segments) at before (zone z)) × (away < 32768) ⌝ }
-    ensures { λ r. ⌜ Tells (decode (now (words .entry))) (at * 4096 + away) r ⌝ }
+    requires { ⌜ ((z : Zone) × Stands (decode (now words) .segments) at before (zone z)) × (away < zoneBytes) ⌝ }
+    ensures { λ r. ⌜ Tells (decode (now (words .entry))) (at * pageBytes + away) r ⌝ }
 {
     let class = steps::zone_class(words, at);
     let room = zone::sizes::room(class);
@@ -73,7 +71,7 @@ pub fn find_block(words: &[u32], n: usize, offset: u32) -> Place
         kind,
         len,
         before,
-    } = pages::find::find_segment(&words[HEADER_WORDS..], n, page)
+    } = steps::find_segment(words, n, page)
     else {
         return Place::Nothing;
     };
@@ -87,7 +85,7 @@ pub fn find_block(words: &[u32], n: usize, offset: u32) -> Place
     if away != 0 {
         return Place::Nothing;
     }
-    let group = pages::find::group(&words[HEADER_WORDS..], n, at);
+    let group = steps::group_at(words, n, at);
     Place::Whole {
         at: at,
         len: len,

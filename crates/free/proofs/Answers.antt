@@ -53,7 +53,7 @@ module _ (s : State) {o p b g : ℕ} where
     chunk-freed = ap (λ q. chunkBack c i q (zoneAt q (s .segments)) s) page ∙ ap (λ k. chunkBack k i p (zoneAt p (s .segments)) s) (sym (ap (λ z. z .class) zone-here ∙ t .1 .2))
       where
         page : (o - i * room c) / pageBytes ≡ p
-        page = let e : o - i * room c ≡ p * 4096 = omega (arith, t .2) in ap (λ k. k / 4096) e ∙ omega arith
+        page = let e : o - i * room c ≡ p * pageBytes = omega (arith, t .2) in ap (λ k. k / pageBytes) e ∙ omega arith
 
     pub chunk-lives : 0 < g → LiveChunk s p b i
     chunk-lives h = record { z = t .1 .0; stands = t .1 .1; live = omega (arith, t .1 .3) }

@@ -2,11 +2,11 @@
 use Prim.Native.Nat.{ℕ, _+_, _-_, _*_, _/_, _<_}
 use mathlib.Core.Path.{_≡_, refl, sym, ap, _∙_, subst}
 use mathlib.Core.List.{List, [], _∷_}
-use mathlib.Core.Bool.{true, false, cond}
+use mathlib.Core.Bool.{Bool, true, false, cond}
 use native.Mathlib.Omega.{arith}
 use lib.ListN.{length, getD, set}
 use lib.Seq.{set-getD}
-use Rattle.model.specs.Numbers.{classCount, mostPages}
+use Rattle.model.specs.Numbers.{pageBytes, classCount, mostPages}
 use Rattle.model.specs.Sizes.{room}
 use Rattle.model.specs.Arena.{zone, pages, total}
 use Rattle.model.specs.Zone.{Zone, full, putBack}
@@ -20,24 +20,23 @@ use Rattle.model.proofs.Moves.{put-size}
 use Rattle.header.specs.Keys.{keysOf}
 use Rattle.header.specs.Encoding.{listSlots}
 use Rattle.pages.specs.Places.{Stands}
-use Rattle.pages.proofs.Laws.{pages-most}
 use Rattle.metadata.specs.Encoding.{encode}
 use Rattle.metadata.specs.Decoding.{decode}
 use Rattle.steps.specs.Lent.{Encodes, Lent, ZoneHere, Good}
 use Rattle.steps.specs.Moves.{fronted, rezoned}
 use Rattle.steps.proofs.Lent.{lent, lent-decoded}
 use Rattle.steps.proofs.Kept.{kept-zone, had-room, good-of, good-decoded, put-stands, put-zone-at}
-use Rattle.steps.proofs.Zones.{zone-begins, zone-is, zone-stands, zone-valid}
+use Rattle.steps.proofs.Zones.{stands-inside, zone-begins, zone-is, zone-stands, zone-valid}
 use Rattle.free.specs.Back.{chained, LiveChunk}
 
 -- A chunk that is live, where its zone begins.
-abbrev pub chunk-there : (s : State) → Valid s → (p b i : ℕ) (z : Zone) → Stands (s .segments) p b (zone z) → 0 < getD (z .owners) i 0 → ChunkAt s (p * 4096 + i * room (z .class)) (z .class) i (getD (z .owners) i 0)
+abbrev chunk-there : (s : State) → Valid s → (p b i : ℕ) (z : Zone) → Stands (s .segments) p b (zone z) → 0 < getD (z .owners) i 0 → ChunkAt s (p * pageBytes + i * room (z .class)) (z .class) i (getD (z .owners) i 0)
 chunk-there s v p b i z t h = record {
   page = p;
   here = z;
   there = zone-begins s p b z t;
   at = refl;
-  page-is = let e : p * 4096 + i * room (z .class) - i * room (z .class) ≡ p * 4096 = omega arith in ap (λ k. k / 4096) e ∙ omega arith;
+  page-is = let e : p * pageBytes + i * room (z .class) - i * room (z .class) ≡ p * pageBytes = omega arith in ap (λ k. k / pageBytes) e ∙ omega arith;
   class = refl;
   inside = omega (arith, owned-touched (z .owners) i h, zone-valid s p b z t v .fits);
   owner = refl;
@@ -58,7 +57,7 @@ module _ {w : List ℕ} {n p b i : ℕ} (good : Good w n) (live : LiveChunk (dec
   is : z ≡ live .z
   is = zone-is s p b (live .z) (live .stands)
 
-  pub live-stands : Stands (decode w .segments) p b (zone (zoneAt p (decode w .segments)))
+  live-stands : Stands (decode w .segments) p b (zone (zoneAt p (decode w .segments)))
   live-stands = subst (λ y. Stands (s .segments) p b (zone y)) (sym is) (live .stands)
 
   pub live-here : ZoneHere (decode w) p
@@ -74,18 +73,18 @@ module _ {w : List ℕ} {n p b i : ℕ} (good : Good w n) (live : LiveChunk (dec
   live-class = valid .class
 
   pub live-page : p < mostPages
-  live-page = omega (arith, pages-most (zone z) (live-stands .before) (live-stands .behind) (s .segments) (live-stands .whole), live-stands .starts, good .valid .most)
+  live-page = omega (arith, stands-inside live-stands, good .valid .most)
 
-  abbrev chunk : ChunkAt s (p * 4096 + i * room (z .class)) (z .class) i (getD (z .owners) i 0)
+  abbrev chunk : ChunkAt s (p * pageBytes + i * room (z .class)) (z .class) i (getD (z .owners) i 0)
   chunk = chunk-there s (good .valid) p b i z live-stands live-owner
 
-  pub chained-valid : Valid (chained (zoneAt p (decode w .segments) .class) i p (zoneAt p (decode w .segments)) (decode w))
-  chained-valid = stays-valid s (good .valid) (p * 4096 + i * room (z .class)) (z .class) i (getD (z .owners) i 0) chunk
+  chained-valid : Valid (chained (zoneAt p (decode w .segments) .class) i p (zoneAt p (decode w .segments)) (decode w))
+  chained-valid = stays-valid s (good .valid) (p * pageBytes + i * room (z .class)) (z .class) i (getD (z .owners) i 0) chunk
 
   pub back-valid : Valid (chunkBack (zoneAt p (decode w .segments) .class) i p (zoneAt p (decode w .segments)) (decode w))
-  back-valid = chunkBack-valid s (good .valid) (p * 4096 + i * room (z .class)) (z .class) i (getD (z .owners) i 0) chunk
+  back-valid = chunkBack-valid s (good .valid) (p * pageBytes + i * room (z .class)) (z .class) i (getD (z .owners) i 0) chunk
 
-  pub chained-stands : Stands (putZone p (putBack i (zoneAt p (decode w .segments))) (decode w .segments)) p b (zone (putBack i (zoneAt p (decode w .segments))))
+  chained-stands : Stands (putZone p (putBack i (zoneAt p (decode w .segments))) (decode w .segments)) p b (zone (putBack i (zoneAt p (decode w .segments))))
   chained-stands = put-stands z′ live-stands
 
   -- The chunk is on the chain, the lists are as they were.
@@ -99,18 +98,22 @@ module _ {w : List ℕ} {n p b i : ℕ} (good : Good w n) (live : LiveChunk (dec
     mid-decoded : decode v ≡ rezoned p z′ s
     mid-decoded = lent-decoded mid-encodes
 
+    -- The chunk is on the chain, and the class's list as it is for a zone that was full (true) or not.
+    abbrev relists : Bool → State
+    relists x = arranged s (putZone p z′ (s .segments)) (set (s .lists) (z .class) (cond x (p ∷ listOf s (z .class)) (listOf s (z .class)))) (s .spare)
+
     pub mid-room : full (zoneAt p (decode w .segments)) ≡ true → length (keysOf (decode v .lists)) < listSlots
     mid-room t =
-        let ok : Valid (arranged s (putZone p z′ (s .segments)) (set (s .lists) (z .class) (p ∷ listOf s (z .class))) (s .spare)) =
-        subst (λ f. Valid (arranged s (putZone p z′ (s .segments)) (set (s .lists) (z .class) (cond f (p ∷ listOf s (z .class)) (listOf s (z .class)))) (s .spare))) t chained-valid in
+        let ok : Valid (relists true) = subst (λ x. Valid (relists x)) t chained-valid in
         subst (λ k. length (keysOf (k .lists)) < listSlots) (sym mid-decoded) (had-room s (z .class) p (putZone p z′ (s .segments)) (s .spare) ok (omega (arith, valid .class, good .valid .classes)))
 
     -- A zone that was full goes on its list; another stays there.
-    pub mid-front : full (zoneAt p (decode w .segments)) ≡ true → (c : ℕ) → c ≡ zoneAt p (decode w .segments) .class → (u : List ℕ) → u ≡ encode (fronted c p (decode v)) → u ≡ encode (chained (zoneAt p (decode w .segments) .class) i p (zoneAt p (decode w .segments)) (decode w))
-    mid-front t c k u f = f ∙ (λ j. encode (fronted (k j) p (mid-decoded j))) ∙ ap (λ x. encode (arranged s (putZone p z′ (s .segments)) (set (s .lists) (z .class) (cond x (p ∷ listOf s (z .class)) (listOf s (z .class)))) (s .spare))) (sym t)
+    pub mid-front : full (zoneAt p (decode w .segments)) ≡ true → (c : ℕ) → c ≡ zoneAt p (decode w .segments) .class → (u : List ℕ) → u ≡ encode (fronted c p (decode v)) →
+        u ≡ encode (chained (zoneAt p (decode w .segments) .class) i p (zoneAt p (decode w .segments)) (decode w))
+    mid-front t c k u f = f ∙ (λ j. encode (fronted (k j) p (mid-decoded j))) ∙ ap (λ x. encode (relists x)) (sym t)
 
     pub mid-stays : full (zoneAt p (decode w .segments)) ≡ false → v ≡ encode (chained (zoneAt p (decode w .segments) .class) i p (zoneAt p (decode w .segments)) (decode w))
-    mid-stays t = e ∙ (λ j. encode (arranged s (putZone p z′ (s .segments)) (sym (set-getD (s .lists) (z .class) []) j) (s .spare))) ∙ ap (λ x. encode (arranged s (putZone p z′ (s .segments)) (set (s .lists) (z .class) (cond x (p ∷ listOf s (z .class)) (listOf s (z .class)))) (s .spare))) (sym t)
+    mid-stays t = e ∙ (λ j. encode (arranged s (putZone p z′ (s .segments)) (sym (set-getD (s .lists) (z .class) []) j) (s .spare))) ∙ ap (λ x. encode (relists x)) (sym t)
 
   -- The chunk is on the chain and the zone on its list: a valid state again.
   module _ {v : List ℕ} (e : v ≡ encode (chained (zoneAt p (decode w .segments) .class) i p (zoneAt p (decode w .segments)) (decode w))) where

@@ -1,26 +1,24 @@
 // Freeing: a chunk comes back to its zone, a direct block's pages to the runs.
 ghost use mathlib.Core.Path.{_≡_};
 ghost use mathlib.Core.Bool.{true};
-ghost use mathlib.Core.List.{List};
-ghost use Prim.Native.Nat.{ℕ, _+_, _*_, _<_, _≤_};
+ghost use Prim.Native.Nat.{_<_};
 ghost use lib.ListN.{length};
 ghost use lib.Dec.{ltb};
-ghost use Rattle.model.specs.Arena.{Segment, zone};
+ghost use Rattle.model.specs.Numbers.{mostSpare};
+ghost use Rattle.model.specs.Arena.{zone};
 ghost use Rattle.model.specs.Zone.{Zone};
-ghost use Rattle.model.specs.State.{State, listOf, zoneAt};
-ghost use Rattle.model.specs.PageMap.{idleZone};
+ghost use Rattle.model.specs.State.{listOf, zoneAt};
 ghost use Rattle.model.specs.Free.{retired, chunkBack};
 ghost use Rattle.model.specs.Free as rules;
 ghost use Rattle.pages.specs.Places.{Stands};
 ghost use Rattle.metadata.specs.Encoding.{encode};
 ghost use Rattle.metadata.specs.Decoding.{decode};
 ghost use Rattle.steps.specs.Outcomes.{Makes};
-ghost use Rattle.steps.specs.Lent.{Good, ZoneHere};
+ghost use Rattle.steps.specs.Lent.{Good};
 ghost use Rattle.free.specs.Back.{chained, LiveChunk, Remains};
 use blocks::Place;
 use model::Answer;
 use model::Refusal;
-use model::numbers::HEADER_WORDS;
 use model::numbers::MOST_SPARE;
 use model::numbers::ZONE_PAGES;
 
@@ -43,10 +41,10 @@ fn chain_back(words: &mut [u32], n: usize, at: usize, before: usize, chunk: u32)
 // back to the runs. Answers whether the zone still stands.
 fn retire(words: &mut [u32], n: usize, at: usize, before: usize, class: u32) -> bool
     requires { ⌜ Good (now words) n × ((z : Zone) × Stands (decode (now words) .segments) at before (zone z) × (class ≡ z .class)) ⌝ }
-    ensures { λ r. ⌜ (now (words .exit) ≡ encode (retired class at (listOf (decode (now (words .entry))) class) (decode (now (words .entry))))) × (r ≡ ltb (length (decode (now (words .entry)) .spare)) 2) ⌝ }
+    ensures { λ r. ⌜ (now (words .exit) ≡ encode (retired class at (listOf (decode (now (words .entry))) class) (decode (now (words .entry))))) × (r ≡ ltb (length (decode (now (words .entry)) .spare)) mostSpare) ⌝ }
 {
     steps::list_without(words, class, at as u32);
-    if header::spare_count(&words[..HEADER_WORDS]) < 2 {
+    if steps::spare_count(words) < MOST_SPARE {
         steps::spare_front(words, at as u32);
         return true;
     }
@@ -65,7 +63,7 @@ pub fn chunk_back(words: &mut [u32], n: usize, at: usize, before: usize, chunk: 
     if !steps::zone_idle(words, at) {
         return true;
     }
-    if header::count(&words[..HEADER_WORDS], class) < 2 {
+    if steps::list_count(words, class) < 2 {
         return true;
     }
     retire(words, n, at, before, class)

@@ -1,8 +1,8 @@
 -- The test of any words, case by case as the code finds them. Assumes nothing.
 use Prim.Native.Nat.{ℕ, _+_, _-_, _*_, _≤_, _<_}
-use mathlib.Core.Path.{_≡_, refl, sym, ap, _∙_, subst}
+use mathlib.Core.Path.{_≡_, refl, sym, ap, _∙_}
 use mathlib.Core.List.{List}
-use mathlib.Core.Bool.{Bool, true, false}
+use mathlib.Core.Bool.{true, false}
 use native.Mathlib.Omega.{arith}
 use lib.ListN.{length}
 use Rattle.lemmas.specs.Parts.{mid}
@@ -11,14 +11,13 @@ use Rattle.lemmas.proofs.Parts.{length-mid}
 use Rattle.model.specs.Numbers.{mostPages, headerWords, pageWords}
 use Rattle.model.specs.Perform.{wordsFor}
 use Rattle.header.specs.Keys.{keysOf}
-use Rattle.header.specs.Encoding.{pagesIn, spareIn, listsIn, Header, isHeader}
-use Rattle.header.proofs.Exact.{check-header}
+use Rattle.header.specs.Encoding.{pagesIn, spareIn, listsIn, isHeader}
 use Rattle.pages.specs.Decoding.{segmentsOf, Holds}
 use Rattle.pages.specs.Legal.{legalSegments}
 use Rattle.pages.proofs.AllLegal.{legal-iff}
 use Rattle.metadata.specs.Lists.{fitFrom, listsLegal}
 use Rattle.metadata.specs.Decoding.{headerPart, pagesPart, decode, isState}
-use Rattle.metadata.proofs.States.{Passed, passed, passes}
+use Rattle.metadata.proofs.States.{passed, passes}
 
 decoded-is : (w : List ℕ) →
     fitFrom (spareIn (headerPart w)) (listsIn (headerPart w)) (length (keysOf (listsIn (headerPart w))) + length (spareIn (headerPart w))) 0 0 (segmentsOf (pagesPart w)) ≡ listsLegal (decode w)

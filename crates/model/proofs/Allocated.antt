@@ -48,7 +48,8 @@ group-most g t = leb-true g mostGroup (and-right (leb 1 g) (leb g mostGroup) t)
 pub size-least : (n : ℕ) → sizeOk n ≡ true → 0 < n
 size-least n t = leb-true 1 n (and-left (leb 1 n) (leb n mostBytes) t)
 
-live-chunk : (c i g : ℕ) → 0 < g → chunkOf c i g ≡ some (chunk c i g)
+-- A chunk that has a group is a block.
+pub live-chunk : (c i g : ℕ) → 0 < g → chunkOf c i g ≡ some (chunk c i g)
 live-chunk c i zero h = absurd (omega arith)
 live-chunk c i (suc g) h = refl
 

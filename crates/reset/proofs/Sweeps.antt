@@ -1,8 +1,7 @@
 -- The walk of a reset: over the segments, and over the chunks of a zone. Assumes nothing.
-use Prim.Native.Nat.{ℕ, zero, suc, _+_, _-_, _*_, _%_, _≤_, _<_}
+use Prim.Native.Nat.{ℕ, _+_, _-_, _*_, _%_, _≤_, _<_}
 use mathlib.Core.Path.{_≡_, refl, sym, ap, _∙_, subst}
 use mathlib.Core.List.{List, [], _∷_, _++_, append-assoc}
-use mathlib.Core.Option.{some}
 use mathlib.Core.Bool.{true, false}
 use native.Mathlib.Omega.{arith}
 use native.Mathlib.Nat.{mul-div-cancel, mul-mod-left}
@@ -13,7 +12,7 @@ use Rattle.model.specs.Sizes.{room, chunks}
 use Rattle.model.specs.Arena.{Segment, direct, zone, pages, total, Each}
 use Rattle.model.specs.Zone.{Zone, touched, putBack}
 use Rattle.model.specs.State.{State, zoneAt, putZone}
-use Rattle.model.specs.PageMap.{pageMap, occupancy, idleZone, whole, chunk, chunkOf, blockAt}
+use Rattle.model.specs.PageMap.{pageMap, occupancy, idleZone, whole, chunkOf, blockAt}
 use Rattle.model.specs.Valid.{ValidZone, Valid}
 use Rattle.model.specs.Pages.{release}
 use Rattle.model.specs.Free.{chunkBack, freedIf, freedAll, offsetsOf}
@@ -22,6 +21,7 @@ use Rattle.model.proofs.Moves.{put-size, put-apart, put-sound}
 use Rattle.model.proofs.Sizes.{room-pos, chunk-begins}
 use Rattle.model.proofs.Zones.{owned-touched, putBack-valid}
 use Rattle.model.proofs.ValidFree.{freed-valid}
+use Rattle.model.proofs.Allocated.{live-chunk}
 use Rattle.pages.specs.Encoding.{Writable}
 use Rattle.pages.proofs.Laws.{each-right}
 use Rattle.pages.specs.Places.{runPages, Stands}
@@ -114,11 +114,7 @@ chunk-told s v {p} {b} i g z st e h =
     block-here s st (p * 4096 + i * room (z .class)) (i * room (z .class)) refl (chunk-begins (z .class) i low)
     ∙ rw (eq-eqb (i * room (z .class) % room (z .class)) 0 (mul-mod-left i (room (z .class))))
     (ap (λ q. chunkOf (z .class) q (getD (occupancy z .groups) q 0)) (mul-div-cancel i (room-pos (z .class))) ∙ ap (chunkOf (z .class) i) (group-shown z ok i ∙ e)) in
-    (block ∙ is-some (z .class) i g h, (z, st, refl, e), refl)
-  where
-    is-some : (c i g : ℕ) → 0 < g → chunkOf c i g ≡ some (chunk c i g)
-    is-some c i zero h = absurd (omega arith)
-    is-some c i (suc g) h = refl
+    (block ∙ live-chunk (z .class) i g h, (z, st, refl, e), refl)
 
 module _ {g c n p b i k : ℕ} {t : State} {w : List ℕ} (h : InZone g t c w n p b i k) where
   abbrev s : State

@@ -8,7 +8,7 @@ use lib.ListN.{length, take, drop, length-drop}
 use lib.Seq.{take-all, drop-length, length-take-le}
 use borrow.Author.Tests.{lt-ltb}
 use Rattle.lemmas.specs.Parts.{mid, putMid}
-use Rattle.model.specs.Numbers.{headerWords}
+use Rattle.model.specs.Numbers.{pageBytes, headerWords}
 use Rattle.model.specs.Arena.{Segment, run, pages, bytes, total, locate, edit, Each}
 use Rattle.model.specs.Zone.{Zone}
 use Rattle.model.specs.Pages.{withRun, carve, freePages, release}
@@ -71,18 +71,18 @@ module _ {w : List ℕ} (h : Lent w) where
 -- Segments that begin at a page ----------------------------------------------------------------------------------------------------
 
 module _ {m : List (Segment Zone)} {p b : ℕ} {x : Segment Zone} (s : Stands m p b x) (pos : 0 < pages x) where
-  pub stands-begins : Begins (p * 4096) m x
+  pub stands-begins : Begins (p * pageBytes) m x
   stands-begins =
-      ap (λ l. locate (p * 4096) l) (s .whole)
-      ∙ ap (λ o. locate o (s .before ++ (x ∷ s .behind))) (let e : p * 4096 ≡ total (s .before) * 4096 + 0 = omega (arith, s .starts) in e)
+      ap (λ l. locate (p * pageBytes) l) (s .whole)
+      ∙ ap (λ o. locate o (s .before ++ (x ∷ s .behind))) (let e : p * pageBytes ≡ total (s .before) * pageBytes + 0 = omega (arith, s .starts) in e)
       ∙ locate-right (s .before) (x ∷ s .behind) 0
       ∙ rw (lt-ltb 0 (bytes x) (omega arith))
 
-  pub release-total : total (release (p * 4096) m) ≡ total m
-  release-total = total-joined (λ _. false) 0 (edit (p * 4096) freePages m) ∙ omega (arith, total-edit (p * 4096) freePages m (record { away = 0; segment = x }) stands-begins (omega arith))
+  pub release-total : total (release (p * pageBytes) m) ≡ total m
+  release-total = total-joined (λ _. false) 0 (edit (p * pageBytes) freePages m) ∙ omega (arith, total-edit (p * pageBytes) freePages m (record { away = 0; segment = x }) stands-begins (omega arith))
 
 pub carve-total : {m : List (Segment Zone)} {p b len : ℕ} (s : Stands m p b (run len)) (need : ℕ) (x : Segment Zone) → pages x ≡ need → 0 < need → need ≤ len →
     total (carve (record { page = p; size = len }) need x m) ≡ total m
 carve-total {m} {p} {b} {len} s need x e pos h =
-    total-edit (p * 4096) (λ _. x ∷ withRun (len - need) []) m (record { away = 0; segment = run len }) (stands-begins s (omega arith))
+    total-edit (p * pageBytes) (λ _. x ∷ withRun (len - need) []) m (record { away = 0; segment = run len }) (stands-begins s (omega arith))
     (omega (arith, total-withRun {Z = Zone} (len - need) []))

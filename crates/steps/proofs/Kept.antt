@@ -4,7 +4,7 @@ use mathlib.Core.Path.{_≡_, sym, ap, _∙_, subst}
 use mathlib.Core.List.{List, [], _∷_}
 use native.Mathlib.Omega.{arith}
 use lib.ListN.{length, set}
-use Rattle.model.specs.Numbers.{classCount}
+use Rattle.model.specs.Numbers.{pageBytes, classCount}
 use Rattle.model.specs.Arena.{Segment, zone, pages, total}
 use Rattle.model.specs.Zone.{Zone}
 use Rattle.model.specs.State.{State, listOf, arranged, ZoneAt, zoneIn, zoneAt, putZone}
@@ -42,7 +42,7 @@ module _ {w : List ℕ} {s : State} (h : Encodes w s) (v : List ℕ) where
   kept-zone p z z′ b k e = record {
     words = e;
     fits = subst (λ n. Fits n (s .spare) (s .lists)) (sym (put-size (s .segments) p z z′ b)) (h .fits);
-    sound = each-edit Writable (p * 4096) (λ _. zone z′ ∷ []) (λ _ _. ((omega arith, k), tt)) (s .segments) (h .sound);
+    sound = each-edit Writable (p * pageBytes) (λ _. zone z′ ∷ []) (λ _ _. ((omega arith, k), tt)) (s .segments) (h .sound);
   }
 
   pub kept-without : (c p : ℕ) → c < classCount → v ≡ encode (unlisted c p s) → Encodes v (unlisted c p s)

@@ -1,6 +1,6 @@
 -- The words of a state in their parts: the header, the pages' words, one zone's; and all words when a part has come back changed.
 -- Assumes nothing.
-use Prim.Native.Nat.{ℕ, _+_, _-_, _*_, _≤_}
+use Prim.Native.Nat.{ℕ, _+_, _*_, _≤_}
 use mathlib.Core.Path.{_≡_, sym, ap, _∙_, subst}
 use mathlib.Core.List.{List, [], _∷_, _++_, append-assoc}
 use mathlib.Core.Bool.{true, false}
@@ -9,7 +9,7 @@ use lib.ListN.{length, take, drop, length-append}
 use lib.Seq.{take-at, drop-at, take-all}
 use Rattle.lemmas.specs.Parts.{mid, putMid}
 use Rattle.lemmas.proofs.Parts.{mid-at, put-at}
-use Rattle.model.specs.Numbers.{zonePages, mostPages, headerWords, pageWords}
+use Rattle.model.specs.Numbers.{pageBytes, zonePages, mostPages, headerWords, pageWords}
 use Rattle.model.specs.Arena.{Segment, zone, total, Each}
 use Rattle.model.specs.Zone.{Zone}
 use Rattle.model.specs.State.{State, arranged, ZoneAt, putZone}
@@ -25,7 +25,6 @@ use Rattle.zone.specs.Decoding.{isZone, zoneOf}
 use Rattle.zone.proofs.Encoded.{encoding-zone, zone-decoded}
 use Rattle.zone.proofs.Words.{length-encoding}
 use Rattle.pages.specs.Encoding.{segmentEncoding, segmentsEncoding, Writable}
-use Rattle.pages.specs.Decoding as pages
 use Rattle.pages.specs.Decoding.{segmentsOf, Holds}
 use Rattle.pages.proofs.Laws.{length-segments, encoding-append, each-left, each-right}
 use Rattle.pages.proofs.Decoded.{segments-decoded}
@@ -100,8 +99,8 @@ module _ {w : List ℕ} {s : State} (h : Encodes w s) where
 
   -- One zone's words, and when they have come back.
   module _ (p : ℕ) (z : Zone) (b : ZoneAt (s .segments) p z) where
-    abbrev there : Split (p * 4096) (s .segments) (record { away = 0; segment = zone z })
-    there = split (p * 4096) (s .segments) (record { away = 0; segment = zone z }) b
+    abbrev there : Split (p * pageBytes) (s .segments) (record { away = 0; segment = zone z })
+    there = split (p * pageBytes) (s .segments) (record { away = 0; segment = zone z }) b
 
     sound-all : Each Writable (there .before ++ (zone z ∷ there .behind))
     sound-all = subst (λ l. Each Writable l) (there .whole) (h .sound)

@@ -8,7 +8,7 @@ ghost use lib.ListN.{length, getD, drop};
 ghost use Rattle.model.specs.Arena.{Segment, run, direct, zone, pages, total};
 ghost use Rattle.model.specs.Zone.{Zone, touched, full, newZone, nextChunk, granted, putBack};
 ghost use Rattle.model.specs.Pages.{claim};
-ghost use Rattle.model.specs.State.{State, listOf, zoneAt};
+ghost use Rattle.model.specs.State.{listOf, zoneAt};
 ghost use Rattle.model.specs.PageMap.{idleZone};
 ghost use Rattle.model.specs.Valid.{Apart};
 ghost use Rattle.header.specs.Keys.{keysOf};

@@ -2,12 +2,11 @@
 use Prim.Native.Nat.{ℕ, _+_, _-_, _≤_, _<_}
 use mathlib.Core.Path.{_≡_, refl, sym, ap, _∙_, subst}
 use mathlib.Core.List.{List, [], _∷_}
-use mathlib.Core.Bool.{true, false, cond}
+use mathlib.Core.Bool.{true, false}
 use native.Mathlib.Omega.{arith}
-use lib.Dec.{eqb}
 use lib.ListN.{length}
 use Rattle.model.specs.Numbers.{zonePages, mostPages}
-use Rattle.model.specs.Arena.{Segment, run, direct, zone, pages, total}
+use Rattle.model.specs.Arena.{zone, pages, total}
 use Rattle.model.specs.Zone.{Zone}
 use Rattle.model.specs.PageMap.{idleZone}
 use Rattle.model.specs.Pages.{withRun}
@@ -15,7 +14,6 @@ use Rattle.model.specs.Trim.{idleCount, trimmed}
 use Rattle.model.proofs.Arena.{total-append}
 use Rattle.model.proofs.Joins.{total-withRun}
 use Rattle.header.proofs.Kept.{fits-spare-clear}
-use Rattle.pages.specs.Encoding.{kindOf}
 use Rattle.pages.specs.Places.{runPages, runAtStart, Stands}
 use Rattle.metadata.specs.Encoding.{encode}
 use Rattle.metadata.specs.Decoding.{decode}
@@ -53,11 +51,6 @@ module _ {v : List ℕ} {n : ℕ} (g : Good v n) {w : List ℕ} (e : w ≡ encod
 
   pub trim-long : {u : List ℕ} {p b k : ℕ} → Trimming w u n p b k → length u ≡ length v
   trim-long i = omega (arith, lent-long (i .lent), i .sweep .size, lent-long (g .lent), g .pages)
-
-run-len : (x : Segment Zone) → cond (eqb (kindOf x) 1) (pages x) 0 ≡ runPages x
-run-len (run n) = refl
-run-len (direct n g) = refl
-run-len (zone z) = refl
 
 module _ {w₀ w : List ℕ} {n p b k : ℕ} (i : Trimming w₀ w n p b k) where
   module _ (h : p < n) where
@@ -99,12 +92,9 @@ module _ {w₀ w : List ℕ} {n p b k : ℕ} (i : Trimming w₀ w n p b k) where
           now = given-back (i .lent) (i .sweep .apart) between v (e .1)
 
     -- It stays.
-    pub trim-past : idleSegment (at-page .x) ≡ false → (len kind : ℕ) → len ≡ pages (at-page .x) → kind ≡ kindOf (at-page .x) → (r : ℕ) → r ≡ cond (eqb kind 1) len 0 → Trimming w₀ w n (p + len) r k
-    trim-past f len kind el ek r er = subst (λ y. Trimming w₀ w n (p + len) y k) (sym run-is) (subst (λ y. Trimming w₀ w n (p + y) (runPages (at-page .x)) k) (sym el) (record {
+    pub trim-past : idleSegment (at-page .x) ≡ false → (len r : ℕ) → len ≡ pages (at-page .x) → r ≡ runPages (at-page .x) → Trimming w₀ w n (p + len) r k
+    trim-past f len r el er = subst (λ y. Trimming w₀ w n (p + len) y k) (sym er) (subst (λ y. Trimming w₀ w n (p + y) (runPages (at-page .x)) k) (sym el) (record {
       lent = i .lent;
       sweep = sweep-past (i .sweep) at-page f;
       most = i .most;
     }))
-      where
-        run-is : r ≡ runPages (at-page .x)
-        run-is = er ∙ (λ j. cond (eqb (ek j) 1) (el j) 0) ∙ run-len (at-page .x)

@@ -70,8 +70,7 @@ pub fn trim_all(words: &mut [u32], n: usize) -> u32
             continue;
         }
         let len = steps::size_at(words, n, p);
-        let kind = steps::kind_at(words, p);
-        before = pages::find::run_len(kind, len);
+        before = steps::run_at(words, n, p);
         p += len;
     }
     count

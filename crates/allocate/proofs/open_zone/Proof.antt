@@ -18,7 +18,7 @@ abbrev at : tie.After-take-zone → tie.After-at
 at c = c .before .before .before
 
 find-run-requires : tie.Need-find-run-requires
-find-run-requires c κs = c .before .before .pre .0 .good
+find-run-requires c κs = let g = c .before .before .pre .0 .good in (g .lent, g .pages)
 
 returns : tie.Need-returns
 returns c =

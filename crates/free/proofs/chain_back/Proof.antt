@@ -48,7 +48,8 @@ list-front-requires c κs =
     let z₂ = zone-full t in
     let s = start z₂ in
     let h = s .pre in
-    (mid-lent (h .0) (h .1) (z .zone-put-back .ensures), (omega (arith, z₁ .zone-class .ensures, live-class (h .0) (h .1)), live-page (h .0) (h .1), mid-room (h .0) (h .1) (z .zone-put-back .ensures) (sym (z₂ .zone-full .ensures) ∙ t .if1 .taken)))
+    let e = z .zone-put-back .ensures in
+    (mid-lent (h .0) (h .1) e, (omega (arith, z₁ .zone-class .ensures, live-class (h .0) (h .1)), live-page (h .0) (h .1), mid-room (h .0) (h .1) e (sym (z₂ .zone-full .ensures) ∙ t .if1 .taken)))
 
 returns : tie.Need-returns
 returns c =

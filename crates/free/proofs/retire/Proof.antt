@@ -1,7 +1,10 @@
 -- `retire` meets its contract. Assumes nothing.
 use native.Mathlib.Omega.{arith}
-use Rattle.steps.proofs.Body.{has-header, header-long}
-use Rattle.free.proofs.Retired.{zone-page, zone-class, off-lent, off-header, off-count, off-room, off-spared, off-stands, off-apart, off-total, off-released}
+use Prim.Native.Nat.{_<_}
+use lib.ListN.{length}
+use Rattle.model.specs.Numbers.{mostSpare}
+use Rattle.metadata.specs.Decoding.{decode}
+use Rattle.free.proofs.Retired.{zone-page, zone-class, off-lent, off-count, off-room, off-spared, off-stands, off-apart, off-total, off-released}
 use borrow.Author.Needs.{needs}
 use Rattle.free.proofs.retire.Statement.{statement}
 use Rattle.free.proofs.retire.Tie as tie
@@ -25,23 +28,11 @@ cast-list-without c = let h = c .before .before .pre in omega (arith, zone-page 
 list-without-requires : tie.Need-list-without-requires
 list-without-requires c κs = let h = c .before .before .pre in (h .0 .lent, (zone-class (h .0) (h .1 .0) (h .1 .1) (h .1 .2), zone-page (h .0) (h .1 .0) (h .1 .1) (h .1 .2)))
 
-slice-reshare-prefix-spare-count : tie.Need-slice-reshare-prefix-spare-count
-slice-reshare-prefix-spare-count c =
-    let l = c .before .before in
-    let s = start l in
-    let h = s .pre in has-header (off-lent (h .0) (h .1 .0) (h .1 .1) (h .1 .2) (l .list-without .ensures))
-
-slice-aggregate-spare-count : tie.Need-slice-aggregate-spare-count
-slice-aggregate-spare-count c =
-    let l = c .before .before .before in
-    let s = start l in
-    let h = s .pre in header-long (off-lent (h .0) (h .1 .0) (h .1 .1) (h .1 .2) (l .list-without .ensures))
-
 spare-count-requires : tie.Need-spare-count-requires
 spare-count-requires c κs =
     let l = c .before .before .before in
     let s = start l in
-    let h = s .pre in off-header (h .0) (h .1 .0) (h .1 .1) (h .1 .2) (l .list-without .ensures)
+    let h = s .pre in off-lent (h .0) (h .1 .0) (h .1 .1) (h .1 .2) (l .list-without .ensures)
 
 cast-spare-front : tie.Need-cast-spare-front
 cast-spare-front c =
@@ -55,7 +46,8 @@ spare-front-requires c κs =
     let s₁ = start l in
     let h = s₁ .pre in
     let e = l .list-without .ensures in
-    (off-lent (h .0) (h .1 .0) (h .1 .1) (h .1 .2) e, (zone-page (h .0) (h .1 .0) (h .1 .1) (h .1 .2), off-room (h .0) (h .1 .0) (h .1 .1) (h .1 .2) e (omega (arith, off-count (h .0) (h .1 .0) (h .1 .1) (h .1 .2) e _ (s .spare-count .ensures), c .before .if1 .taken))))
+    let few : length (decode (s₁ .args .words .now) .spare) < mostSpare = omega (arith, off-count (h .0) (h .1 .0) (h .1 .1) (h .1 .2) e _ (s .spare-count .ensures), c .before .if1 .taken) in
+    (off-lent (h .0) (h .1 .0) (h .1 .1) (h .1 .2) e, (zone-page (h .0) (h .1 .0) (h .1 .1) (h .1 .2), off-room (h .0) (h .1 .0) (h .1 .1) (h .1 .2) e few))
 
 returns : tie.Need-returns
 returns c =
@@ -93,8 +85,6 @@ retire-spec =
     (tie.spec
     cast-list-without
     list-without-requires
-    slice-reshare-prefix-spare-count
-    slice-aggregate-spare-count
     spare-count-requires
     cast-spare-front
     spare-front-requires

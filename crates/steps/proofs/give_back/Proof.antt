@@ -4,6 +4,7 @@ use mathlib.Core.Bool.{false}
 use mathlib.Core.Path.{_≡_}
 use Prim.Native.Nat.{_*_}
 use Rattle.pages.specs.Places.{Stands, runPages}
+use Rattle.model.specs.Numbers.{pageBytes}
 use Rattle.model.specs.Valid.{Apart}
 use Rattle.model.specs.Pages.{release}
 use Rattle.model.specs.Zone.{Zone}
@@ -29,7 +30,7 @@ give-back-requires c κs =
 returns : tie.Need-returns
 returns c =
     let s = c .before .before .before .before .before in
-    let h = s .pre in body-back (h .0 .0) _ (λ m. release (s .args .at * 4096) m) (release-total (h .1 .1 .1) (has-pages (h .0 .0) (h .1 .1 .1))) (c .before .before .give-back .ensures)
+    let h = s .pre in body-back (h .0 .0) _ (λ m. release (s .args .at * pageBytes) m) (release-total (h .1 .1 .1) (has-pages (h .0 .0) (h .1 .1 .1))) (c .before .before .give-back .ensures)
 
 pub give-back-spec : {M : Type 1} → statement M
 give-back-spec =

@@ -13,76 +13,115 @@ Inv-loop words₀ n p₀ before₀ count₀ words p before count = Trimming word
 abbrev μ-loop : tie.MeasureT-loop
 μ-loop words₀ n p₀ before₀ count₀ words p before count = n - p
 
+-- The places that answers speak of, each from the next one.
+abbrev start : tie.After-spare-none Inv-loop μ-loop → tie.Start Inv-loop μ-loop
+start c = c .before .before .before
+
+abbrev emptied : tie.At-loop Inv-loop μ-loop → tie.After-spare-none Inv-loop μ-loop
+emptied c = c .before .before .before
+
+abbrev turn : tie.After-idle-at Inv-loop μ-loop → tie.In-loop Inv-loop μ-loop
+turn c = c .before .before
+
+abbrev given : tie.After-give-zone Inv-loop μ-loop → tie.Then1 Inv-loop μ-loop
+given c = c .before .before
+
+abbrev sized : tie.After-run-at Inv-loop μ-loop → tie.After-size-at Inv-loop μ-loop
+sized c = c .before .before
+
+abbrev stays : tie.After-size-at Inv-loop μ-loop → tie.Else1 Inv-loop μ-loop
+stays c = c .before .before
+
 spare-none-requires : tie.Need-spare-none-requires Inv-loop μ-loop
 spare-none-requires c κs = c .before .before .pre .lent
 
 loop-holds : tie.Need-loop-holds Inv-loop μ-loop
-loop-holds c = trim-start (c .before .before .before .before .before .pre) (c .before .before .spare-none .ensures)
+loop-holds c = let e = c .before .before in trim-start (start e .pre) (e .spare-none .ensures)
 
 idle-at-requires : tie.Need-idle-at-requires Inv-loop μ-loop
-idle-at-requires c κs = let i = c .before .before .loop .inv in let h = c .before .loop-test .taken in (i .lent, (_, _, stands i h))
+idle-at-requires c κs = let t = c .before in let i = t .before .loop .inv in (i .lent, (_, _, stands i (t .loop-test .taken)))
 
 give-zone-requires : tie.Need-give-zone-requires Inv-loop μ-loop
 give-zone-requires c κs =
-    let i = c .before .before .before .before .before .loop .inv in
-    let h = c .before .before .before .before .loop-test .taken in
-    let f = sym (c .before .before .idle-at .ensures _ _ (stands i h)) ∙ c .before .if1 .taken in
-    ((i .lent, i .sweep .size), (i .sweep .apart, (_, _, between i h f)))
+    let z = c .before in
+    let t = turn (z .before) in
+    let i = t .before .loop .inv in
+    let h = t .loop-test .taken in
+    ((i .lent, i .sweep .size), (i .sweep .apart, (_, _, between i h (sym (z .before .idle-at .ensures _ _ (stands i h)) ∙ z .if1 .taken))))
 
 add-p : tie.Need-add-p Inv-loop μ-loop
 add-p c =
-    let i = c .before .before .before .before .before .before .before .before .loop .inv in
-    let h = c .before .before .before .before .before .before .before .loop-test .taken in
-    let f = sym (c .before .before .before .before .before .idle-at .ensures _ _ (stands i h)) ∙ c .before .before .before .before .if1 .taken in
-    omega (arith, trim-bound i h f, c .before .before .give-zone .ensures _ _ (between i h f))
+    let g = c .before .before in
+    let z = given g in
+    let t = turn (z .before) in
+    let i = t .before .loop .inv in
+    let h = t .loop-test .taken in
+    let f = sym (z .before .idle-at .ensures _ _ (stands i h)) ∙ z .if1 .taken in
+    omega (arith, trim-bound i h f, g .give-zone .ensures _ _ (between i h f))
 
 loop-less : tie.Need-loop-less Inv-loop μ-loop
 loop-less c =
-    let i = c .before .before .before .before .before .before .before .before .loop .inv in
-    let h = c .before .before .before .before .before .before .before .loop-test .taken in
-    let f = sym (c .before .before .before .before .before .idle-at .ensures _ _ (stands i h)) ∙ c .before .before .before .before .if1 .taken in
-    omega (arith, trim-bound i h f, c .before .before .give-zone .ensures _ _ (between i h f))
+    let g = c .before .before in
+    let z = given g in
+    let t = turn (z .before) in
+    let i = t .before .loop .inv in
+    let h = t .loop-test .taken in
+    let f = sym (z .before .idle-at .ensures _ _ (stands i h)) ∙ z .if1 .taken in
+    omega (arith, trim-bound i h f, g .give-zone .ensures _ _ (between i h f))
 
 loop-again : tie.Need-loop-again Inv-loop μ-loop
 loop-again c =
-    let i = c .before .before .before .before .before .before .before .before .loop .inv in
-    let h = c .before .before .before .before .before .before .before .loop-test .taken in
-    let f = sym (c .before .before .before .before .before .idle-at .ensures _ _ (stands i h)) ∙ c .before .before .before .before .if1 .taken in
-    trim-given i h f _ _ (c .before .before .give-zone .ensures _ _ (between i h f))
+    let g = c .before .before in
+    let z = given g in
+    let t = turn (z .before) in
+    let i = t .before .loop .inv in
+    let h = t .loop-test .taken in
+    let f = sym (z .before .idle-at .ensures _ _ (stands i h)) ∙ z .if1 .taken in
+    trim-given i h f _ _ (g .give-zone .ensures _ _ (between i h f))
 
 size-at-requires : tie.Need-size-at-requires Inv-loop μ-loop
-size-at-requires c κs = let i = c .before .before .before .before .before .loop .inv in let h = c .before .before .before .before .loop-test .taken in ((i .lent, i .sweep .size), (_, _, stands i h))
+size-at-requires c κs =
+    let t = turn (c .before .before) in
+    let i = t .before .loop .inv in
+    ((i .lent, i .sweep .size), (_, _, stands i (t .loop-test .taken)))
 
-kind-at-requires : tie.Need-kind-at-requires Inv-loop μ-loop
-kind-at-requires c κs =
-    let i = c .before .before .before .before .before .before .before .loop .inv in
-    let h = c .before .before .before .before .before .before .loop-test .taken in
-    (i .lent, (_, _, stands i h))
+run-at-requires : tie.Need-run-at-requires Inv-loop μ-loop
+run-at-requires c κs =
+    let t = turn (stays (c .before) .before) in
+    let i = t .before .loop .inv in
+    ((i .lent, i .sweep .size), (_, _, stands i (t .loop-test .taken)))
 
 add-p-2 : tie.Need-add-p-2 Inv-loop μ-loop
 add-p-2 c =
-    let i = c .before .before .before .before .before .before .before .before .before .loop .inv in
-    let h = c .before .before .before .before .before .before .before .before .loop-test .taken in
-    omega (arith, trim-inside i h, c .before .before .before .size-at .ensures _ _ (stands i h), i .most)
+    let l = sized c in
+    let t = turn (stays l .before) in
+    let i = t .before .loop .inv in
+    let h = t .loop-test .taken in
+    omega (arith, trim-inside i h, l .size-at .ensures _ _ (stands i h), i .most)
 
 loop-less-2 : tie.Need-loop-less-2 Inv-loop μ-loop
 loop-less-2 c =
-    let i = c .before .before .before .before .before .before .before .before .before .loop .inv in
-    let h = c .before .before .before .before .before .before .before .before .loop-test .taken in
-    omega (arith, trim-inside i h, c .before .before .before .size-at .ensures _ _ (stands i h))
+    let l = sized c in
+    let t = turn (stays l .before) in
+    let i = t .before .loop .inv in
+    let h = t .loop-test .taken in
+    omega (arith, trim-inside i h, l .size-at .ensures _ _ (stands i h))
 
 loop-again-2 : tie.Need-loop-again-2 Inv-loop μ-loop
 loop-again-2 c =
-    let i = c .before .before .before .before .before .before .before .before .before .loop .inv in
-    let h = c .before .before .before .before .before .before .before .before .loop-test .taken in
-    trim-past i h (sym (c .before .before .before .before .before .before .idle-at .ensures _ _ (stands i h)) ∙ c .before .before .before .before .before .if1 .left) _ _
-    (c .before .before .before .size-at .ensures _ _ (stands i h)) (c .before .kind-at .ensures _ _ (stands i h)) _ (c .run-len .ensures)
+    let l = sized c in
+    let e = stays l in
+    let t = turn (e .before) in
+    let i = t .before .loop .inv in
+    let h = t .loop-test .taken in
+    let s = stands i h in
+    trim-past i h (sym (e .before .idle-at .ensures _ _ s) ∙ e .if1 .left) _ _ (l .size-at .ensures _ _ s) (c .run-at .ensures _ _ s)
 
 same-length : tie.Need-same-length Inv-loop μ-loop
-same-length c = trim-long (c .before .before .before .before .before .before .before .pre) (c .before .before .before .before .spare-none .ensures) (c .before .loop .inv)
+same-length c = let e = emptied (c .before) in trim-long (start e .pre) (e .spare-none .ensures) (c .before .loop .inv)
 
 returns : tie.Need-returns Inv-loop μ-loop
-returns c = trim-end (c .before .before .before .before .before .before .before .pre) (c .before .before .before .before .spare-none .ensures) (c .before .loop .inv) (c .loop-test .left)
+returns c = let e = emptied (c .before) in trim-end (start e .pre) (e .spare-none .ensures) (c .before .loop .inv) (c .loop-test .left)
 
 pub trim-all-spec : {M : Type 1} → statement M
 trim-all-spec =
@@ -100,8 +139,7 @@ trim-all-spec =
     loop-less
     loop-again
     size-at-requires
-    kind-at-requires
-    (search needs)
+    run-at-requires
     add-p-2
     loop-less-2
     loop-again-2
