@@ -4,7 +4,7 @@ use Prim.Native.Nat.{ℕ, _-_, _*_, _≤_}
 use mathlib.Core.Path.{_≡_, sym, ap, _∙_, subst}
 use mathlib.Core.List.{List, _++_}
 use mathlib.Core.Option.{none, some}
-use mathlib.Core.Bool.{true, false}
+use mathlib.Core.Bool.{Bool, true, false}
 use native.Mathlib.Omega.{arith}
 use lib.ListN.{length, take, drop}
 use lib.Seq.{length-take-le}
@@ -28,32 +28,31 @@ use Rattle.listing.specs.Into.{listAnswer, listedInto}
 use Rattle.listing.proofs.Into.{list-answer}
 use Rattle.metadata.specs.Encoding.{encode}
 use Rattle.metadata.specs.Decoding.{headerPart, pagesPart, decode, isState, stateOf}
-use Rattle.metadata.proofs.States.{state-valid, state-begins, state-read, encode-long, stateOf-some, stateOf-none}
+use Rattle.metadata.proofs.States.{state-valid, state-begins, state-read, state-pages, encode-long, stateOf-some, stateOf-none}
 use Rattle.steps.specs.Lent.{Good}
 use Rattle.steps.proofs.Kept.{good-of, good-decoded}
 use Rattle.slab.specs.Calls.{answerOf, metaAfter, listedOf, textAfter}
 use Rattle.slab.specs.Arena.{pagesOf, Arena}
 use Rattle.slab.proofs.Words.{front-fits, refused-same, unserved-answer, served-long, served-answer, served-words}
 
+-- A test that cannot come out so proves any.
+pub never-true : {b : Bool} → false ≡ true → b ≡ true
+never-true e = cc
+
+pub never-false : {b : Bool} → true ≡ false → b ≡ false
+never-false e = cc
+
 -- The arena's pages, as the check tells them ----------------------------------------------------------------------------------------
 
 module _ (w : List ℕ) where
-  pub decoded-pages : isState w ≡ true → total (decode w .segments) ≡ pagesIn (headerPart w)
-  unfolding decode
-  decoded-pages t = state-read w t .segments .covers
-
   state-is : isState w ≡ true → stateOf w ≡ some (decode w)
   state-is t = stateOf-some w (decode w) (state-valid w t) (state-begins w t)
-
-  -- The header of words that pass.
-  pub header-there : isState w ≡ true → (a : ℕ) → a ≡ headerWords → a ≡ length (take a w)
-  header-there t a e = sym (length-take-le a w (omega (arith, e, state-read w t .long)))
 
   pub pages-none : isState w ≡ false → 0 ≡ pagesOf (stateOf w)
   pages-none t = ap (λ x. pagesOf x) (sym (stateOf-none w t))
 
-  pub pages-some : isState w ≡ true → (n : ℕ) → n ≡ pagesIn (headerPart w) → n ≡ pagesOf (stateOf w)
-  pages-some t n e = e ∙ sym (decoded-pages t) ∙ ap (λ x. pagesOf x) (sym (state-is t))
+  pub pages-some : isState w ≡ true → (n : ℕ) → n ≡ total (decode w .segments) → n ≡ pagesOf (stateOf w)
+  pages-some t n e = e ∙ ap (λ x. pagesOf x) (sym (state-is t))
 
   module _ (n : ℕ) (is : n ≡ pagesOf (stateOf w)) where
     -- No pages: the words encode no state, and the call is refused.
@@ -121,29 +120,33 @@ module _ {w : List ℕ} {n : ℕ} (h : Arena w n) where
         ∙ sym (served-words w (decode w) valid (state-begins w (h .state)) a)
 
     -- Both, the words first: a call that answers and leaves other words is refused for its words.
-    pub arena-served : (a : Action) (r : Answer) (v : List ℕ) → v ≡ encode ((serve (decode (take e w)) a) .after) → r ≡ (serve (decode (take e w)) a) .answer → (r ≡ answerOf w (act a)) × (v ++ drop e w ≡ metaAfter w (act a))
+    pub arena-served : (a : Action) (r : Answer) (v : List ℕ) → v ≡ encode ((serve (decode (take e w)) a) .after) → r ≡ (serve (decode (take e w)) a) .answer →
+        (r ≡ answerOf w (act a)) × (v ++ drop e w ≡ metaAfter w (act a))
     arena-served a r v q p = (arena-answer a r p, arena-words a v q)
 
     -- The pages' words, for the listing.
     part-is : mid headerWords (e - headerWords) w ≡ pagesPart w
-    part-is = ap (λ k. mid headerWords k w) (let q : e - headerWords ≡ pageWords * pagesIn (headerPart w) = omega (arith, at, h .pages, decoded-pages w (h .state)) in q)
+    part-is = ap (λ k. mid headerWords k w) (let q : e - headerWords ≡ pageWords * pagesIn (headerPart w) = omega (arith, at, h .pages, state-pages w (h .state)) in q)
 
     pub arena-holds : Holds (mid headerWords (e - headerWords) w) n
-    arena-holds = subst (λ l. Holds l n) (sym part-is) (subst (Holds (pagesPart w)) (sym (h .pages ∙ decoded-pages w (h .state))) (state-read w (h .state) .segments))
+    arena-holds = subst (λ l. Holds l n) (sym part-is) (subst (Holds (pagesPart w)) (sym (h .pages ∙ state-pages w (h .state))) (state-read w (h .state) .segments))
 
     map-is : listingText (shown (segmentsOf (mid headerWords (e - headerWords) w))) ≡ listingText (pageMap (decode w))
     unfolding decode
     map-is = ap (λ l. listingText (shown (segmentsOf l))) part-is
 
     pub arena-listing : (b : List ℕ) (r : Answer) → r ≡ listAnswer (length b) (listingText (shown (segmentsOf (mid headerWords (e - headerWords) w)))) → r ≡ answerOf w (act (listing (length b)))
-    arena-listing b r q = q ∙ ap (λ t. listAnswer (length b) t) map-is ∙ list-answer (length b) (decode w) ∙ sym (served-answer w (decode w) valid (state-begins w (h .state)) (listing (length b)))
+    arena-listing b r q =
+        q ∙ ap (λ t. listAnswer (length b) t) map-is ∙ list-answer (length b) (decode w) ∙ sym (served-answer w (decode w) valid (state-begins w (h .state)) (listing (length b)))
 
     pub arena-text : (b v : List ℕ) → v ≡ listedInto b (listingText (shown (segmentsOf (mid headerWords (e - headerWords) w)))) → v ≡ textAfter w b
     unfolding textAfter
     arena-text b v q = q ∙ ap (λ t. listedInto b t) map-is ∙ ap (λ x. listedOf x b) (sym (state-is w (h .state)))
 
 -- A group's call, told by its group and what it asks.
-pub same-call : (w : List ℕ) (c : Call) (q : Operation) → c .operation ≡ q → (r : Answer) (v : List ℕ) → (r ≡ answerOf w (act (group (record { group = c .group; operation = q })))) × (v ≡ metaAfter w (act (group (record { group = c .group; operation = q })))) → (r ≡ answerOf w (act (group c))) × (v ≡ metaAfter w (act (group c)))
+pub same-call : (w : List ℕ) (c : Call) (q : Operation) → c .operation ≡ q → (r : Answer) (v : List ℕ) →
+    (r ≡ answerOf w (act (group (record { group = c .group; operation = q })))) × (v ≡ metaAfter w (act (group (record { group = c .group; operation = q })))) →
+    (r ≡ answerOf w (act (group c))) × (v ≡ metaAfter w (act (group c)))
 same-call w c q e r v h =
     let k : record { group = c .group; operation = q } ≡ c = λ i. record { group = c .group; operation = sym e i } in
     (h .0 ∙ ap (λ d. answerOf w (act (group d))) k, h .1 ∙ ap (λ d. metaAfter w (act (group d))) k)

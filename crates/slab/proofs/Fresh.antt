@@ -1,47 +1,25 @@
--- Init: its refusals, and the words that it sets up. Assumes nothing.
-use Prim.Native.Nat.{ℕ, _+_, _-_, _≤_, _<_}
+-- Init: its refusals, and the words that it leaves. Assumes nothing.
+use Prim.Native.Nat.{ℕ, _≤_, _<_}
 use mathlib.Core.Path.{_≡_, refl, sym, ap, _∙_}
-use mathlib.Core.List.{List, [], _∷_, _++_, append-assoc}
+use mathlib.Core.List.{List, _++_}
 use mathlib.Core.Option.{some}
 use mathlib.Core.Bool.{Bool, true, false, _&&_}
 use native.Mathlib.Omega.{arith}
 use lib.Dec.{leb}
-use lib.ListN.{length, take, drop, replicate}
-use lib.Seq.{length-take-le, take-at, drop-at, drop-drop}
+use lib.ListN.{length, drop}
 use borrow.Author.Tests.{leb-true, le-leb, lt-leb}
-use Rattle.lemmas.specs.Parts.{putMid}
 use Rattle.lemmas.proofs.Cases.{and-left, and-right, and-both, refuted}
-use Rattle.model.specs.Numbers.{classCount, mostPages, headerWords}
+use Rattle.model.specs.Numbers.{mostPages}
 use Rattle.model.specs.declared.Refusal.the-variants.{BadPages, FewWords}
 use Rattle.model.specs.declared.Answer.the-variants.{Refused, Done}
-use Rattle.model.specs.Arena.{run, total}
 use Rattle.model.specs.State.{freshState}
 use Rattle.model.specs.Calls.{init, Outcome, answers, isRefused, provided}
 use Rattle.model.specs.Perform.{Metadata, wordsFor, holding}
 use Rattle.model.proofs.Validity.{fresh-valid}
-use Rattle.header.specs.Encoding.{headerEncoding}
-use Rattle.header.proofs.Encoded.{length-header}
-use Rattle.pages.specs.Encoding.{segmentsEncoding}
 use Rattle.metadata.specs.Encoding.{encode}
 use Rattle.metadata.proofs.States.{encode-long}
 use Rattle.slab.specs.Calls.{viewOf, written, answerOf, metaAfter}
 use Rattle.slab.proofs.Words.{refused-same}
-
--- The front of words, as long as it was asked.
-pub front-there : (a : ℕ) (w : List ℕ) → a ≤ length w → length (take a w) ≡ a
-front-there a w h = length-take-le a w h
-
--- Words h and g, of a and k words, in front of what stood behind.
-put-front : (a k : ℕ) (w h g : List ℕ) → length h ≡ a → putMid a k (h ++ drop a w) g ≡ (h ++ g) ++ drop (a + k) w
-put-front a k w h g l =
-    (λ i. take-at h (drop a w) a l i ++ (g ++ drop k (drop-at h (drop a w) a l i)))
-    ∙ ap (λ d. h ++ (g ++ d)) (drop-drop k a w)
-    ∙ sym (append-assoc h g (drop (a + k) w))
-
--- The words of the fresh state.
-fresh-encoded : (n : ℕ) → headerEncoding n [] (replicate classCount []) ++ segmentsEncoding (run n ∷ []) ≡ encode (freshState n)
-unfolding encode
-fresh-encoded n = ap (λ k. headerEncoding k [] (replicate classCount []) ++ segmentsEncoding (run n ∷ [])) (let q : n ≡ total (freshState n .segments) = omega arith in q)
 
 module _ (w : List ℕ) (n : ℕ) where
   -- Init by the results of its two tests.
@@ -87,18 +65,9 @@ module _ (w : List ℕ) (n : ℕ) where
           let long : leb (wordsFor n) (length w) ≡ true = le-leb (wordsFor n) (length w) (omega (arith, at)) in
           (tested-answer true true legal long, tested-words true true legal long)
 
+      -- The words of the arena have been set up.
       pub fresh-words : length (encode (freshState n)) ≡ e
       fresh-words = omega (arith, at, encode-long (freshState n) (fresh-valid n (omega (arith, there)) few))
 
-      -- The header and the pages are set up.
-      fresh-long : headerWords + (e - headerWords) ≡ length (encode (freshState n))
-      fresh-long = omega (arith, at, fresh-words)
-
-      pub set-up-done : e ≤ length w → (h g : List ℕ) → h ≡ headerEncoding n [] (replicate classCount []) → g ≡ segmentsEncoding (run n ∷ []) → (Done ≡ answerOf w (init n)) × (putMid headerWords (e - headerWords) (h ++ drop headerWords w) g ≡ metaAfter w (init n))
-      set-up-done l h g p q = (
-        fresh-done l .0,
-        put-front headerWords (e - headerWords) w h g (ap length p ∙ length-header n [] (replicate classCount []))
-            ∙ (λ i. (p i ++ q i) ++ drop (fresh-long i) w)
-            ∙ ap (λ l. l ++ drop (length (encode (freshState n))) w) (fresh-encoded n)
-            ∙ fresh-done l .1,
-      )
+      pub set-up-done : e ≤ length w → (v : List ℕ) → v ≡ encode (freshState n) → (Done ≡ answerOf w (init n)) × (v ++ drop e w ≡ metaAfter w (init n))
+      set-up-done l v f = (fresh-done l .0, (λ i. f i ++ drop (sym fresh-words i) w) ∙ fresh-done l .1)

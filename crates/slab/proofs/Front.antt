@@ -18,10 +18,9 @@ use Rattle.model.specs.Perform.{serve, wordsFor}
 use Rattle.header.specs.Encoding.{pagesIn}
 use Rattle.metadata.specs.Encoding.{encode, BeginsWith}
 use Rattle.metadata.specs.Decoding.{decode, isState, stateOf}
-use Rattle.metadata.proofs.States.{state-valid, state-begins, encode-long, begins-state, stateOf-some, stateOf-none}
+use Rattle.metadata.proofs.States.{state-valid, state-begins, state-pages, encode-long, begins-state, stateOf-some, stateOf-none}
 use Rattle.slab.specs.Calls.{written, answerOf, metaAfter, legalPages, extent}
 use Rattle.slab.proofs.Words.{front-fits, holding-of, by-state, refused-same, unserved-answer, served-long, served-answer, served-words}
-use Rattle.slab.proofs.Acting.{decoded-pages}
 use Rattle.slab.proofs.Fresh.{bad-answer, short-answer, fresh-done, fresh-words}
 
 -- A call on the words w is the call on the first k of them, with the others behind.
@@ -49,7 +48,7 @@ module _ (w : List ℕ) (k : ℕ) where
   state-long : isState w ≡ true → length (encode (decode w)) ≡ wordsFor (legalPages (pagesIn w))
   state-long t =
       let v = state-valid w t in
-      let n : total (decode w .segments) ≡ pagesIn w = decoded-pages w t ∙ pages-named headerWords (omega arith) w in
+      let n : total (decode w .segments) ≡ pagesIn w = state-pages w t ∙ pages-named headerWords (omega arith) w in
       encode-long (decode w) v ∙ ap (λ j. wordsFor j) (n ∙ sym (legal-pages (pagesIn w) (omega (arith, v .least)) (omega (arith, v .most))))
 
   pub front-state : wordsFor (legalPages (pagesIn w)) ≤ k → stateOf (take k w) ≡ stateOf w

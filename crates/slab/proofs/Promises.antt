@@ -29,7 +29,8 @@ use Rattle.history.proofs.Theorem.{demand-3, ledger-agrees}
 use Rattle.metadata.specs.Encoding.{encode, BeginsWith}
 use Rattle.metadata.specs.Decoding.{stateOf}
 use Rattle.slab.specs.Calls.{viewOf, written, answerOf, metaAfter, listedOf, textAfter, extent}
-use Rattle.slab.proofs.Words.{holding-of, by-state, written-later, view-after, after-is, same-length, refused-same, query-same, listing-same, unserved-answer, served-long, served-answer, served-words, holding-long}
+use Rattle.slab.proofs.Words.{holding-of, by-state, written-later, view-after, after-is, same-length, refused-same}
+use Rattle.slab.proofs.Words.{query-same, listing-same, unserved-answer, served-long, served-answer, served-words, holding-long}
 use Rattle.slab.proofs.Fresh.{no-pages, many-pages, short-answer, fresh-done, fresh-words}
 use Rattle.slab.proofs.Front.{front-state, front-alone}
 use Rattle.model.proofs.Aligned as aligned
@@ -111,7 +112,8 @@ pub inside-arena : (w : List ℕ) (s : State) → stateOf w ≡ some s → (o : 
 inside-arena w s e o b f = model.inside-arena s (holding-of w s e .valid) o b f
 
 -- .. and never share a byte: two blocks that hold the byte x are one.
-pub never-share : (w : List ℕ) (s : State) → stateOf w ≡ some s → (o q : ℕ) (b c : Block) → blockAt (pageMap s) o ≡ some b → blockAt (pageMap s) q ≡ some c → (x : ℕ) → o ≤ x → x < o + roomOf b → q ≤ x → x < q + roomOf c → (o ≡ q) × (b ≡ c)
+pub never-share : (w : List ℕ) (s : State) → stateOf w ≡ some s → (o q : ℕ) (b c : Block) → blockAt (pageMap s) o ≡ some b → blockAt (pageMap s) q ≡ some c →
+    (x : ℕ) → o ≤ x → x < o + roomOf b → q ≤ x → x < q + roomOf c → (o ≡ q) × (b ≡ c)
 never-share w s e o q b c f g x i j k l = model.never-share s (holding-of w s e .valid) o q b c f g x i j k l
 
 -- A group's request of n bytes.

@@ -1,30 +1,18 @@
 // The public calls. Any words may be lent: every call but `init` first checks that they begin with the words of a valid state, and is
 // refused otherwise. specs/Calls.antt says what each call answers and leaves; proofs/Promises.antt what follows from it.
 ghost use mathlib.Core.Path.{_≡_};
-ghost use Prim.Native.Nat.{_≤_};
 ghost use lib.ListN.{length};
 ghost use Rattle.model.specs.Calls as rules;
 ghost use Rattle.model.specs.declared.Operation.the-variants as operation;
-ghost use Rattle.model.specs.Perform.{wordsFor};
 ghost use Rattle.metadata.specs.Decoding.{stateOf};
 ghost use Rattle.slab.specs.Calls.{answerOf, metaAfter, textAfter};
 ghost use Rattle.slab.specs.Arena.{pagesOf, Arena};
-ghost use Rattle.model.specs.Numbers.{mostPages};
 use model::Answer;
 use model::Call;
 use model::Operation;
 use model::Refusal;
 use model::numbers::HEADER_WORDS;
 use model::numbers::MOST_PAGES;
-use model::numbers::PAGE_WORDS;
-
-// The words of an arena of n pages.
-fn words_for(n: usize) -> usize
-    requires { ⌜ n ≤ mostPages ⌝ }
-    ensures { λ r. ⌜ r ≡ wordsFor n ⌝ }
-{
-    HEADER_WORDS + PAGE_WORDS * n
-}
 
 // The pages of the arena with whose words the words begin, 0 where they do not begin with the words of a valid state.
 fn arena_pages(meta: &[u32]) -> usize
@@ -33,7 +21,7 @@ fn arena_pages(meta: &[u32]) -> usize
     if !metadata::check(meta) {
         return 0;
     }
-    header::pages(&meta[..HEADER_WORDS]) as usize
+    metadata::pages(meta)
 }
 
 // Sets the words up for an arena of so many pages, all free, whatever the words held.
@@ -47,13 +35,11 @@ pub fn init(meta: &mut [u32], pages: u32) -> Answer
     if MOST_PAGES < pages {
         return Answer::Refused(Refusal::BadPages);
     }
-    let n = pages as usize;
-    let e = words_for(n);
+    let e = metadata::words_for(pages as usize);
     if meta.len() < e {
         return Answer::Refused(Refusal::FewWords);
     }
-    header::set_up(&mut meta[..HEADER_WORDS], pages);
-    pages::cut::set_up(&mut meta[HEADER_WORDS..e], n);
+    metadata::set_up(&mut meta[..e], pages);
     Answer::Done
 }
 
@@ -66,7 +52,7 @@ pub fn trim(meta: &mut [u32]) -> Answer
     if n == 0 {
         return Answer::Refused(Refusal::NoState);
     }
-    let e = words_for(n);
+    let e = metadata::words_for(n);
     let count = trim::trim_all(&mut meta[..e], n);
     Answer::Counted(count)
 }
@@ -80,7 +66,7 @@ pub fn query(meta: &mut [u32], offset: u32) -> Answer
     if n == 0 {
         return Answer::Refused(Refusal::NoState);
     }
-    let e = words_for(n);
+    let e = metadata::words_for(n);
     blocks::describe(&meta[..e], n, offset)
 }
 
@@ -95,7 +81,7 @@ pub fn listing(meta: &mut [u32], text: &mut [u8]) -> Answer
     if n == 0 {
         return Answer::Refused(Refusal::NoState);
     }
-    let e = words_for(n);
+    let e = metadata::words_for(n);
     listing::list_into(&meta[HEADER_WORDS..e], n, text)
 }
 
@@ -105,7 +91,7 @@ fn allocate_in(meta: &mut [u32], n: usize, group: u32, size: u32) -> Answer
     ensures { λ r. ⌜ r ≡ answerOf (now (meta .entry)) (rules.act (rules.group (record { group = group; operation = operation.Allocate size }))) ⌝ }
     ensures { λ _. ⌜ now (meta .exit) ≡ metaAfter (now (meta .entry)) (rules.act (rules.group (record { group = group; operation = operation.Allocate size }))) ⌝ }
 {
-    let e = words_for(n);
+    let e = metadata::words_for(n);
     allocate::allocate(&mut meta[..e], n, group, size)
 }
 
@@ -115,7 +101,7 @@ fn free_in(meta: &mut [u32], n: usize, group: u32, offset: u32) -> Answer
     ensures { λ r. ⌜ r ≡ answerOf (now (meta .entry)) (rules.act (rules.group (record { group = group; operation = operation.Free offset }))) ⌝ }
     ensures { λ _. ⌜ now (meta .exit) ≡ metaAfter (now (meta .entry)) (rules.act (rules.group (record { group = group; operation = operation.Free offset }))) ⌝ }
 {
-    let e = words_for(n);
+    let e = metadata::words_for(n);
     free::free(&mut meta[..e], n, group, offset)
 }
 
@@ -125,7 +111,7 @@ fn reset_in(meta: &mut [u32], n: usize, group: u32) -> Answer
     ensures { λ r. ⌜ r ≡ answerOf (now (meta .entry)) (rules.act (rules.group (record { group = group; operation = operation.Reset }))) ⌝ }
     ensures { λ _. ⌜ now (meta .exit) ≡ metaAfter (now (meta .entry)) (rules.act (rules.group (record { group = group; operation = operation.Reset }))) ⌝ }
 {
-    let e = words_for(n);
+    let e = metadata::words_for(n);
     reset::reset(&mut meta[..e], n, group)
 }
 

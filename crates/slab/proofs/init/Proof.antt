@@ -1,7 +1,7 @@
 -- `init` meets its contract. Assumes nothing.
-use Rattle.model.specs.Numbers.{headerWords}
-use Rattle.slab.proofs.Fresh.{set-up-done, front-there, no-pages, many-pages, few-words}
-use mathlib.Core.Path.{sym}
+use Rattle.slab.proofs.Fresh.{set-up-done, no-pages, many-pages, few-words}
+use lib.Seq.{length-take-le}
+use mathlib.Core.Path.{sym, _∙_}
 use native.Mathlib.Omega.{arith}
 use borrow.Author.Needs.{needs}
 use Rattle.slab.proofs.init.Statement.{statement}
@@ -20,9 +20,6 @@ else1 c = c .before
 abbrev start : tie.Else1 → tie.Start
 start c = c .before .before
 
-abbrev else3 : tie.After-set-up → tie.Else3
-else3 c = c .before .before
-
 returns : tie.Need-returns
 returns c = no-pages _ _ (c .if1 .taken)
 
@@ -36,22 +33,23 @@ slice-aggregate-set-up : tie.Need-slice-aggregate-set-up
 slice-aggregate-set-up c =
     let w = words-for (c .before) in
     let s = start (else1 (else2 w)) in
-    sym (front-there headerWords (s .args .meta .now) (omega (arith, w .words-for .ensures)))
+    sym (length-take-le (w .words-for .result) (s .args .meta .now) (c .before .if3 .left))
 
 set-up-requires : tie.Need-set-up-requires
 set-up-requires c κs =
     let w = words-for (c .before) in
-    let s = start (else1 (else2 w)) in
-    search (front-there headerWords (s .args .meta .now) (omega (arith, w .words-for .ensures)))
+    let e₁ = else2 w in
+    let e₂ = else1 e₁ in
+    let s = start e₂ in
+    (length-take-le (w .words-for .result) (s .args .meta .now) (c .before .if3 .left) ∙ w .words-for .ensures, omega (arith, e₂ .if1 .left), e₁ .if2 .left)
 
 returns-4 : tie.Need-returns-4
 returns-4 c =
-    let s = c .before .before .before .before .before .before in
-    let e = else3 s in
+    let e = c .before .before .before .before in
     let w = words-for e in
     let e₁ = else2 w in
     let e₂ = else1 e₁ in
-    set-up-done _ _ (e₂ .if1 .left) (e₁ .if2 .left) _ (w .words-for .ensures) (e .if3 .left) _ _ (s .set-up .ensures) (c .before .before .set-up2 .ensures)
+    set-up-done _ _ (e₂ .if1 .left) (e₁ .if2 .left) _ (w .words-for .ensures) (e .if3 .left) _ (c .before .before .set-up .ensures)
 
 pub init-spec : {M : Type 1} → statement M
 init-spec =
@@ -64,9 +62,5 @@ init-spec =
     (search needs)
     slice-aggregate-set-up
     set-up-requires
-    (search needs)
-    (search needs)
-    (search needs)
-    (search needs)
     (search needs)
     returns-4)
