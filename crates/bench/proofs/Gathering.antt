@@ -1,11 +1,11 @@
 -- Serving a fragment turn by turn: what is served so far, and that the replies gathered have room. Assumes nothing.
 use Prim.Native.Nat.{ℕ, _+_, _-_, _≤_}
 use mathlib.Core.Path.{_≡_, refl, sym, ap, _∙_}
-use mathlib.Core.Bool.{Bool, true, false}
+use mathlib.Core.Bool.{Bool, false}
 use mathlib.Core.List.{List, [], _++_}
 use native.Mathlib.Omega.{arith}
 use lib.ListN.{length, take, drop, length-append, length-drop, drop-of-length-le}
-use lib.Seq.{sets, length-sets, length-take-le}
+use lib.Seq.{length-sets, length-take-le}
 use Rattle.lemmas.proofs.Cases.{true-false}
 use Rattle.uplink.specs.declared.Reader.{Reader}
 use Rattle.uplink.specs.Fragments.{Held, Sound, held, heldAfter, linesBy}
@@ -59,9 +59,6 @@ pub record Serving (w₀ s o₀ : List ℕ) (r₀ : Reader) (w o : List ℕ) (r 
   pub wordsLong : length w ≡ length w₀
   pub bufferLong : length o ≡ length o₀
 
-pub serving-none : (w s o : List ℕ) (r : Reader) → Sound r → Serving w s o r w o r 0
-serving-none w s o r h = record { sound = h; within = omega arith; after = refl; words = refl; wordsLong = refl; bufferLong = refl }
-
 module _ {w₀ s o₀ : List ℕ} {r₀ : Reader} {w o : List ℕ} {r : Reader} {at : ℕ} (h : Serving w₀ s o₀ r₀ w o r at) where
   pub serving-turn : {b v m u : List ℕ} {t : Turn} → TurnBy (held r) w s at b t v m → length v ≡ length w → length u ≡ length o → Serving w₀ s o₀ r₀ v u (t .reader) (t .next)
   serving-turn {v} {u} {t} y e f = record {
@@ -85,4 +82,4 @@ module _ {w₀ s o₀ : List ℕ} {r₀ : Reader} {w o : List ℕ} {r : Reader} 
       }
 
 pub serving-failed : {k : Held} {w s v : List ℕ} {r : Reader} → Sound r → ServedAll k w s (record { reader = r; written = false }) v
-serving-failed h = record { sound = h; after = λ e. absurd (true-false e refl); words = λ e. absurd (true-false e refl) }
+serving-failed h = record { sound = h; after = λ e. true-false e refl; words = λ e. true-false e refl }

@@ -18,7 +18,7 @@ use Rattle.model.specs.Valid.{ValidZone, Valid}
 use Rattle.model.proofs.Arena.{locate-past, retoldPlace, locate-retold, total-retold}
 use Rattle.model.proofs.Sizes.{room-pos}
 use Rattle.model.proofs.Blocks.{padded-in, padded-length}
-use Rattle.model.proofs.Allocated.{live-chunk}
+use Rattle.model.proofs.Blocks.{live-chunk}
 use Rattle.pages.specs.Places.{Stands}
 use Rattle.pages.proofs.Spots.{stands-locate}
 use Rattle.steps.proofs.Zones.{zone-is, zone-valid}

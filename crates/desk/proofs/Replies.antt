@@ -4,7 +4,6 @@ use Prim.Native.Nat.{ℕ, _+_, _≤_}
 use mathlib.Core.Path.{_≡_, refl, sym, ap, _∙_, subst}
 use mathlib.Core.Bool.{Bool, true, false, cond}
 use mathlib.Core.List.{List, _++_}
-use mathlib.Core.Option.{Option, none, some}
 use native.Mathlib.Omega.{arith}
 use lib.Dec.{leb}
 use lib.ListN.{length, drop}
@@ -23,7 +22,6 @@ use Rattle.model.specs.Listing.{listingText}
 use Rattle.model.specs.Perform.{onState}
 use Rattle.text.specs.Writing.{Wrote}
 use Rattle.listing.proofs.Into.{sets-front}
-use Rattle.metadata.specs.Decoding.{stateOf}
 use Rattle.uplink.specs.declared.Line.{Line}
 use Rattle.uplink.specs.declared.Line.the-variants.{Init, Group, Trim, Query, Listing, Bad}
 use Rattle.uplink.specs.Answers.{answerText, badText}
@@ -131,7 +129,7 @@ module _ (w b : List ℕ) {a : Answer} {v : List ℕ} (h : (a ≡ answerOf w (ac
     where
       go : {t : List ℕ} → Listed b a v t → Replied b t r v
       go (whole fits told put) = record { bytes = q ∙ count-same (sym e ∙ told); buffer = put; fits = λ _. omega (arith, q, count-same (sym e ∙ told)) }
-      go (refused is kept said) = absurd (true-false is (ap (λ x. isRefused x) e))
+      go (refused is kept said) = true-false is (ap (λ x. isRefused x) e)
 
   -- It counted none: the refusal's line was written.
   pub listing-refused : {r : ℕ} {m : List ℕ} → ((k : ℕ) → a ≡ Counted k → ⊥) → Wrote v 0 (answerText a) r m × (r ≤ 0 + 64) → Replied b (replyTo w (length b) Listing) r m

@@ -2,7 +2,7 @@
 -- input, one after another. Assumes nothing.
 use Prim.Native.Nat.{ℕ}
 use mathlib.Core.Path.{_≡_, refl, sym, ap, _∙_}
-use mathlib.Core.List.{List, [], _∷_, _++_, append-assoc}
+use mathlib.Core.List.{List, [], _∷_, _++_}
 use mathlib.Core.Option.{Option, none, some}
 use native.Mathlib.Omega.{arith}
 use lib.ListN.{length, drop, drop-of-length-le}
@@ -17,22 +17,10 @@ use Rattle.uplink.specs.Fragments.{Held, held, Step, stepFrom, stepOf, FedBy, h
 use Rattle.uplink.proofs.Fragments.{fragments-input, fed-more, fed-whole}
 use Rattle.desk.specs.declared.Turn.{Turn}
 use Rattle.slab.proofs.Promises.{length-unchanged}
-use Rattle.desk.specs.Replies.{commandOf, replyTo, wordsBy, wordsAfter, replyGot, wordsGot, TurnBy}
+use Rattle.desk.specs.Replies.{commandOf, wordsBy, wordsAfter, replyGot, wordsGot, TurnBy}
 use Rattle.desk.specs.Session.{outputOf, wordsAfterAll, inputLines, linesIn}
 
 -- ---- lines after lines
-
-pub output-append : (w : List ℕ) (n : ℕ) (x y : List Line) → outputOf w n (x ++ y) ≡ outputOf w n x ++ outputOf (wordsAfterAll w x) n y
-unfolding outputOf wordsAfterAll
-output-append w n [] y = refl
-output-append w n (l ∷ x) y =
-    ap (λ t. replyTo w n l ++ t) (output-append (wordsAfter w l) n x y)
-    ∙ sym (append-assoc (replyTo w n l) (outputOf (wordsAfter w l) n x) (outputOf (wordsAfterAll (wordsAfter w l) x) n y))
-
-pub words-append : (w : List ℕ) (x y : List Line) → wordsAfterAll w (x ++ y) ≡ wordsAfterAll (wordsAfterAll w x) y
-unfolding wordsAfterAll
-words-append w [] y = refl
-words-append w (l ∷ x) y = words-append (wordsAfter w l) x y
 
 -- No word is gained or lost.
 line-long : (w : List ℕ) (c : Option Command) → length (wordsBy w c) ≡ length w
@@ -48,9 +36,6 @@ words-long w (l ∷ ls) = words-long (wordsAfter w l) ls ∙ line-long w (comman
 
 pub session-output : (w : List ℕ) (n : ℕ) (xs : List (List ℕ)) → outputOf w n (linesIn xs) ≡ outputOf w n (inputLines (joined xs))
 session-output w n xs = ap (outputOf w n) (fragments-input xs)
-
-pub session-words : (w : List ℕ) (xs : List (List ℕ)) → wordsAfterAll w (linesIn xs) ≡ wordsAfterAll w (inputLines (joined xs))
-session-words w xs = ap (wordsAfterAll w) (fragments-input xs)
 
 -- ---- turns
 

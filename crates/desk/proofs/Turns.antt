@@ -1,7 +1,7 @@
 -- A turn is the reader's step, and the line that it brought is served. Assumes nothing.
-use Prim.Native.Nat.{ℕ, _≤_}
+use Prim.Native.Nat.{ℕ}
 use mathlib.Core.Path.{_≡_, refl, sym, ap, _∙_, subst}
-use mathlib.Core.List.{List, []}
+use mathlib.Core.List.{List}
 use native.Mathlib.Omega.{arith}
 use lib.ListN.{length, drop}
 use Rattle.uplink.specs.declared.Line.{Line}
@@ -9,7 +9,6 @@ use Rattle.uplink.specs.declared.Got.{Got}
 use Rattle.uplink.specs.declared.Got.the-variants.{Whole, More}
 use Rattle.uplink.specs.declared.Fed.{Fed}
 use Rattle.uplink.specs.Fragments.{Held, Step, stepFrom, stepOf, FedBy}
-use Rattle.desk.specs.declared.Turn.{Turn}
 use Rattle.desk.specs.Replies.{replyTo, wordsAfter, Replied, replyGot, wordsGot, TurnBy}
 
 -- A line or none, and what follows.

@@ -23,34 +23,34 @@ use Rattle.header.proofs.Entries.{between}
 count-same : (p q : ℕ → Bool) (l : List ℕ) → ((x : ℕ) → p x ≡ q x) → count p l ≡ count q l
 unfolding count
 count-same p q [] h = refl
-count-same p q (x ∷ l) h = ap (λ (t : Bool). cond t 1 0 + count p l) (h x) ∙ ap (λ (n : ℕ). cond (q x) 1 0 + n) (count-same p q l h)
+count-same p q (x ∷ l) h = cc (h x, count-same p q l h)
 
 -- ---- ranges
 
 -- All of a list are below a bound.
 pub count-every : (high : ℕ) (l : List ℕ) → Below high l → count (between 0 high) l ≡ length l
 count-every high l h =
-    count-all (between 0 high) l
-    (every-of-members (between 0 high) l (λ q m. and-both (leb 0 q) (ltb q high) (le-leb 0 q (omega arith)) (lt-ltb q high (h q m))))
+    count-all _ l
+    (every-of-members _ l (λ q m. and-both (leb 0 q) _ (le-leb 0 q (omega arith)) (lt-ltb q high (h q m))))
 
 between-one : (v q : ℕ) → between v (v + 1) q ≡ eqb v q
 between-one v q =
     by-leb (λ t. (t && ltb q (v + 1)) ≡ eqb v q) v q
-    (λ l. by-ltb (λ t. t ≡ eqb v q) q (v + 1) (λ k. sym (eq-eqb v q (omega arith))) (λ k. sym (ne-eqb v q (λ e. omega arith))))
-    (λ l. sym (ne-eqb v q (λ e. omega arith)))
+    (λ l. by-ltb (λ t. t ≡ eqb v q) q (v + 1) (λ k. sym (eq-eqb v q (omega arith))) (λ k. sym (ne-eqb v q (omega arith))))
+    (λ l. sym (ne-eqb v q (omega arith)))
 
 -- One number.
 pub count-one : (v : ℕ) (l : List ℕ) → count (between v (v + 1)) l ≡ times v l
 unfolding times
-count-one v l = count-same (between v (v + 1)) (λ x. eqb v x) l (between-one v)
+count-one v l = count-same _ (λ x. eqb v x) l (between-one v)
 
 between-class : (c q : ℕ) → between (key c 0) (key c mostPages) q ≡ ofClass c q
 between-class c q =
     by-eqb (λ t. between (key c 0) (key c mostPages) q ≡ t) (classIn q) c
-    (λ e. and-both (leb (key c 0) q) (ltb q (key c mostPages)) (le-leb (key c 0) q (omega arith)) (lt-ltb q (key c mostPages) (omega arith)))
+    (λ e. and-both _ _ (le-leb (key c 0) q (omega arith)) (lt-ltb q _ (omega arith)))
     (λ n.
     by-leb (λ t. (t && ltb q (key c mostPages)) ≡ false) (key c 0) q
-    (λ l. le-ltb q (key c mostPages) (omega arith)) (λ l. refl))
+    (λ l. le-ltb q _ (omega arith)) (λ l. refl))
 
 between-below : (c q : ℕ) → between 0 (key c 0) q ≡ belowClass c q
 between-below c q =
@@ -61,13 +61,13 @@ between-below c q =
 
 -- Where the keys of class c begin.
 pub count-place : (c : ℕ) (ls : List (List ℕ)) → count (between 0 (key c 0)) (keysOf ls) ≡ placeOf c (keysOf ls)
-count-place c ls = count-same (between 0 (key c 0)) (belowClass c) (keysOf ls) (between-below c)
+count-place c ls = count-same _ _ (keysOf ls) (between-below c)
 
 module _ (c : ℕ) (ls : List (List ℕ)) (there : c < length ls) (pages : Pages ls) where
   pub count-class : count (between (key c 0) (key c mostPages)) (keysOf ls) ≡ length (getD ls c [])
   unfolding listIn
   count-class =
-      count-same (between (key c 0) (key c mostPages)) (ofClass c) (keysOf ls) (between-class c)
+      count-same _ (ofClass c) (keysOf ls) (between-class c)
       ∙ sym (length-keep (ofClass c) (keysOf ls))
       ∙ sym (length-map (keep (ofClass c) (keysOf ls)) pageIn)
       ∙ ap length (class-list c ls pages there)
@@ -76,7 +76,7 @@ module _ (c : ℕ) (ls : List (List ℕ)) (there : c < length ls) (pages : Pages
   unfolding times count
   times-keys p [] = refl
   times-keys p (x ∷ l) =
-      ap (λ (t : Bool). cond t 1 0 + times (key c p) (map (key c) l)) (same-key x) ∙ ap (λ (n : ℕ). cond (eqb p x) 1 0 + n) (times-keys p l)
+      cc (same-key x, times-keys p l)
     where
       same-key : (x : ℕ) → eqb (key c p) (key c x) ≡ eqb p x
       same-key x = by-eqb (λ t. eqb (key c p) (key c x) ≡ t) p x (λ e. eq-eqb (key c p) (key c x) (omega arith)) (λ n. ne-eqb (key c p) (key c x) (λ e. n (omega arith)))
@@ -86,9 +86,9 @@ module _ (c : ℕ) (ls : List (List ℕ)) (there : c < length ls) (pages : Pages
   times-class p h =
       let l : List ℕ = map (key c) (getD ls c []) in
       ap (times (key c p)) (keys-parts c ls there)
-      ∙ times-append (key c p) (keysBefore c ls) (l ++ keysBehind c ls)
-      ∙ (let a = times-absent (key c p) (keysBefore c ls) (λ m. let x = before-below c ls there pages m in omega arith) in
+      ∙ times-append (key c p) (keysBefore c ls) _
+      ∙ (let a = times-absent (key c p) _ (λ m. let x = before-below c ls there pages m in omega arith) in
       let b = times-append (key c p) l (keysBehind c ls) in
-      let d = times-absent (key c p) (keysBehind c ls) (λ m. let x = behind-above c ls there m in omega arith) in
+      let d = times-absent (key c p) _ (λ m. let x = behind-above c ls there m in omega arith) in
       let e = times-keys p (getD ls c []) in
       omega arith)

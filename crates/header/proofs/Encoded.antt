@@ -20,13 +20,11 @@ use Rattle.header.proofs.Entries.{length-slots, entries-slots}
 module _ (a b c d : List ℕ) (i k : ℕ) where
   third-part : length a + length b ≡ i → length c ≡ k → mid i k (a ++ (b ++ (c ++ d))) ≡ c
   third-part h e =
-      ap (mid i k) (sym (append-assoc a b (c ++ d))) ∙ mid-at (a ++ b) c d i k (length-append a b ∙ h) e
+      cc (append-assoc a b (c ++ d), mid-at (a ++ b) c d i k (length-append a b ∙ h) e)
 
   put-third : (v : List ℕ) → length a + length b ≡ i → length c ≡ k → putMid i k (a ++ (b ++ (c ++ d))) v ≡ a ++ (b ++ (v ++ d))
   put-third v h e =
-      ap (λ (l : List ℕ). putMid i k l v) (sym (append-assoc a b (c ++ d)))
-      ∙ put-at (a ++ b) c d v i k (length-append a b ∙ h) e
-      ∙ append-assoc a b (v ++ d)
+      cc (append-assoc a b (c ++ d), put-at (a ++ b) c d v i k (length-append a b ∙ h) e, append-assoc a b (v ++ d))
 
 -- ---- the parts of the header
 
@@ -38,29 +36,29 @@ module _ (n : ℕ) (spare : List ℕ) (lists : List (List ℕ)) where
 
   pub spare-part : mid atSpare spareSlots (headerEncoding n spare lists) ≡ slots spareSlots spare
   unfolding headerEncoding
-  spare-part = mid-at (magic ∷ n ∷ []) (slots spareSlots spare) (slots listSlots (keysOf lists) ++ zeros restWords) atSpare spareSlots refl (length-slots spareSlots spare)
+  spare-part = mid-at (magic ∷ n ∷ []) _ _ atSpare spareSlots refl (length-slots spareSlots spare)
 
   pub put-spare : (v : List ℕ) → putMid atSpare spareSlots (headerEncoding n spare lists) v ≡ (magic ∷ n ∷ []) ++ (v ++ (slots listSlots (keysOf lists) ++ zeros restWords))
   unfolding headerEncoding
-  put-spare v = put-at (magic ∷ n ∷ []) (slots spareSlots spare) (slots listSlots (keysOf lists) ++ zeros restWords) v atSpare spareSlots refl (length-slots spareSlots spare)
+  put-spare v = put-at (magic ∷ n ∷ []) (slots spareSlots spare) _ v atSpare spareSlots refl (length-slots spareSlots spare)
 
   pub lists-part : mid atLists listSlots (headerEncoding n spare lists) ≡ slots listSlots (keysOf lists)
   unfolding headerEncoding
   lists-part =
-      third-part (magic ∷ n ∷ []) (slots spareSlots spare) (slots listSlots (keysOf lists)) (zeros restWords) atLists listSlots (omega (arith, length-slots spareSlots spare)) (length-slots listSlots (keysOf lists))
+      third-part (magic ∷ n ∷ []) (slots spareSlots spare) _ _ atLists listSlots (omega (arith, length-slots spareSlots spare)) (length-slots listSlots _)
 
   pub put-lists : (v : List ℕ) → putMid atLists listSlots (headerEncoding n spare lists) v ≡ (magic ∷ n ∷ []) ++ (slots spareSlots spare ++ (v ++ zeros restWords))
   unfolding headerEncoding
   put-lists v =
-      put-third (magic ∷ n ∷ []) (slots spareSlots spare) (slots listSlots (keysOf lists)) (zeros restWords) atLists listSlots v (omega (arith, length-slots spareSlots spare)) (length-slots listSlots (keysOf lists))
+      put-third (magic ∷ n ∷ []) (slots spareSlots spare) (slots listSlots (keysOf lists)) _ atLists listSlots v (omega (arith, length-slots spareSlots spare)) (length-slots listSlots _)
 
   pub rest-part : mid atRest restWords (headerEncoding n spare lists) ≡ zeros restWords
   unfolding headerEncoding
   rest-part =
       ap (mid atRest restWords)
-      (ap (λ (l : List ℕ). (magic ∷ n ∷ []) ++ (slots spareSlots spare ++ l)) (ap (λ (l : List ℕ). slots listSlots (keysOf lists) ++ l) (sym (append-nil (zeros restWords))))
-      ∙ ap (λ (l : List ℕ). (magic ∷ n ∷ []) ++ l) (sym (append-assoc (slots spareSlots spare) (slots listSlots (keysOf lists)) (zeros restWords ++ []))))
-      ∙ third-part (magic ∷ n ∷ []) (slots spareSlots spare ++ slots listSlots (keysOf lists)) (zeros restWords) [] atRest restWords
+      (ap (λ l. (magic ∷ n ∷ []) ++ (slots spareSlots spare ++ l)) (cc (append-nil (zeros restWords)))
+      ∙ ap (λ l. (magic ∷ n ∷ []) ++ l) (sym (append-assoc (slots spareSlots spare) _ _)))
+      ∙ third-part (magic ∷ n ∷ []) (slots spareSlots spare ++ slots listSlots (keysOf lists)) _ [] atRest restWords
       (omega (arith, length-append (slots spareSlots spare) (slots listSlots (keysOf lists)), length-slots spareSlots spare, length-slots listSlots (keysOf lists))) (length-zeros restWords)
 
   -- ---- reading back
@@ -76,9 +74,9 @@ module _ (n : ℕ) (spare : List ℕ) (lists : List (List ℕ)) where
   module _ (fits : Fits n spare lists) where
     pub spare-encoded : spareIn (headerEncoding n spare lists) ≡ spare
     unfolding spareIn
-    spare-encoded = ap entriesIn spare-part ∙ entries-slots spareSlots spare (fits .few)
+    spare-encoded = rw spare-part (entries-slots spareSlots spare (fits .few))
 
     pub lists-encoded : listsIn (headerEncoding n spare lists) ≡ lists
     unfolding listsIn
     lists-encoded =
-        ap listsOf (ap entriesIn lists-part ∙ entries-slots listSlots (keysOf lists) (fits .room)) ∙ lists-keys lists (fits .classes) (fits .list-pages)
+        cc (lists-part, entries-slots listSlots (keysOf lists) (fits .room), lists-keys lists (fits .classes) (fits .list-pages))

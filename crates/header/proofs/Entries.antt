@@ -12,7 +12,7 @@ use Rattle.lemmas.specs.Every.{every, count}
 use Rattle.lemmas.specs.Keep.{keep}
 use Rattle.lemmas.specs.Times.{times, remove}
 use Rattle.lemmas.specs.Zeros.{zeros, isZero}
-use Rattle.lemmas.proofs.Cases.{by-eqb, by-ltb, by-leb, and-left, and-right}
+use Rattle.lemmas.proofs.Cases.{by-ltb, by-leb, and-left, and-right, by-eq}
 use Rattle.lemmas.proofs.Zeros.{every-zeros, zeros-every}
 use Rattle.lemmas.proofs.Times.{times-here, times-there}
 use Rattle.lemmas.proofs.Distinct.{remove-here, remove-there, length-remove}
@@ -33,12 +33,12 @@ unfolding slots entriesIn
 entries-slots zero [] h = refl
 entries-slots zero (q ∷ l) h = absurd (not-suc-le-zero h)
 entries-slots (suc m) [] h = refl
-entries-slots (suc m) (q ∷ l) h = ap (λ (t : List ℕ). q ∷ t) (entries-slots m l (le-of-suc-le-suc h))
+entries-slots (suc m) (q ∷ l) h = cc (entries-slots m l (le-of-suc-le-suc h))
 
 pub slots-none : (m : ℕ) → slots m [] ≡ zeros m
 unfolding slots zeros
 slots-none zero = refl
-slots-none (suc m) = ap (λ (t : List ℕ). 0 ∷ t) (slots-none m)
+slots-none (suc m) = cc (slots-none m)
 
 -- ---- the test
 
@@ -54,28 +54,28 @@ unfolding legalSlots slots entriesIn
 legal-of limit c [] e = record { again = refl; short = omega arith; rising = tt; below = λ q m. absurd (List·Memᴰ·not-nil m) }
 legal-of limit c (zero ∷ w) e =
     record {
-      again = ap (λ (t : List ℕ). 0 ∷ t) (zeros-every w e ∙ sym (slots-none (length w)));
+      again = cc (zeros-every w e, slots-none (length w));
       short = omega arith;
       rising = tt;
       below = λ q m. absurd (List·Memᴰ·not-nil m);
     }
 legal-of limit c (suc x ∷ w) e =
     let rest = legalSlots limit (classIn x) w in
-    let f = and-left (ltb x limit && leb c (classIn x)) rest e in
+    let f = and-left _ rest e in
     let ih = legal-of limit (classIn x) w (and-right (ltb x limit && leb c (classIn x)) rest e) in
-    let low = ltb-true x limit (and-left (ltb x limit) (leb c (classIn x)) f) in
+    let low = ltb-true x limit (and-left _ _ f) in
     let s = ih .short in
     record {
-      again = ap (λ (t : List ℕ). suc x ∷ t) (ih .again);
+      again = cc;
       short = omega arith;
-      rising = (leb-true c (classIn x) (and-right (ltb x limit) (leb c (classIn x)) f), ih .rising);
-      below = below-cons (entriesIn w) low (ih .below);
+      rising = (leb-true c (classIn x) (and-right (ltb x limit) _ f), ih .rising);
+      below = below-cons _ low (ih .below);
     }
 
 pub slots-legal : (limit c m : ℕ) (l : List ℕ) → length l ≤ m → Rising c l → Below limit l → legalSlots limit c (slots m l) ≡ true
 unfolding legalSlots slots
 slots-legal limit c zero l h r g = refl
-slots-legal limit c (suc m) [] h r g = ap (every isZero) (slots-none m) ∙ every-zeros m
+slots-legal limit c (suc m) [] h r g = cc (slots-none m, every-zeros m)
 slots-legal limit c (suc m) (q ∷ l) h r g =
     rw (lt-ltb q limit (g q (List·Memᴰ·head refl)), le-leb c (classIn q) (r .0))
     (slots-legal limit (classIn q) m l (le-of-suc-le-suc h) (r .1) (λ x k. g x (List·Memᴰ·tail k)))
@@ -98,27 +98,27 @@ count-slots low high zero [] h = refl
 count-slots low high zero (q ∷ l) h = absurd (not-suc-le-zero h)
 count-slots low high (suc m) [] h = rw (le-ltb low 0 (omega arith)) (let a = count-slots low high m [] (omega arith) in omega arith)
 count-slots low high (suc m) (q ∷ l) h =
-    rw (holds-suc low high q) (ap (λ (n : ℕ). cond (between low high q) 1 0 + n) (count-slots low high m l (le-of-suc-le-suc h)))
+    rw (holds-suc low high q) (cc (count-slots low high m l (le-of-suc-le-suc h)))
 
 -- ---- a number more
 
 pushed-none : (m : ℕ) → pushed 0 (slots m []) ≡ slots m []
 unfolding pushed slots
 pushed-none zero = refl
-pushed-none (suc m) = ap (λ (t : List ℕ). 0 ∷ t) (pushed-none m)
+pushed-none (suc m) = cc (pushed-none m)
 
 pushed-slots : (m q : ℕ) (l : List ℕ) → pushed (suc q) (slots m l) ≡ slots m (q ∷ l)
 unfolding pushed slots
 pushed-slots zero q l = refl
-pushed-slots (suc m) q [] = ap (λ (t : List ℕ). suc q ∷ t) (pushed-none m)
-pushed-slots (suc m) q (x ∷ l) = ap (λ (t : List ℕ). suc q ∷ t) (pushed-slots m x l)
+pushed-slots (suc m) q [] = cc (pushed-none m)
+pushed-slots (suc m) q (x ∷ l) = cc (pushed-slots m x l)
 
 pub shifted-slots : (k m q : ℕ) (l : List ℕ) → k ≤ length l → shiftedIn k (suc q) (slots m l) ≡ slots m (putAt k q l)
 unfolding slots pushed
 shifted-slots zero m q l h = pushed-slots m q l
 shifted-slots (suc k) m q [] h = absurd (not-suc-le-zero h)
 shifted-slots (suc k) zero q (x ∷ l) h = refl
-shifted-slots (suc k) (suc m) q (x ∷ l) h = ap (λ (t : List ℕ). suc x ∷ t) (shifted-slots k m q l (le-of-suc-le-suc h))
+shifted-slots (suc k) (suc m) q (x ∷ l) h = cc (shifted-slots k m q l (le-of-suc-le-suc h))
 
 -- ---- a number less
 
@@ -129,12 +129,12 @@ closed-nil v = refl
 zeros-snoc : (n : ℕ) → zeros (suc n) ≡ zeros n ++ (0 ∷ [])
 unfolding zeros
 zeros-snoc zero = refl
-zeros-snoc (suc n) = ap (λ (t : List ℕ). 0 ∷ t) (zeros-snoc n)
+zeros-snoc (suc n) = cc (zeros-snoc n)
 
 closed-here : (v : ℕ) {x : ℕ} (w : List ℕ) → v ≡ x → closedUp v (x ∷ w) ≡ closedUp v w ++ (0 ∷ [])
 unfolding closedUp
 closed-here v w e =
-    rw (remove-here v w e, times-here v w e, zeros-snoc (times v w)) (sym (append-assoc (remove v w) (zeros (times v w)) (0 ∷ [])))
+    rw (remove-here v w e, times-here v w e, zeros-snoc (times v w)) (sym (append-assoc (remove v w) _ (0 ∷ [])))
 
 closed-there : (v : ℕ) {x : ℕ} (w : List ℕ) → (v ≡ x → ⊥) → closedUp v (x ∷ w) ≡ x ∷ closedUp v w
 unfolding closedUp
@@ -144,8 +144,8 @@ slots-snoc : (m : ℕ) (l : List ℕ) → length l ≤ m → slots m l ++ (0 ∷
 unfolding slots
 slots-snoc zero [] h = refl
 slots-snoc zero (x ∷ l) h = absurd (not-suc-le-zero h)
-slots-snoc (suc m) [] h = ap (λ (t : List ℕ). 0 ∷ t) (slots-snoc m [] (omega arith))
-slots-snoc (suc m) (x ∷ l) h = ap (λ (t : List ℕ). suc x ∷ t) (slots-snoc m l (le-of-suc-le-suc h))
+slots-snoc (suc m) [] h = cc (slots-snoc m [] (omega arith))
+slots-snoc (suc m) (x ∷ l) h = cc (slots-snoc m l (le-of-suc-le-suc h))
 
 remove-nil : (q : ℕ) → remove q [] ≡ []
 unfolding remove keep
@@ -156,17 +156,17 @@ unfolding slots
 closed-slots q zero [] h = closed-nil (suc q)
 closed-slots q zero (x ∷ l) h = absurd (not-suc-le-zero h)
 closed-slots q (suc m) [] h =
-    closed-there (suc q) (slots m []) (λ e. omega arith)
-    ∙ ap (λ (t : List ℕ). 0 ∷ t) (closed-slots q m [] (omega arith) ∙ ap (slots m) (remove-nil q))
+    closed-there (suc q) _ (omega arith)
+    ∙ ap (λ t. 0 ∷ t) (cc (closed-slots q m [] (omega arith), remove-nil q))
     ∙ ap (slots (suc m)) (sym (remove-nil q))
 closed-slots q (suc m) (x ∷ l) h =
-    by-eqb (λ t. closedUp (suc q) (suc x ∷ slots m l) ≡ slots (suc m) (remove q (x ∷ l))) q x
+    by-eq q x
     (λ e.
     closed-here (suc q) (slots m l) (ap suc e)
-    ∙ ap (λ (t : List ℕ). t ++ (0 ∷ [])) (closed-slots q m l (le-of-suc-le-suc h))
-    ∙ slots-snoc m (remove q l) (let a = length-remove q l in omega arith)
+    ∙ ap (λ t. t ++ (0 ∷ [])) (closed-slots q m l (le-of-suc-le-suc h))
+    ∙ slots-snoc m _ (let a = length-remove q l in omega arith)
     ∙ ap (slots (suc m)) (sym (remove-here q l e)))
     (λ n.
     closed-there (suc q) (slots m l) (λ e. n (omega arith))
-    ∙ ap (λ (t : List ℕ). suc x ∷ t) (closed-slots q m l (le-of-suc-le-suc h))
+    ∙ ap (λ t. suc x ∷ t) (closed-slots q m l (le-of-suc-le-suc h))
     ∙ ap (slots (suc m)) (sym (remove-there q l n)))

@@ -32,7 +32,7 @@ encoding-facts n spare lists h =
       least = rw pages-encoded (h .least);
       most = rw pages-encoded (h .most);
       spare = rw spare-part (slots-legal mostPages 0 spareSlots spare (h .few) (rising-pages spare (h .spare-pages)) (h .spare-pages));
-      lists = rw lists-part (slots-legal keyLimit 0 listSlots (keysOf lists) (h .room) (keys-rising lists (h .list-pages)) (keys-below lists (h .classes) (h .list-pages)));
+      lists = rw lists-part (slots-legal keyLimit 0 listSlots _ (h .room) (keys-rising lists (h .list-pages)) (keys-below lists (h .classes) (h .list-pages)));
       rest = rw rest-part (every-zeros restWords);
     }
 
@@ -40,8 +40,7 @@ encoding-facts n spare lists h =
 
 header-split : (w : List ℕ) → w ≡ take atSpare w ++ (mid atSpare spareSlots w ++ (mid atLists listSlots w ++ drop atRest w))
 header-split w =
-    mid-split atSpare spareSlots w
-    ∙ ap (λ (l : List ℕ). take atSpare w ++ (mid atSpare spareSlots w ++ l)) (sym (take-append-drop listSlots (drop atLists w)) ∙ ap (λ (l : List ℕ). mid atLists listSlots w ++ l) (drop-drop listSlots atLists w))
+    cc (mid-split atSpare spareSlots w, take-append-drop listSlots (drop atLists w), drop-drop listSlots atLists w)
 
 front-two : (w : List ℕ) → 2 ≤ length w → take atSpare w ≡ getD w 0 0 ∷ getD w 1 0 ∷ []
 front-two [] h = absurd (not-suc-le-zero h)
@@ -50,10 +49,10 @@ front-two (x ∷ y ∷ w) h = refl
 
 module _ (w : List ℕ) (h : Facts w) where
   spare-legal : Legal mostPages 0 (mid atSpare spareSlots w)
-  spare-legal = legal-of mostPages 0 (mid atSpare spareSlots w) (h .spare)
+  spare-legal = legal-of mostPages 0 _ (h .spare)
 
   lists-legal : Legal keyLimit 0 (mid atLists listSlots w)
-  lists-legal = legal-of keyLimit 0 (mid atLists listSlots w) (h .lists)
+  lists-legal = legal-of keyLimit 0 _ (h .lists)
 
   spare-size : length (mid atSpare spareSlots w) ≡ 2
   spare-size = length-mid atSpare spareSlots w (let a = h .size in omega arith)
@@ -63,15 +62,15 @@ module _ (w : List ℕ) (h : Facts w) where
 
   -- The keys in the slots are those of the lists that are read.
   keys-again : keysOf (listsOf (entriesIn (mid atLists listSlots w))) ≡ entriesIn (mid atLists listSlots w)
-  keys-again = keys-lists (entriesIn (mid atLists listSlots w)) (lists-legal .rising) (lists-legal .below)
+  keys-again = keys-lists _ (lists-legal .rising) (lists-legal .below)
 
   head-again : take atSpare w ≡ magic ∷ pagesIn w ∷ []
-  head-again = front-two w (let a = h .size in omega arith) ∙ ap (λ (m : ℕ). m ∷ pagesIn w ∷ []) (h .named)
+  head-again = cc (front-two w (let a = h .size in omega arith))
 
   rest-again : drop atRest w ≡ zeros restWords
   rest-again =
-      sym (take-all restWords (drop atRest w) (let a = h .size in simp length-drop (omega arith)))
-      ∙ zeros-every (mid atRest restWords w) (h .rest)
+      sym (take-all restWords _ (let a = h .size in simp length-drop (omega arith)))
+      ∙ zeros-every _ (h .rest)
       ∙ ap zeros (length-mid atRest restWords w (let a = h .size in omega arith))
 
   header-fits : Fits (pagesIn w) (spareIn w) (listsIn w)
@@ -81,23 +80,19 @@ module _ (w : List ℕ) (h : Facts w) where
         least = h .least;
         most = h .most;
         few = let a = spare-size in let b = spare-legal .short in omega arith;
-        classes = length-lists (entriesIn (mid atLists listSlots w));
+        classes = length-lists _;
         room = let a = lists-size in let b = lists-legal .short in rw keys-again (omega arith);
         spare-pages = spare-legal .below;
-        list-pages = lists-pages (entriesIn (mid atLists listSlots w));
+        list-pages = lists-pages _;
       }
 
   header-words : w ≡ headerEncoding (pagesIn w) (spareIn w) (listsIn w)
   unfolding headerEncoding spareIn listsIn
   header-words =
-      let spare : mid atSpare spareSlots w ≡ slots spareSlots (entriesIn (mid atSpare spareSlots w)) = spare-legal .again ∙ ap (λ (m : ℕ). slots m (entriesIn (mid atSpare spareSlots w))) spare-size in
+      let spare : mid atSpare spareSlots w ≡ slots spareSlots (entriesIn (mid atSpare spareSlots w)) = cc (spare-legal .again, spare-size) in
       let lists : mid atLists listSlots w ≡ slots listSlots (keysOf (listsOf (entriesIn (mid atLists listSlots w)))) =
-      lists-legal .again ∙ ap (λ (m : ℕ). slots m (entriesIn (mid atLists listSlots w))) lists-size ∙ ap (slots listSlots) (sym keys-again) in
-      header-split w
-      ∙ ap (λ (l : List ℕ). l ++ (mid atSpare spareSlots w ++ (mid atLists listSlots w ++ drop atRest w))) head-again
-      ∙ ap (λ (l : List ℕ). (magic ∷ pagesIn w ∷ []) ++ (l ++ (mid atLists listSlots w ++ drop atRest w))) spare
-      ∙ ap (λ (l : List ℕ). (magic ∷ pagesIn w ∷ []) ++ (slots spareSlots (entriesIn (mid atSpare spareSlots w)) ++ (l ++ drop atRest w))) lists
-      ∙ ap (λ (l : List ℕ). (magic ∷ pagesIn w ∷ []) ++ (slots spareSlots (entriesIn (mid atSpare spareSlots w)) ++ (slots listSlots (keysOf (listsOf (entriesIn (mid atLists listSlots w)))) ++ l))) rest-again
+      cc (lists-legal .again, lists-size, keys-again) in
+      cc (header-split w, head-again, spare, lists, rest-again)
 
   pub facts-header : Header w
   facts-header = record { words = header-words; fits = header-fits }
@@ -108,7 +103,7 @@ module _ (w : List ℕ) (h : Facts w) where
 pub header-iff : (w : List ℕ) → (isHeader w ≡ true) ↔ ((n : ℕ) × (spare : List ℕ) × (lists : List (List ℕ)) × Fits n spare lists × (w ≡ headerEncoding n spare lists))
 header-iff w = (
   λ e. let h = facts-header w (facts-of w e) in (pagesIn w, spareIn w, listsIn w, h .fits, h .words),
-  λ t. ap isHeader (t .4) ∙ of-facts (headerEncoding (t .0) (t .1) (t .2)) (encoding-facts (t .0) (t .1) (t .2) (t .3)),
+  λ t. ap isHeader (t .4) ∙ of-facts _ (encoding-facts (t .0) (t .1) (t .2) (t .3)),
 )
 
 -- What passes is a header, and a header passes.
@@ -121,13 +116,13 @@ module _ {w : List ℕ} {n : ℕ} {spare : List ℕ} {lists : List (List ℕ)} (
 
   -- What is read from an encoding.
   pub pages-read : pagesIn w ≡ n
-  pages-read = ap pagesIn (h .words) ∙ pages-encoded n spare lists
+  pages-read = cc (pages-encoded n spare lists)
 
   pub spare-read : spareIn w ≡ spare
-  spare-read = ap spareIn (h .words) ∙ spare-encoded n spare lists (h .fits)
+  spare-read = cc (spare-encoded n spare lists (h .fits))
 
   pub lists-read : listsIn w ≡ lists
-  lists-read = ap listsIn (h .words) ∙ lists-encoded n spare lists (h .fits)
+  lists-read = cc (lists-encoded n spare lists (h .fits))
 
   pub encodes-header : Header w
   encodes-header = check-header w encodes-check
@@ -136,4 +131,4 @@ module _ {w : List ℕ} {n : ℕ} {spare : List ℕ} {lists : List (List ℕ)} (
 pub encodes-read {ℓ} : {A : Type ℓ} (f : ℕ → List ℕ → List (List ℕ) → A) {w : List ℕ} {n : ℕ} {spare : List ℕ} {lists : List (List ℕ)} → Encodes w n spare lists
     → f (pagesIn w) (spareIn w) (listsIn w) ≡ f n spare lists
 encodes-read f {w} {n} {spare} {lists} h =
-    ap (λ (m : ℕ). f m (spareIn w) (listsIn w)) (pages-read h) ∙ ap (λ (l : List ℕ). f n l (listsIn w)) (spare-read h) ∙ ap (f n spare) (lists-read h)
+    cc (pages-read h, spare-read h, lists-read h)

@@ -36,16 +36,16 @@ facts-of w e =
     let spare = legalSlots mostPages 0 (mid atSpare spareSlots w) in
     let lists = legalSlots keyLimit 0 (mid atLists listSlots w) in
     let rest = every isZero (mid atRest restWords w) in
-    let to-lists = and-left (size && named && least && most && spare && lists) rest e in
-    let to-spare = and-left (size && named && least && most && spare) lists to-lists in
-    let to-most = and-left (size && named && least && most) spare to-spare in
-    let to-least = and-left (size && named && least) most to-most in
-    let to-named = and-left (size && named) least to-least in
+    let to-lists = and-left _ rest e in
+    let to-spare = and-left _ lists to-lists in
+    let to-most = and-left _ spare to-spare in
+    let to-least = and-left _ most to-most in
+    let to-named = and-left _ least to-least in
     record {
       size = eqb-true (length w) headerWords (and-left size named to-named);
-      named = eqb-true (getD w 0 0) magic (and-right size named to-named);
-      least = leb-true 1 (getD w 1 0) (and-right (size && named) least to-least);
-      most = leb-true (getD w 1 0) mostPages (and-right (size && named && least) most to-most);
+      named = eqb-true _ magic (and-right size named to-named);
+      least = leb-true 1 _ (and-right (size && named) least to-least);
+      most = leb-true _ mostPages (and-right (size && named && least) most to-most);
       spare = and-right (size && named && least && most) spare to-spare;
       lists = and-right (size && named && least && most && spare) lists to-lists;
       rest = and-right (size && named && least && most && spare && lists) rest e;
@@ -56,14 +56,14 @@ pub header-last : (w : List ℕ) → length w ≡ headerWords → getD w 0 0 ≡
     → every isZero (mid atRest restWords w) ≡ isHeader w
 unfolding isHeader
 header-last w a b c d e f =
-    rw (eq-eqb (length w) headerWords a, eq-eqb (getD w 0 0) magic b, le-leb 1 (getD w 1 0) c, le-leb (getD w 1 0) mostPages d, e, f)
+    rw (eq-eqb (length w) headerWords a, eq-eqb _ magic b, le-leb 1 _ c, le-leb _ mostPages d, e, f)
 
 pub of-facts : (w : List ℕ) → Facts w → isHeader w ≡ true
-of-facts w h = sym (header-last w (h .size) (h .named) (h .least) (h .most) (h .spare) (h .lists)) ∙ h .rest
+of-facts w h = cc (header-last w (h .size) (h .named) (h .least) (h .most) (h .spare) (h .lists))
 
 -- One fact that fails.
 pub no-header : (w : List ℕ) → (Facts w → ⊥) → false ≡ isHeader w
-no-header w n = sym (refuted (isHeader w) (λ e. n (facts-of w e)))
+no-header w n = sym (refuted _ (λ e. n (facts-of w e)))
 
 -- Zeros are no header.
 pub zeros-no-header : (n : ℕ) → isHeader (zeros n) ≡ false

@@ -1,10 +1,10 @@
 -- What a header can hold, it can still hold after each step; so a step leaves a header (`encodes-header`). Assumes nothing.
-use Prim.Native.Nat.{ℕ, zero, suc, _+_, _≤_, _<_}
-use mathlib.Core.Path.{_≡_, refl, ap, _∙_, subst}
+use Prim.Native.Nat.{ℕ, _+_, _≤_, _<_}
+use mathlib.Core.Path.{_≡_, ap, _∙_, subst}
 use mathlib.Core.Bool.{cond}
 use mathlib.Core.List.{List, [], _∷_, _++_, map, List·Memᴰ, List·Memᴰ·tail, List·Memᴰ·not-nil}
 use native.Mathlib.Omega.{arith}
-use lib.ListN.{length, getD, set, drop, replicate, length-append, length-map, length-set, length-drop, length-replicate}
+use lib.ListN.{length, getD, set, drop, length-append, length-map, length-set, length-drop}
 use Rattle.lemmas.specs.Times.{remove}
 use Rattle.lemmas.proofs.Cases.{by-eqb}
 use Rattle.lemmas.proofs.Distinct.{remove-in, length-remove}
@@ -12,8 +12,7 @@ use Rattle.lemmas.proofs.Sets.{getD-set}
 use Rattle.model.specs.Numbers.{classCount, mostPages}
 use Rattle.header.specs.Keys.{key, keysOf}
 use Rattle.header.specs.Encoding.{Fits, spareSlots, listSlots}
-use Rattle.header.proofs.Keys.{Below, below-cons, keysBefore, keysBehind, keys-set, keys-parts}
-use Rattle.header.proofs.Steps.{fresh-keys}
+use Rattle.header.proofs.Keys.{Below, keysBefore, keysBehind, keys-set, keys-parts}
 
 -- ---- how many keys there are once a class has another list
 
@@ -41,21 +40,16 @@ module _ {n : ℕ} {spare : List ℕ} {lists : List (List ℕ)} (h : Fits n spar
         least = h .least;
         most = h .most;
         few = h .few;
-        classes = length-set lists c l ∙ h .classes;
+        classes = cc (length-set lists c l);
         room = r;
         spare-pages = h .spare-pages;
         list-pages = λ d p m. by-eqb (λ t. (List·Memᴰ p (cond t l (getD lists d [])) → p < mostPages)) d c (λ e. g p) (λ e. h .list-pages d p)
-            (subst (List·Memᴰ p) (getD-set lists c d l [] (let a = h .classes in omega arith)) m);
+            (rw (getD-set lists c d l [] (let a = h .classes in omega arith)) at m);
       }
-
-  pub fits-push : (c p : ℕ) → c < classCount → p < mostPages → length (keysOf lists) < listSlots → Fits n spare (set lists c (p ∷ getD lists c []))
-  fits-push c p b k r =
-      fits-set c (p ∷ getD lists c []) b (below-cons (getD lists c []) k (h .list-pages c))
-      (let a = h .classes in let e = length-keys-set c lists (p ∷ getD lists c []) (omega arith) in omega arith)
 
   pub fits-remove : (c p : ℕ) → c < classCount → Fits n spare (set lists c (remove p (getD lists c [])))
   fits-remove c p b =
-      fits-set c (remove p (getD lists c [])) b (λ q m. h .list-pages c q (remove-in p (getD lists c []) m .1))
+      fits-set c _ b (λ q m. h .list-pages c q (remove-in p _ m .1))
       (let a = h .classes in
       let r = h .room in
       let k = length-remove p (getD lists c []) in
@@ -76,34 +70,12 @@ module _ {n : ℕ} {spare : List ℕ} {lists : List (List ℕ)} (h : Fits n spar
         list-pages = h .list-pages;
       }
 
-  pub fits-spare-push : (p : ℕ) → p < mostPages → length spare < spareSlots → Fits n (p ∷ spare) lists
-  fits-spare-push p k r = fits-spare (p ∷ spare) (omega arith) (below-cons spare k (h .spare-pages))
-
   pub fits-spare-clear : Fits n [] lists
   fits-spare-clear = fits-spare [] (omega arith) (λ p m. absurd (List·Memᴰ·not-nil m))
 
   pub fits-spare-pop : Fits n (drop 1 spare) lists
-  fits-spare-pop = fits-spare (drop 1 spare) (let a = h .few in simp length-drop (omega arith)) (behind spare (h .spare-pages))
+  fits-spare-pop = fits-spare _ (let a = h .few in simp length-drop (omega arith)) (behind spare (h .spare-pages))
     where
       behind : (l : List ℕ) → Below mostPages l → Below mostPages (drop 1 l)
       behind [] g q m = g q m
       behind (x ∷ l) g q m = g q (List·Memᴰ·tail m)
-
--- ---- the new header
-
-none-listed : (m c : ℕ) → getD {A = List ℕ} (replicate m []) c [] ≡ []
-none-listed zero c = refl
-none-listed (suc m) zero = refl
-none-listed (suc m) (suc c) = none-listed m c
-
-pub fits-fresh : (n : ℕ) → 1 ≤ n → n ≤ mostPages → Fits n [] (replicate classCount [])
-fits-fresh n a b =
-    record {
-      least = a;
-      most = b;
-      few = omega arith;
-      classes = length-replicate {A = List ℕ} classCount [];
-      room = rw fresh-keys (omega arith);
-      spare-pages = λ p m. absurd (List·Memᴰ·not-nil m);
-      list-pages = λ c p m. absurd (List·Memᴰ·not-nil (subst (List·Memᴰ p) (none-listed classCount c) m));
-    }

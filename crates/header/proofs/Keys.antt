@@ -15,7 +15,7 @@ use Rattle.lemmas.specs.Every.{count}
 use Rattle.lemmas.specs.Keep.{keep}
 use Rattle.lemmas.specs.ListFrom.{listFrom}
 use Rattle.lemmas.specs.Times.{remove}
-use Rattle.lemmas.proofs.Cases.{by-eqb, by-ltb}
+use Rattle.lemmas.proofs.Cases.{by-eq, by-lt}
 use Rattle.lemmas.proofs.Every.{every-of-members, count-append, count-all, count-none}
 use Rattle.lemmas.proofs.Keep.{keep-append, keep-in, keep-all, keep-none}
 use Rattle.lemmas.proofs.ListFrom.{is-listFrom, length-listFrom, getD-listFrom}
@@ -39,9 +39,6 @@ key-class c p h = omega arith
 pub key-page : (c p : ℕ) → p < mostPages → pageIn (key c p) ≡ p
 key-page c p h = omega arith
 
-pub key-again : (q : ℕ) → key (classIn q) (pageIn q) ≡ q
-key-again q = omega arith
-
 -- ---- the classes of keys
 
 -- Every page of these lists is below 256.
@@ -54,7 +51,7 @@ unfolding keysFrom
 keys-least c [] m = absurd (List·Memᴰ·not-nil m)
 keys-least c (l ∷ ls) {q} m =
     ⊎-elim (λ k. let r = Memᴰ·of-map (key c) l k in let e : key c (r .0) ≡ q = r .2 in omega arith)
-    (λ k. let a = keys-least (suc c) ls k in omega arith) (List·Memᴰ·append-cases (map (key c) l) m)
+    (λ k. let a = keys-least (suc c) ls k in omega arith) (List·Memᴰ·append-cases _ m)
 
 pub keys-most : (c i : ℕ) (ls : List (List ℕ)) → Pages ls → {q : ℕ} → List·Memᴰ q (keysFrom c (take i ls)) → classIn q < c + i
 unfolding keysFrom
@@ -62,7 +59,7 @@ keys-most c zero ls h m = absurd (List·Memᴰ·not-nil m)
 keys-most c (suc i) [] h m = absurd (List·Memᴰ·not-nil m)
 keys-most c (suc i) (l ∷ ls) h {q} m =
     ⊎-elim (λ k. let r = Memᴰ·of-map (key c) l k in let e : key c (r .0) ≡ q = r .2 in let b = h 0 (r .0) (r .1) in omega arith)
-    (λ k. let a = keys-most (suc c) i ls (λ j. h (suc j)) k in omega arith) (List·Memᴰ·append-cases (map (key c) l) m)
+    (λ k. let a = keys-most (suc c) i ls (λ j. h (suc j)) k in omega arith) (List·Memᴰ·append-cases _ m)
 
 -- Classes that never fall, the first not below c.
 abbrev pub Rising : ℕ → List ℕ → Type 0
@@ -87,7 +84,7 @@ rising-keys : (c : ℕ) (ls : List (List ℕ)) → Pages ls → Rising c (keysFr
 unfolding keysFrom
 rising-keys c [] h = tt
 rising-keys c (l ∷ ls) h =
-    rising-own l (keysFrom (suc c) ls) (omega arith) (h 0) (rising-from (keysFrom (suc c) ls) (omega arith) (rising-keys (suc c) ls (λ j. h (suc j))))
+    rising-own l _ (omega arith) (h 0) (rising-from (keysFrom (suc c) ls) (omega arith) (rising-keys (suc c) ls (λ j. h (suc j))))
 
 pub keys-rising : (ls : List (List ℕ)) → Pages ls → Rising 0 (keysOf ls)
 unfolding keysOf
@@ -96,7 +93,7 @@ keys-rising ls h = rising-keys 0 ls h
 pub keys-below : (ls : List (List ℕ)) → length ls ≡ classCount → Pages ls → (q : ℕ) → List·Memᴰ q (keysOf ls) → q < keyLimit
 unfolding keysOf
 keys-below ls e h q m =
-    let a = keys-most 0 classCount ls h (subst (λ (t : List (List ℕ)). List·Memᴰ q (keysFrom 0 t)) (sym (take-all classCount ls (omega arith))) m) in
+    let a = keys-most 0 classCount ls h (subst (λ t. List·Memᴰ q (keysFrom 0 t)) (sym (take-all classCount ls (omega arith))) m) in
     omega arith
 
 -- Pages by themselves are keys of class 0.
@@ -110,7 +107,7 @@ rising-pages (p ∷ l) h =
 
 list-append : (c : ℕ) (a b : List ℕ) → listIn c (a ++ b) ≡ listIn c a ++ listIn c b
 unfolding listIn
-list-append c a b = ap (map pageIn) (keep-append (ofClass c) a b) ∙ map-append pageIn (keep (ofClass c) a) (keep (ofClass c) b)
+list-append c a b = ap (map pageIn) (keep-append (ofClass c) a b) ∙ map-append pageIn (keep (ofClass c) a) _
 
 -- No key is of the class.
 list-none : (c : ℕ) (ks : List ℕ) → ((q : ℕ) → List·Memᴰ q ks → classIn q ≡ c → ⊥) → listIn c ks ≡ []
@@ -123,21 +120,21 @@ unfolding listIn keep
 list-own c [] h = refl
 list-own c (p ∷ l) h =
     let b = h p (List·Memᴰ·head refl) in
-    rw (eq-eqb (classIn (key c p)) c (key-class c p b), key-page c p b) (ap (λ (t : List ℕ). p ∷ t) (list-own c l (λ x m. h x (List·Memᴰ·tail m))))
+    rw (eq-eqb _ c (key-class c p b), key-page c p b) (cc (list-own c l (λ x m. h x (List·Memᴰ·tail m))))
 
 list-from : (c i : ℕ) (ls : List (List ℕ)) → Pages ls → i < length ls → listIn (c + i) (keysFrom c ls) ≡ getD ls i []
 unfolding keysFrom
 list-from c i [] h k = absurd (not-suc-le-zero k)
 list-from c zero (l ∷ ls) h k =
-    ap (λ (n : ℕ). listIn n (map (key c) l ++ keysFrom (suc c) ls)) (let e : c + 0 ≡ c = omega arith in e)
-    ∙ list-append c (map (key c) l) (keysFrom (suc c) ls)
-    ∙ ap (λ (t : List ℕ). t ++ listIn c (keysFrom (suc c) ls)) (list-own c l (h 0))
-    ∙ ap (λ (t : List ℕ). l ++ t) (list-none c (keysFrom (suc c) ls) (λ q m e. let a = keys-least (suc c) ls m in omega arith))
+    ap (λ n. listIn n (map (key c) l ++ keysFrom (suc c) ls)) (let e : c + 0 ≡ c = omega arith in e)
+    ∙ list-append c _ _
+    ∙ ap (λ t. t ++ listIn c (keysFrom (suc c) ls)) (list-own c l (h 0))
+    ∙ ap (λ t. l ++ t) (list-none c _ (λ q m e. let a = keys-least (suc c) ls m in omega arith))
     ∙ append-nil l
 list-from c (suc i) (l ∷ ls) h k =
-    list-append (c + suc i) (map (key c) l) (keysFrom (suc c) ls)
-    ∙ ap (λ (t : List ℕ). t ++ listIn (c + suc i) (keysFrom (suc c) ls)) (list-none (c + suc i) (map (key c) l) other)
-    ∙ ap (λ (n : ℕ). listIn n (keysFrom (suc c) ls)) (let e : c + suc i ≡ suc c + i = omega arith in e)
+    list-append (c + suc i) _ _
+    ∙ ap (λ t. t ++ listIn (c + suc i) (keysFrom (suc c) ls)) (list-none (c + suc i) _ other)
+    ∙ ap (λ n. listIn n (keysFrom (suc c) ls)) (let e : c + suc i ≡ suc c + i = omega arith in e)
     ∙ list-from (suc c) i ls (λ j. h (suc j)) (le-of-suc-le-suc k)
   where
     other : (q : ℕ) → List·Memᴰ q (map (key c) l) → classIn q ≡ c + suc i → ⊥
@@ -150,7 +147,7 @@ list-from c (suc i) (l ∷ ls) h k =
 -- What the list of class c is.
 pub class-list : (c : ℕ) (ls : List (List ℕ)) → Pages ls → c < length ls → listIn c (keysOf ls) ≡ getD ls c []
 unfolding keysOf
-class-list c ls h k = ap (λ (n : ℕ). listIn n (keysFrom 0 ls)) (let e : c ≡ 0 + c = omega arith in e) ∙ list-from 0 c ls h k
+class-list c ls h k = ap (λ n. listIn n (keysFrom 0 ls)) (let e : c ≡ 0 + c = omega arith in e) ∙ list-from 0 c ls h k
 
 -- The lists of their keys.
 pub lists-keys : (ls : List (List ℕ)) → length ls ≡ classCount → Pages ls → listsOf (keysOf ls) ≡ ls
@@ -168,17 +165,17 @@ unfolding keep fromClass
 from-split b c [] h = refl
 from-split b c (q ∷ ks) h =
     let ih = from-split (classIn q) c ks (h .1) in
-    by-eqb (λ t. keep (fromClass c) (q ∷ ks) ≡ keep (ofClass c) (q ∷ ks) ++ keep (fromClass (suc c)) (q ∷ ks)) (classIn q) c
+    by-eq (classIn q) c
     (λ e.
     rw (le-leb c (classIn q) (omega arith), eq-eqb (classIn q) c e, lt-leb (suc c) (classIn q) (omega arith))
-    (ap (λ (t : List ℕ). q ∷ t) ih))
+    (cc))
     (λ n.
-    by-ltb (λ t. keep (fromClass c) (q ∷ ks) ≡ keep (ofClass c) (q ∷ ks) ++ keep (fromClass (suc c)) (q ∷ ks)) (classIn q) c
+    by-lt (classIn q) c
     (λ l. rw (lt-leb c (classIn q) l, ne-eqb (classIn q) c n, lt-leb (suc c) (classIn q) (omega arith)) ih)
     (λ l.
     let none : keep (ofClass c) ks ≡ [] = none-after l n in
     rw (le-leb c (classIn q) l, ne-eqb (classIn q) c n, le-leb (suc c) (classIn q) (omega arith), none)
-    (ap (λ (t : List ℕ). q ∷ t) (ih ∙ ap (λ (t : List ℕ). t ++ keep (fromClass (suc c)) ks) none))))
+    (cc)))
   where
     none-after : c ≤ classIn q → (classIn q ≡ c → ⊥) → keep (ofClass c) ks ≡ []
     none-after l n =
@@ -190,29 +187,27 @@ keys-own : (c : ℕ) (l : List ℕ) → ((q : ℕ) → List·Memᴰ q l → clas
 keys-own c [] h = refl
 keys-own c (q ∷ l) h =
     let e : key c (pageIn q) ≡ q = let a = h q (List·Memᴰ·head refl) in omega arith in
-    rw e (ap (λ (t : List ℕ). q ∷ t) (keys-own c l (λ x m. h x (List·Memᴰ·tail m))))
+    rw e (cc (keys-own c l (λ x m. h x (List·Memᴰ·tail m))))
 
 keys-class-list : (c : ℕ) (ks : List ℕ) → map (key c) (listIn c ks) ≡ keep (ofClass c) ks
 unfolding listIn
-keys-class-list c ks = keys-own c (keep (ofClass c) ks) (λ q m. eqb-true (classIn q) c (keep-in (ofClass c) ks m .0))
+keys-class-list c ks = keys-own c _ (λ q m. eqb-true (classIn q) c (keep-in (ofClass c) ks m .0))
 
 keys-from : (b n c : ℕ) (ks : List ℕ) → Rising b ks → ((q : ℕ) → List·Memᴰ q ks → classIn q < c + n)
     → keysFrom c (listFrom (λ d. listIn d ks) c n) ≡ keep (fromClass c) ks
 unfolding keysFrom listFrom fromClass
 keys-from b zero c ks r h =
     sym
-    (keep-none (fromClass c) ks (every-of-members (λ q. not (fromClass c q)) ks (λ q m. rw (lt-leb c (classIn q) (let a = h q m in omega arith)))))
+    (keep-none _ ks (every-of-members (λ q. not (fromClass c q)) ks (λ q m. rw (lt-leb c (classIn q) (let a = h q m in omega arith)))))
 keys-from b (suc n) c ks r h =
-    ap (λ (t : List ℕ). t ++ keysFrom (suc c) (listFrom (λ d. listIn d ks) (suc c) n)) (keys-class-list c ks)
-    ∙ ap (λ (t : List ℕ). keep (ofClass c) ks ++ t) (keys-from b n (suc c) ks r (λ q m. let a = h q m in omega arith))
-    ∙ sym (from-split b c ks r)
+    cc (keys-class-list c ks, keys-from b n (suc c) ks r (λ q m. let a = h q m in omega arith), from-split b c ks r)
 
 -- Keys whose classes never fall are the keys of their lists.
 pub keys-lists : (ks : List ℕ) → Rising 0 ks → Below keyLimit ks → keysOf (listsOf ks) ≡ ks
 unfolding keysOf listsOf fromClass
 keys-lists ks r h =
     keys-from 0 classCount 0 ks r (λ q m. let a = h q m in omega arith)
-    ∙ keep-all (fromClass 0) ks (every-of-members (fromClass 0) ks (λ q m. le-leb 0 (classIn q) (omega arith)))
+    ∙ keep-all _ ks (every-of-members _ ks (λ q m. le-leb 0 (classIn q) (omega arith)))
 
 -- Whatever the keys, there are 64 lists, and their pages are below 256.
 pub length-lists : (ks : List ℕ) → length (listsOf ks) ≡ classCount
@@ -222,9 +217,9 @@ length-lists ks = length-listFrom (λ c. listIn c ks) 0 classCount
 pub lists-pages : (ks : List ℕ) → Pages (listsOf ks)
 unfolding listsOf listIn
 lists-pages ks c p m =
-    by-ltb (λ t. p < mostPages) c classCount
+    by-lt c classCount
     (λ l.
-    let r = Memᴰ·of-map pageIn (keep (ofClass c) ks) (subst (List·Memᴰ p) (getD-listFrom (λ c. listIn c ks) 0 classCount c [] l ∙ ap (λ (n : ℕ). listIn n ks) (zero-add c)) m) in
+    let r = Memᴰ·of-map pageIn (keep (ofClass c) ks) (subst (List·Memᴰ p) (cc (getD-listFrom (λ c. listIn c ks) 0 classCount c [] l, zero-add c)) m) in
     let e : pageIn (r .0) ≡ p = r .2 in omega arith)
     (λ l. absurd (List·Memᴰ·not-nil (subst (List·Memᴰ p) (List·getD-eq-default (listsOf ks) [] (omega (arith, length-lists ks))) m)))
 
@@ -241,20 +236,20 @@ set-from : (c i k : ℕ) (ls : List (List ℕ)) (l : List ℕ) → c + i ≡ k �
     → keysFrom c (set ls i l) ≡ keysFrom c (take i ls) ++ (map (key k) l ++ keysFrom (suc k) (drop (suc i) ls))
 unfolding keysFrom
 set-from c i k [] l e h = absurd (not-suc-le-zero h)
-set-from c zero k (x ∷ ls) l e h = ap (λ (n : ℕ). map (key n) l ++ keysFrom (suc n) ls) (let q : c ≡ k = omega arith in q)
+set-from c zero k (x ∷ ls) l e h = ap (λ n. map (key n) l ++ keysFrom (suc n) ls) (let q : c ≡ k = omega arith in q)
 set-from c (suc i) k (x ∷ ls) l e h =
-    ap (λ (t : List ℕ). map (key c) x ++ t) (set-from (suc c) i k ls l (omega arith) (le-of-suc-le-suc h))
-    ∙ sym (append-assoc (map (key c) x) (keysFrom (suc c) (take i ls)) (map (key k) l ++ keysFrom (suc k) (drop (suc i) ls)))
+    ap (λ t. map (key c) x ++ t) (set-from (suc c) i k ls l (omega arith) (le-of-suc-le-suc h))
+    ∙ sym (append-assoc (map (key c) x) _ _)
 
 remove-keys : (c p : ℕ) (l : List ℕ) → remove (key c p) (map (key c) l) ≡ map (key c) (remove p l)
 unfolding remove keep
 remove-keys c p [] = refl
 remove-keys c p (x ∷ l) =
-    by-eqb (λ t. remove (key c p) (map (key c) (x ∷ l)) ≡ map (key c) (remove p (x ∷ l))) p x
-    (λ e. remove-here (key c p) (map (key c) l) (ap (key c) e) ∙ remove-keys c p l ∙ ap (map (key c)) (sym (remove-here p l e)))
+    by-eq p x
+    (λ e. cc (remove-here (key c p) (map (key c) l) (ap (key c) e), remove-keys c p l, remove-here p l e))
     (λ n.
     remove-there (key c p) (map (key c) l) (λ e. n (omega arith))
-    ∙ ap (λ (t : List ℕ). key c x ∷ t) (remove-keys c p l)
+    ∙ ap (λ t. key c x ∷ t) (remove-keys c p l)
     ∙ ap (map (key c)) (sym (remove-there p l n)))
 
 module _ (c : ℕ) (ls : List (List ℕ)) (there : c < length ls) where
@@ -263,10 +258,10 @@ module _ (c : ℕ) (ls : List (List ℕ)) (there : c < length ls) where
   keys-set l = set-from 0 c c ls l (omega arith) there
 
   pub keys-parts : keysOf ls ≡ keysBefore c ls ++ (map (key c) (getD ls c []) ++ keysBehind c ls)
-  keys-parts = ap keysOf (sym (set-getD ls c [])) ∙ keys-set (getD ls c [])
+  keys-parts = cc (set-getD ls c [], keys-set (getD ls c []))
 
   pub behind-above : {q : ℕ} → List·Memᴰ q (keysBehind c ls) → c < classIn q
-  behind-above m = keys-least (suc c) (drop (suc c) ls) m
+  behind-above m = keys-least (suc c) _ m
 
   module _ (pages : Pages ls) where
     pub before-below : {q : ℕ} → List·Memᴰ q (keysBefore c ls) → classIn q < c
@@ -276,29 +271,24 @@ module _ (c : ℕ) (ls : List (List ℕ)) (there : c < length ls) where
     pub place-is : placeOf c (keysOf ls) ≡ length (keysBefore c ls)
     place-is =
         ap (count (belowClass c)) keys-parts
-        ∙ count-append (belowClass c) (keysBefore c ls) (map (key c) (getD ls c []) ++ keysBehind c ls)
-        ∙ (let a = count-all (belowClass c) (keysBefore c ls) (every-of-members (belowClass c) (keysBefore c ls) (λ q m. lt-ltb (classIn q) c (before-below m))) in
+        ∙ count-append _ (keysBefore c ls) _
+        ∙ (let a = count-all _ _ (every-of-members _ _ (λ q m. lt-ltb (classIn q) c (before-below m))) in
         let b =
-        count-none (belowClass c) (map (key c) (getD ls c []) ++ keysBehind c ls)
-        (every-of-members (λ q. not (belowClass c q)) (map (key c) (getD ls c []) ++ keysBehind c ls) (λ q m. rw (le-ltb (classIn q) c (rest m)))) in
+        count-none (belowClass c) _
+        (every-of-members (λ q. not (belowClass c q)) _ (λ q m. rw (le-ltb (classIn q) c (rest m)))) in
         omega arith)
       where
         rest : {q : ℕ} → List·Memᴰ q (map (key c) (getD ls c []) ++ keysBehind c ls) → c ≤ classIn q
         rest {q} m =
             ⊎-elim (λ k. let r = Memᴰ·of-map (key c) (getD ls c []) k in let e : key c (r .0) ≡ q = r .2 in omega arith)
-            (λ k. let a = behind-above k in omega arith) (List·Memᴰ·append-cases (map (key c) (getD ls c [])) m)
+            (λ k. let a = behind-above k in omega arith) (List·Memᴰ·append-cases _ m)
 
     -- A page more at the front of the class's list: its key in front of those of the class.
     pub keys-push : (p : ℕ) → keysOf (set ls c (p ∷ getD ls c [])) ≡ putAt (placeOf c (keysOf ls)) (key c p) (keysOf ls)
     keys-push p =
         let b : List ℕ = keysBefore c ls in
         let r : List ℕ = map (key c) (getD ls c []) ++ keysBehind c ls in
-        keys-set (p ∷ getD ls c [])
-        ∙ sym
-        (ap (λ (k : ℕ). putAt k (key c p) (keysOf ls)) place-is
-        ∙ ap (putAt (length b) (key c p)) keys-parts
-        ∙ ap (λ (t : List ℕ). t ++ key c p ∷ drop (length b) (b ++ r)) (take-at b r (length b) refl)
-        ∙ ap (λ (t : List ℕ). b ++ key c p ∷ t) (drop-at b r (length b) refl))
+        cc (keys-set (p ∷ getD ls c []), place-is, keys-parts, take-at b r (length b) refl, drop-at b r (length b) refl)
 
     -- A page less on the class's list: its key less.
     pub keys-remove : (p : ℕ) → p < mostPages → keysOf (set ls c (remove p (getD ls c []))) ≡ remove (key c p) (keysOf ls)
@@ -306,12 +296,10 @@ module _ (c : ℕ) (ls : List (List ℕ)) (there : c < length ls) where
         let b : List ℕ = keysBefore c ls in
         let l : List ℕ = map (key c) (getD ls c []) in
         let a : List ℕ = keysBehind c ls in
-        keys-set (remove p (getD ls c []))
+        keys-set _
         ∙ sym
         (ap (remove (key c p)) keys-parts
         ∙ remove-append (key c p) b (l ++ a)
-        ∙ ap (λ (t : List ℕ). t ++ remove (key c p) (l ++ a)) (remove-absent (key c p) b (λ m. let x = before-below m in omega arith))
-        ∙ ap (λ (t : List ℕ). b ++ t)
-        (remove-append (key c p) l a
-        ∙ ap (λ (t : List ℕ). remove (key c p) l ++ t) (remove-absent (key c p) a (λ m. let x = behind-above m in omega arith))
-        ∙ ap (λ (t : List ℕ). t ++ a) (remove-keys c p (getD ls c []))))
+        ∙ ap (λ t. t ++ remove (key c p) (l ++ a)) (remove-absent (key c p) b (λ m. let x = before-below m in omega arith))
+        ∙ ap (λ t. b ++ t)
+        (cc (remove-append (key c p) l a, remove-absent (key c p) a (λ m. let x = behind-above m in omega arith), remove-keys c p (getD ls c []))))

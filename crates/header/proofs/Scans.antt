@@ -29,11 +29,11 @@ module _ (limit c : ℕ) (w : List ℕ) (i : ℕ) where
   pub legal-zero : i < length w → getD w i 0 ≡ 0 → every isZero (take (length w - (i + 1)) (drop (i + 1) w)) ≡ legalSlots limit c (drop i w)
   unfolding legalSlots
   legal-zero h e =
-      ap (every isZero) (take-all (length w - (i + 1)) (drop (i + 1) w) (simp length-drop (omega arith)))
+      ap (every isZero) (take-all (length w - (i + 1)) _ (simp length-drop (omega arith)))
       ∙ (rw (next-word w i 0 h, e))
 
   next-entry : i < length w → (getD w i 0 ≡ 0 → ⊥) → drop i w ≡ suc (getD w i 0 - 1) ∷ drop (i + 1) w
-  next-entry h n = next-word w i 0 h ∙ ap (λ (x : ℕ). x ∷ drop (i + 1) w) (let e : getD w i 0 ≡ suc (getD w i 0 - 1) = omega arith in e)
+  next-entry h n = next-word w i 0 h ∙ ap (λ x. x ∷ drop (i + 1) w) (let e : getD w i 0 ≡ suc (getD w i 0 - 1) = omega arith in e)
 
   pub legal-large : i < length w → (getD w i 0 ≡ 0 → ⊥) → limit < getD w i 0 → false ≡ legalSlots limit c (drop i w)
   unfolding legalSlots
@@ -41,18 +41,18 @@ module _ (limit c : ℕ) (w : List ℕ) (i : ℕ) where
 
   pub legal-falls : i < length w → (getD w i 0 ≡ 0 → ⊥) → getD w i 0 ≤ limit → classIn (getD w i 0 - 1) < c → false ≡ legalSlots limit c (drop i w)
   unfolding legalSlots
-  legal-falls h n l k = rw (next-entry h n, lt-ltb (getD w i 0 - 1) limit (omega arith), lt-leb c (classIn (getD w i 0 - 1)) k)
+  legal-falls h n l k = rw (next-entry h n, lt-ltb (getD w i 0 - 1) limit (omega arith), lt-leb c _ k)
 
   pub legal-next : i < length w → (getD w i 0 ≡ 0 → ⊥) → getD w i 0 ≤ limit → c ≤ classIn (getD w i 0 - 1)
       → legalSlots limit (classIn (getD w i 0 - 1)) (drop (i + 1) w) ≡ legalSlots limit c (drop i w)
   unfolding legalSlots
-  legal-next h n l k = rw (next-entry h n, lt-ltb (getD w i 0 - 1) limit (omega arith), le-leb c (classIn (getD w i 0 - 1)) k)
+  legal-next h n l k = rw (next-entry h n, lt-ltb (getD w i 0 - 1) limit (omega arith), le-leb c _ k)
 
 -- ---- shifting in
 
 pub shift-more : (w : List ℕ) (i v : ℕ) → i < length w → shiftedIn (i + 1) (getD w i 0) (set w i v) ≡ shiftedIn i v w
 unfolding pushed
-shift-more w i v h = rw (take-set-next w i v h, drop-set-next w i v, next-word w i 0 h) (append-snoc (take i w) v (pushed (getD w i 0) (drop (i + 1) w)))
+shift-more w i v h = rw (take-set-next w i v h, drop-set-next w i v, next-word w i 0 h) (append-snoc (take i w) v _)
 
 pub shift-done : (w : List ℕ) (i v : ℕ) → length w ≤ i → shiftedIn i v w ≡ w
 unfolding pushed
@@ -81,16 +81,13 @@ module _ (v : ℕ) (w₀ : List ℕ) where
       there = let a = g .size in omega arith
 
       same-word : getD w i 0 ∷ drop (i + 1) w ≡ getD w₀ i 0 ∷ drop (i + 1) w₀
-      same-word = sym (next-word w i 0 h) ∙ g .behind ∙ next-word w₀ i 0 there
+      same-word = cc (next-word w i 0 h, next-word w₀ i 0 there)
 
       removed-next : remove v (take (i + 1) w₀) ≡ take e w ++ remove v (getD w i 0 ∷ [])
       removed-next =
           let s = same-word in
           let x : getD w₀ i 0 ≡ getD w i 0 = cc in
-          ap (remove v) (take-next w₀ i 0 there)
-          ∙ remove-append v (take i w₀) (getD w₀ i 0 ∷ [])
-          ∙ ap (λ (l : List ℕ). l ++ remove v (getD w₀ i 0 ∷ [])) (sym (g .front))
-          ∙ ap (λ (y : ℕ). take e w ++ remove v (y ∷ [])) x
+          cc (take-next w₀ i 0 there, remove-append v (take i w₀) (getD w₀ i 0 ∷ []))
 
       pub gathered-skip : getD w i 0 ≡ v → Gathered v w₀ w e (i + 1)
       unfolding remove keep
@@ -102,7 +99,7 @@ module _ (v : ℕ) (w₀ : List ℕ) where
             size = g .size;
             here = omega arith;
             close = omega arith;
-            front = sym (removed-next ∙ ap (λ (l : List ℕ). take e w ++ l) (remove-here v [] (sym q)) ∙ append-nil (take e w));
+            front = sym (cc (removed-next, remove-here v [] (sym q), append-nil (take e w)));
             behind = cc;
           }
 
@@ -115,11 +112,11 @@ module _ (v : ℕ) (w₀ : List ℕ) where
           let z = g .size in
           let r : drop (i + 1) w ≡ drop (i + 1) w₀ = cc in
           record {
-            size = length-set w e (getD w i 0) ∙ z;
+            size = length-set w e _ ∙ z;
             here = omega arith;
             close = omega arith;
-            front = take-set-next w e (getD w i 0) (omega arith) ∙ sym (removed-next ∙ ap (λ (l : List ℕ). take e w ++ l) (remove-there v [] (λ q. n (sym q))));
-            behind = drop-set-lt (i + 1) w e (getD w i 0) (omega arith) ∙ r;
+            front = cc (take-set-next w e (getD w i 0) (omega arith), removed-next, remove-there v [] (λ q. n (sym q)));
+            behind = drop-set-lt (i + 1) w e _ (omega arith) ∙ r;
           }
 
     pub gathered-done : length w ≤ i → (e ≡ length (remove v w₀)) × (take e w ≡ remove v w₀)
@@ -127,8 +124,8 @@ module _ (v : ℕ) (w₀ : List ℕ) where
         let z = g .size in
         let c = g .close in
         let b = g .here in
-        let f : take e w ≡ remove v w₀ = g .front ∙ ap (remove v) (take-all i w₀ (omega arith)) in
-        (sym (length-take-le e w (omega arith)) ∙ ap length f, f)
+        let f : take e w ≡ remove v w₀ = cc (take-all i w₀ (omega arith)) in
+        (cc (length-take-le e w (omega arith)), f)
 
 -- Zeros behind what was gathered.
 pub closed-put : (v : ℕ) (w₀ w z : List ℕ) (e : ℕ) → length w ≡ length w₀ → e ≡ length (remove v w₀) → take e w ≡ remove v w₀
@@ -139,6 +136,4 @@ closed-put v w₀ w z e s n f q =
     let k : length (mid e (length w - e) w) ≡ times v w₀ = length-mid e (length w - e) w (omega arith) ∙ omega arith in
     let b : length (drop e w) ≤ length w - e = simp length-drop (omega arith) in
     let d : drop (length w - e) (drop e w) ≡ [] = drop-of-length-le (drop e w) b in
-    ap (λ (l : List ℕ). l ++ (z ++ drop (length w - e) (drop e w))) f
-    ∙ ap (λ (l : List ℕ). remove v w₀ ++ (z ++ l)) d
-    ∙ ap (λ (l : List ℕ). remove v w₀ ++ l) (append-nil z ∙ q ∙ ap zeros k)
+    cc (append-nil z)

@@ -10,7 +10,7 @@ use Rattle.lemmas.specs.Every.{count}
 use Rattle.lemmas.specs.Times.{times, remove}
 use Rattle.lemmas.specs.Parts.{mid, putMid}
 use Rattle.lemmas.specs.Zeros.{zeros}
-use Rattle.lemmas.proofs.Cases.{by-ltb}
+use Rattle.lemmas.proofs.Cases.{by-lt}
 use Rattle.lemmas.proofs.Every.{count-le-length}
 use Rattle.lemmas.proofs.Parts.{length-mid, getD-mid}
 use Rattle.lemmas.proofs.Zeros.{zeros-add, getD-zeros}
@@ -81,23 +81,23 @@ module _ {w : List ℕ} {n : ℕ} {spare : List ℕ} {lists : List (List ℕ)} (
   -- ---- what the words hold
 
   pub header-length : length w ≡ headerWords
-  header-length = ap length (h .words) ∙ length-header n spare lists
+  header-length = cc (length-header n spare lists)
 
   lists-words : mid atLists listSlots w ≡ slots listSlots (keysOf lists)
-  lists-words = ap (mid atLists listSlots) (h .words) ∙ lists-part n spare lists
+  lists-words = cc (lists-part n spare lists)
 
   pub lists-size : length (mid atLists listSlots w) ≡ listSlots
-  lists-size = ap length lists-words ∙ length-slots listSlots (keysOf lists)
+  lists-size = ap length lists-words ∙ length-slots listSlots _
 
   spare-words : mid atSpare spareSlots w ≡ slots spareSlots spare
-  spare-words = ap (mid atSpare spareSlots) (h .words) ∙ spare-part n spare lists
+  spare-words = cc (spare-part n spare lists)
 
   -- A count over the slots is a count over the list.
   lists-count : (low high : ℕ) → count (holds low high) (mid atLists listSlots w) ≡ count (between low high) (keysOf lists)
-  lists-count low high = ap (count (holds low high)) lists-words ∙ count-slots low high listSlots (keysOf lists) (h .fits .room)
+  lists-count low high = rw lists-words (count-slots low high listSlots (keysOf lists) (h .fits .room))
 
   spare-count : (low high : ℕ) → count (holds low high) (mid atSpare spareSlots w) ≡ count (between low high) spare
-  spare-count low high = ap (count (holds low high)) spare-words ∙ count-slots low high spareSlots spare (h .fits .few)
+  spare-count low high = rw spare-words (count-slots low high spareSlots spare (h .fits .few))
 
   -- It is at most the number of slots.
   pub lists-most : (low high : ℕ) {k : ℕ} → k ≡ count (holds low high) (mid atLists listSlots w) → k ≤ listSlots
@@ -113,7 +113,7 @@ module _ {w : List ℕ} {n : ℕ} {spare : List ℕ} {lists : List (List ℕ)} (
       omega arith
 
   pub listed-count : count (holds 0 keyLimit) (mid atLists listSlots w) ≡ length (keysOf lists)
-  listed-count = lists-count 0 keyLimit ∙ count-every keyLimit (keysOf lists) (keys-below lists (h .fits .classes) (h .fits .list-pages))
+  listed-count = lists-count 0 keyLimit ∙ count-every keyLimit _ (keys-below lists (h .fits .classes) (h .fits .list-pages))
 
   pub spare-length : count (holds 0 mostPages) (mid atSpare spareSlots w) ≡ length spare
   spare-length = spare-count 0 mostPages ∙ count-every mostPages spare (h .fits .spare-pages)
@@ -127,15 +127,14 @@ module _ {w : List ℕ} {n : ℕ} {spare : List ℕ} {lists : List (List ℕ)} (
 
     pub class-length : (low high : ℕ) → low ≡ key c 0 → high ≡ key c mostPages → count (holds low high) (mid atLists listSlots w) ≡ length (getD lists c [])
     class-length low high l g =
-        lists-count low high ∙ ap (λ (k : ℕ). count (between k high) (keysOf lists)) l ∙ ap (λ (k : ℕ). count (between (key c 0) k) (keysOf lists)) g
-        ∙ count-class c lists there (h .fits .list-pages)
+        cc (lists-count low high, count-class c lists there (h .fits .list-pages))
 
     pub class-times : (p q : ℕ) → p < mostPages → q ≡ key c p → count (holds q (q + 1)) (mid atLists listSlots w) ≡ times p (getD lists c [])
     class-times p q k e =
-        lists-count q (q + 1) ∙ count-one q (keysOf lists) ∙ ap (λ (x : ℕ). times x (keysOf lists)) e ∙ times-class c lists there (h .fits .list-pages) p k
+        cc (lists-count q (q + 1), count-one q (keysOf lists), times-class c lists there (h .fits .list-pages) p k)
 
     class-place : (low : ℕ) → low ≡ key c 0 → count (holds 0 low) (mid atLists listSlots w) ≡ placeOf c (keysOf lists)
-    class-place low l = lists-count 0 low ∙ ap (λ (k : ℕ). count (between 0 k) (keysOf lists)) l ∙ count-place c lists
+    class-place low l = cc (lists-count 0 low, count-place c lists)
 
     -- The slot where the keys of the class begin; behind the last slot stands a zero.
     place-slot : (low k : ℕ) → low ≡ key c 0 → k ≡ count (holds 0 low) (mid atLists listSlots w) → getD w (atLists + k) 0 ≡ slotOf (map (key c) (getD lists c []) ++ keysBehind c lists)
@@ -146,12 +145,12 @@ module _ {w : List ℕ} {n : ℕ} {spare : List ℕ} {lists : List (List ℕ)} (
         let at : k ≡ length before = e ∙ class-place low is ∙ place-is c lists there (h .fits .list-pages) in
         let room : length (before ++ rest) ≤ listSlots = rw (sym parts) (h .fits .room) in
         let slot : getD (mid atLists listSlots w) k 0 ≡ slotOf rest =
-        ap (λ (t : List ℕ). getD t k 0) (lists-words ∙ ap (slots listSlots) parts) ∙ ap (λ (i : ℕ). getD (slots listSlots (before ++ rest)) i 0) at ∙ slot-at listSlots before rest room in
-        by-ltb (λ t. getD w (atLists + k) 0 ≡ slotOf rest) k listSlots
-        (λ l. sym (getD-mid atLists listSlots w k 0 l) ∙ slot)
+        cc (lists-words, parts, at, slot-at listSlots before rest room) in
+        by-lt k listSlots
+        (λ l. cc (getD-mid atLists listSlots w k 0 l))
         (λ l.
         let last : k ≡ listSlots = let a = length-append before rest in omega arith in
-        ap (λ (i : ℕ). getD w (atLists + i) 0) last
+        ap (λ i. getD w (atLists + i) 0) last
         ∙ sym (getD-mid atRest restWords w 0 0 (omega arith))
         ∙ ap (λ (t : List ℕ). getD t 0 0) (ap (mid atRest restWords) (h .words) ∙ rest-part n spare lists)
         ∙ getD-zeros restWords 0
@@ -160,77 +159,73 @@ module _ {w : List ℕ} {n : ℕ} {spare : List ℕ} {lists : List (List ℕ)} (
 
     module _ (low k : ℕ) (is : low ≡ key c 0) (e : k ≡ count (holds 0 low) (mid atLists listSlots w)) where
       pub first-below : getD w (atLists + k) 0 ≤ low → Nothing ≡ frontOf (getD lists c [])
-      first-below l = front-below c (getD w (atLists + k) 0) (getD lists c []) (keysBehind c lists) (place-slot low k is e) (omega arith)
+      first-below l = front-below c _ (getD lists c []) _ (place-slot low k is e) (omega arith)
 
       pub first-above : (high : ℕ) → high ≡ key c mostPages → high < getD w (atLists + k) 0 → Nothing ≡ frontOf (getD lists c [])
       first-above high g l =
-          front-above c (getD w (atLists + k) 0) (getD lists c []) (keysBehind c lists) (place-slot low k is e) (h .fits .list-pages c) (omega arith)
+          front-above c _ _ _ (place-slot low k is e) (h .fits .list-pages c) (omega arith)
 
       pub first-own : (high : ℕ) → high ≡ key c mostPages → low < getD w (atLists + k) 0 → getD w (atLists + k) 0 ≤ high → Page (getD w (atLists + k) 0 - low - 1) ≡ frontOf (getD lists c [])
       first-own high g l m =
-          ap (λ (x : ℕ). Page (getD w (atLists + k) 0 - x - 1)) is
-          ∙ front-own c (getD w (atLists + k) 0) (getD lists c []) (keysBehind c lists) (place-slot low k is e) (λ q. behind-above c lists there) (omega arith) (omega arith)
+          ap (λ x. Page (getD w (atLists + k) 0 - x - 1)) is
+          ∙ front-own c _ (getD lists c []) _ (place-slot low k is e) (λ q. behind-above c lists there) (omega arith) (omega arith)
 
   spare-slot : getD w 2 0 ≡ slotOf spare
-  spare-slot = sym (getD-mid atSpare spareSlots w 0 0 (omega arith)) ∙ ap (λ (t : List ℕ). getD t 0 0) spare-words ∙ slot-at spareSlots [] spare (h .fits .few)
+  spare-slot = cc (getD-mid atSpare spareSlots w 0 0 (omega arith), spare-words, slot-at spareSlots [] spare (h .fits .few))
 
   pub spare-none : getD w 2 0 ≡ 0 → Nothing ≡ frontOf spare
-  spare-none = front-none (getD w 2 0) spare spare-slot
+  spare-none = front-none _ spare spare-slot
 
   pub spare-some : (getD w 2 0 ≡ 0 → ⊥) → Page (getD w 2 0 - 1) ≡ frontOf spare
-  spare-some = front-some (getD w 2 0) spare spare-slot
+  spare-some = front-some _ spare spare-slot
 
   -- ---- the steps
 
   step-lists : (v : List ℕ) (ls : List (List ℕ)) → v ≡ slots listSlots (keysOf ls) → putMid atLists listSlots w v ≡ headerEncoding n spare ls
   unfolding headerEncoding
   step-lists v ls e =
-      ap (λ (t : List ℕ). putMid atLists listSlots t v) (h .words)
-      ∙ put-lists n spare lists v
-      ∙ ap (λ (t : List ℕ). (magic ∷ n ∷ []) ++ (slots spareSlots spare ++ (t ++ zeros restWords))) e
+      cc (put-lists n spare lists v)
 
   step-spare : (v l : List ℕ) → v ≡ slots spareSlots l → putMid atSpare spareSlots w v ≡ headerEncoding n l lists
   unfolding headerEncoding
   step-spare v l e =
-      ap (λ (t : List ℕ). putMid atSpare spareSlots t v) (h .words)
-      ∙ put-spare n spare lists v
-      ∙ ap (λ (t : List ℕ). (magic ∷ n ∷ []) ++ (t ++ (slots listSlots (keysOf lists) ++ zeros restWords))) e
+      cc (put-spare n spare lists v)
 
   module _ (c p : ℕ) (b : c < classCount) where
     pub step-push : (low q k : ℕ) (v : List ℕ) → low ≡ key c 0 → q ≡ key c p → k ≡ count (holds 0 low) (mid atLists listSlots w) → v ≡ shiftedIn k (q + 1) (mid atLists listSlots w)
         → putMid atLists listSlots w v ≡ headerEncoding n spare (set lists c (p ∷ getD lists c []))
     step-push low q k v is own e f =
         let at : k ≡ placeOf c (keysOf lists) = e ∙ class-place c b low is in
-        let m : k ≤ length (keysOf lists) = rw at (count-le-length (belowClass c) (keysOf lists)) in
-        step-lists v (set lists c (p ∷ getD lists c []))
+        let m : k ≤ length (keysOf lists) = rw at (count-le-length _ _) in
+        step-lists v _
         (f
-        ∙ ap (λ (t : List ℕ). shiftedIn k (q + 1) t) lists-words
-        ∙ ap (λ (x : ℕ). shiftedIn k x (slots listSlots (keysOf lists))) (add-one q ∙ ap suc own)
-        ∙ shifted-slots k listSlots (key c p) (keysOf lists) m
-        ∙ ap (λ (i : ℕ). slots listSlots (putAt i (key c p) (keysOf lists))) at
+        ∙ ap (λ t. shiftedIn k (q + 1) t) lists-words
+        ∙ ap (λ x. shiftedIn k x (slots listSlots (keysOf lists))) (cc (add-one q))
+        ∙ shifted-slots k listSlots (key c p) _ m
+        ∙ ap (λ i. slots listSlots (putAt i (key c p) (keysOf lists))) at
         ∙ ap (slots listSlots) (sym (keys-push c lists (there c b) (h .fits .list-pages) p)))
 
     pub step-remove : (q : ℕ) (v : List ℕ) → p < mostPages → q ≡ key c p → v ≡ closedUp (q + 1) (mid atLists listSlots w) → putMid atLists listSlots w v ≡ headerEncoding n spare (set lists c (remove p (getD lists c [])))
     step-remove q v k own f =
-        step-lists v (set lists c (remove p (getD lists c [])))
+        step-lists v _
         (f
         ∙ ap (closedUp (q + 1)) lists-words
-        ∙ ap (λ (x : ℕ). closedUp x (slots listSlots (keysOf lists))) (add-one q ∙ ap suc own)
-        ∙ closed-slots (key c p) listSlots (keysOf lists) (h .fits .room)
+        ∙ ap (λ x. closedUp x (slots listSlots (keysOf lists))) (cc (add-one q))
+        ∙ closed-slots (key c p) listSlots _ (h .fits .room)
         ∙ ap (slots listSlots) (sym (keys-remove c lists (there c b) (h .fits .list-pages) p k)))
 
   pub step-spare-push : (p : ℕ) (v : List ℕ) → v ≡ shiftedIn 0 (p + 1) (mid atSpare spareSlots w) → putMid atSpare spareSlots w v ≡ headerEncoding n (p ∷ spare) lists
   step-spare-push p v q =
       step-spare v (p ∷ spare)
-      (q ∙ ap (shiftedIn 0 (p + 1)) spare-words ∙ ap (λ (x : ℕ). shiftedIn 0 x (slots spareSlots spare)) (add-one p) ∙ shifted-slots 0 spareSlots p spare (omega arith))
+      (cc (q, spare-words, add-one p, shifted-slots 0 spareSlots p spare (omega arith)))
 
   pub step-spare-clear : (v : List ℕ) → v ≡ zeros (length (mid atSpare spareSlots w)) → putMid atSpare spareSlots w v ≡ headerEncoding n [] lists
-  step-spare-clear v q = step-spare v [] (q ∙ ap zeros (ap length spare-words ∙ length-slots spareSlots spare) ∙ sym (slots-none spareSlots))
+  step-spare-clear v q = step-spare v [] (cc (q, spare-words, length-slots spareSlots spare, slots-none spareSlots))
 
   pub step-spare-pop : set (set w 2 (getD w 3 0)) 3 0 ≡ headerEncoding n (drop 1 spare) lists
   unfolding headerEncoding
   step-spare-pop =
-      ap (λ (t : List ℕ). set (set t 2 (getD t 3 0)) 3 0) (h .words) ∙ popped magic n spare (slots listSlots (keysOf lists) ++ zeros restWords) (h .fits .few)
+      cc (popped magic n spare (slots listSlots (keysOf lists) ++ zeros restWords) (h .fits .few))
 
 -- ---- a new header, whatever the words held
 
@@ -248,17 +243,17 @@ overwritten [] z k m n e = absurd (omega arith)
 overwritten (a ∷ []) z k m n e = absurd (omega arith)
 overwritten (a ∷ b ∷ w) z k m n e =
     let l : length w ≤ k = omega arith in
-    ap (λ (t : List ℕ). m ∷ n ∷ t) (ap (λ (t : List ℕ). z ++ t) (drop-of-length-le w l) ∙ append-nil z)
+    cc (drop-of-length-le w l, append-nil z)
 
 pub step-fresh : (w z : List ℕ) (n : ℕ) → length w ≡ headerWords → z ≡ zeros (length (mid atSpare (headerWords - atSpare) w))
     → set (set (putMid atSpare (headerWords - atSpare) w z) 0 magic) 1 n ≡ headerEncoding n [] (replicate classCount [])
 unfolding headerEncoding
 step-fresh w z n e q =
     overwritten w z (headerWords - atSpare) magic n e
-    ∙ ap (λ (t : List ℕ). magic ∷ n ∷ t)
+    ∙ ap (λ t. magic ∷ n ∷ t)
     (q
-    ∙ ap zeros (length-mid atSpare (headerWords - atSpare) w (omega arith))
-    ∙ zeros-add spareSlots (listSlots + restWords)
-    ∙ ap (λ (t : List ℕ). zeros spareSlots ++ t) (zeros-add listSlots restWords)
-    ∙ ap (λ (t : List ℕ). t ++ (zeros listSlots ++ zeros restWords)) (sym (slots-none spareSlots))
-    ∙ ap (λ (t : List ℕ). slots spareSlots [] ++ (t ++ zeros restWords)) (sym (slots-none listSlots) ∙ ap (slots listSlots) (sym fresh-keys)))
+    ∙ ap zeros (length-mid atSpare _ w (omega arith))
+    ∙ zeros-add spareSlots _
+    ∙ ap (λ t. zeros spareSlots ++ t) (zeros-add listSlots restWords)
+    ∙ ap (λ t. t ++ (zeros listSlots ++ zeros restWords)) (sym (slots-none spareSlots))
+    ∙ ap (λ t. slots spareSlots [] ++ (t ++ zeros restWords)) (sym (slots-none listSlots) ∙ ap (slots listSlots) (sym fresh-keys)))

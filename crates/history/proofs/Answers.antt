@@ -2,11 +2,11 @@
 use Prim.Native.Nat.{ℕ, _<_}
 use mathlib.Core.Path.{_≡_, refl, sym, ap, _∙_}
 use mathlib.Core.Logic.{_↔_}
-use mathlib.Core.Option.{Option, none, some, Option·none-ne-some}
+use mathlib.Core.Option.{Option, none, some}
 use mathlib.Core.Bool.{true, cond}
 use native.Mathlib.Omega.{arith}
 use lib.Dec.{eqb}
-use Rattle.lemmas.proofs.Cases.{true-false, some-inj}
+use Rattle.lemmas.proofs.Cases.{true-false, some-inj, none-some}
 use Rattle.model.specs.declared.Refusal.{Refusal}
 use Rattle.model.specs.declared.Refusal.the-variants.{BadPages, FewWords, NoState, BadGroup, BadSize, NoRoom, NoBlock, OtherGroup, ShortBuffer}
 use Rattle.model.specs.declared.Answer.{Answer}
@@ -44,22 +44,22 @@ number-least ShortBuffer = omega arith
 
 -- An answer is a refusal just if it has a number.
 pub refused-number : (a : Answer) → (isRefused a ≡ true) ↔ (0 < (reading a) .refusal)
-refused-number (Granted o) = (λ t. absurd (true-false t refl), λ h. absurd (omega arith))
+refused-number (Granted o) = (λ t. true-false t refl, λ h. absurd (omega arith))
 refused-number (Refused k) = (λ _. number-least k, λ _. refl)
-refused-number Done = (λ t. absurd (true-false t refl), λ h. absurd (omega arith))
-refused-number (Counted n) = (λ t. absurd (true-false t refl), λ h. absurd (omega arith))
-refused-number (Block g r) = (λ t. absurd (true-false t refl), λ h. absurd (omega arith))
+refused-number Done = (λ t. true-false t refl, λ h. absurd (omega arith))
+refused-number (Counted n) = (λ t. true-false t refl, λ h. absurd (omega arith))
+refused-number (Block g r) = (λ t. true-false t refl, λ h. absurd (omega arith))
 
 -- It has the number of the refusal k just if it is that refusal, ..
 pub refusal-told : (k : Refusal) (a : Answer) → RefusedBy (number k) a ↔ (a ≡ Refused k)
 refusal-told k a = (λ e. go a e (refused-number a .1 (omega (arith, number-least k, ap (λ r. r .refusal) e))), λ e. ap reading e)
   where
     go : (a : Answer) → RefusedBy (number k) a → isRefused a ≡ true → a ≡ Refused k
-    go (Granted o) e t = absurd (true-false t refl)
+    go (Granted o) e t = true-false t refl
     go (Refused j) e t = ap Refused (some-inj (sym (numbered j) ∙ ap (λ r. refusalOf (r .refusal)) e ∙ numbered k))
-    go Done e t = absurd (true-false t refl)
-    go (Counted n) e t = absurd (true-false t refl)
-    go (Block g r) e t = absurd (true-false t refl)
+    go Done e t = true-false t refl
+    go (Counted n) e t = true-false t refl
+    go (Block g r) e t = true-false t refl
 
 -- .. and grants an offset just if it is that grant.
 pub grant-told : (o : ℕ) (a : Answer) → GrantedAt o a ↔ (a ≡ Granted o)
@@ -67,7 +67,7 @@ grant-told o a = (λ h. go a (h .0), λ e. (ap grantOf e, ap reading e))
   where
     go : (a : Answer) → grantOf a ≡ some o → a ≡ Granted o
     go (Granted q) e = ap Granted (some-inj e)
-    go (Refused k) e = absurd (Option·none-ne-some o e)
-    go Done e = absurd (Option·none-ne-some o e)
-    go (Counted n) e = absurd (Option·none-ne-some o e)
-    go (Block g r) e = absurd (Option·none-ne-some o e)
+    go (Refused k) e = none-some e
+    go Done e = none-some e
+    go (Counted n) e = none-some e
+    go (Block g r) e = none-some e

@@ -4,11 +4,10 @@ use Prim.Native.Nat.{ℕ, _≤_, _<_}
 use mathlib.Core.Path.{_≡_, refl, sym, _∙_, ap, subst}
 use mathlib.Core.Logic.{_⊎_, inl, inr}
 use mathlib.Core.List.{List, [], _∷_, _++_, map, List·Memᴰ, List·Memᴰ·not-nil, List·Memᴰ·head, List·Memᴰ·tail, List·Memᴰ·cases-cons, Memᴰ·map, Memᴰ·append-left}
-use mathlib.Core.Bool.{Bool, true, false, cond, _&&_}
+use mathlib.Core.Bool.{Bool, true, _&&_}
 use native.Mathlib.Omega.{arith}
 use Rattle.lemmas.specs.Keep.{keep}
-use Rattle.lemmas.proofs.Cases.{bool}
-use Rattle.lemmas.proofs.Keep.{keep-append, keep-in}
+use Rattle.lemmas.proofs.Keep.{keep-append, keep-in, keep-keep}
 use Rattle.history.specs.Ledger.{Held}
 use Rattle.history.proofs.Ledger.{Entry, told, kept, keep-told, Change, more, fewer, equal}
 
@@ -19,17 +18,10 @@ pub record Grew (t : ℕ) (M l : List Entry) : Type 0 where
   pub is : l ≡ new ++ kept part M
   pub late : (e : Entry) → List·Memᴰ e new → t ≤ e .serial
 
-kept-kept : (f g : Held → Bool) (l : List Entry) → kept f (kept g l) ≡ kept (λ h. g h && f h) l
-unfolding keep
-kept-kept f g [] = refl
-kept-kept f g (e ∷ r) = bool (g (told e))
-    (λ t. rw t (bool (f (told e)) (λ u. rw u (ap (λ k. e ∷ k) (kept-kept f g r))) (λ u. rw u (kept-kept f g r))))
-    (λ t. rw t (kept-kept f g r))
-
 kept-all : (f : Held → Bool) (l : List Entry) → ((h : Held) → List·Memᴰ h (map told l) → f h ≡ true) → kept f l ≡ l
 unfolding keep
 kept-all f [] h = refl
-kept-all f (e ∷ r) h = rw (h (told e) (List·Memᴰ·head refl)) (ap (λ k. e ∷ k) (kept-all f r (λ x i. h x (List·Memᴰ·tail i))))
+kept-all f (e ∷ r) h = rw (h (told e) (List·Memᴰ·head refl)) (cc (kept-all f r (λ x i. h x (List·Memᴰ·tail i))))
 
 -- Nothing has happened yet.
 pub grew-none : (t : ℕ) (M : List Entry) → Grew t M M
@@ -40,7 +32,7 @@ pub grew-more : (t n : ℕ) (M l l′ : List Entry) → t ≤ n → Grew t M l �
 grew-more t n M l l′ h g (more e s q) = record {
   new = e ∷ g .new;
   part = g .part;
-  is = q ∙ ap (λ k. e ∷ k) (g .is);
+  is = cc;
   late = λ x i. go x (List·Memᴰ·cases-cons i);
 }
   where
@@ -50,7 +42,7 @@ grew-more t n M l l′ h g (more e s q) = record {
 grew-more t n M l l′ h g (fewer f q) = record {
   new = kept f (g .new);
   part = λ x. g .part x && f x;
-  is = q ∙ ap (kept f) (g .is) ∙ keep-append (λ e. f (told e)) (g .new) (kept (g .part) M) ∙ ap (λ k. kept f (g .new) ++ k) (kept-kept f (g .part) M);
+  is = cc (keep-append (λ e. f (told e)) (g .new) (kept (g .part) M), keep-keep (λ e. g .part (told e)) (λ e. f (told e)) M);
   late = λ x i. g .late x (keep-in (λ e. f (told e)) (g .new) i .1);
 }
 grew-more t n M l l′ h g (equal q) = record { new = g .new; part = g .part; is = q ∙ g .is; late = g .late }
@@ -61,9 +53,9 @@ grew-same t M l g early all = go (g .new) refl
   where
     go : (a : List Entry) → g .new ≡ a → l ≡ M
     go [] e =
-        let is : l ≡ kept (g .part) M = g .is ∙ ap (λ k. k ++ kept (g .part) M) e in
-        is ∙ kept-all (g .part) M (λ h i. keep-in (g .part) (map told M) (subst (List·Memᴰ h) (ap (map told) is ∙ sym (keep-told (g .part) M)) (all h i)) .0)
+        let is : l ≡ kept (g .part) M = cc in
+        is ∙ kept-all (g .part) M (λ h i. keep-in (g .part) (map told M) (subst (List·Memᴰ h) (cc (keep-told (g .part) M)) (all h i)) .0)
     go (x ∷ a) e = absurd (
-        let here : List·Memᴰ x (g .new) = subst (List·Memᴰ x) (sym e) (List·Memᴰ·head refl) in
-        let there : List·Memᴰ x l = subst (List·Memᴰ x) (sym (g .is)) (Memᴰ·append-left (kept (g .part) M) here) in
+        let here : List·Memᴰ x (g .new) = rw e (List·Memᴰ·head refl) in
+        let there : List·Memᴰ x l = subst (List·Memᴰ x) (sym (g .is)) (Memᴰ·append-left _ here) in
         omega (arith, g .late x here, early (told x) (Memᴰ·map told there)))

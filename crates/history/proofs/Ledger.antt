@@ -4,14 +4,14 @@ use Prim.Native.Nat.{ℕ}
 use mathlib.Core.Path.{_≡_, refl, sym, _∙_, ap}
 use mathlib.Core.Logic.{_⊎_, inl, inr}
 use mathlib.Core.List.{List, [], _∷_, map, List·Memᴰ, List·Memᴰ·not-nil, List·Memᴰ·head, List·Memᴰ·tail, List·Memᴰ·cases-cons, Memᴰ·map, Memᴰ·of-map}
-use mathlib.Core.Option.{Option, none, some, Option·none-ne-some}
+use mathlib.Core.Option.{Option, none, some}
 use mathlib.Core.Bool.{Bool, cond, not}
 use native.Mathlib.Omega.{arith}
 use lib.Dec.{leb, eqb}
 use lib.ListN.{length}
 use borrow.Author.Tests.{eqb-true, eqb-false, eq-eqb, ne-eqb}
 use Rattle.lemmas.specs.Keep.{keep}
-use Rattle.lemmas.proofs.Cases.{bool, some-inj}
+use Rattle.lemmas.proofs.Cases.{bool, some-inj, none-some}
 use Rattle.model.specs.declared.Operation.{Operation}
 use Rattle.model.specs.declared.Operation.the-variants.{Allocate, Free, Reset}
 use Rattle.model.specs.Sizes.{roomFor}
@@ -59,13 +59,13 @@ entry-found [] s e i = absurd (List·Memᴰ·not-nil i)
 entry-found (x ∷ r) s e i = go (entry-found r (s .1) e) (List·Memᴰ·cases-cons i)
   where
     go : (List·Memᴰ e r → find (e .offset) r ≡ some (e .block)) → (e ≡ x) ⊎ List·Memᴰ e r → find (e .offset) (x ∷ r) ≡ some (e .block)
-    go later (inl p) = rw (eq-eqb (x .offset) (e .offset) (ap (λ k. k .offset) (sym p))) (ap (λ k. some (k .block)) (sym p))
+    go later (inl p) = rw (eq-eqb (x .offset) (e .offset) (cc)) (cc)
     go later (inr j) = bool (eqb (x .offset) (e .offset))
-        (λ t. absurd (Option·none-ne-some (e .block) (sym (s .0) ∙ ap (λ k. find k r) (eqb-true (x .offset) (e .offset) t) ∙ later j)))
+        (λ t. none-some (sym (s .0) ∙ ap (λ k. find k r) (eqb-true (x .offset) (e .offset) t) ∙ later j))
         (λ t. rw t (later j))
 
 found-entry : (o : ℕ) (l : List Entry) (b : Block) → find o l ≡ some b → (e : Entry) × List·Memᴰ e l × (e .offset ≡ o) × (e .block ≡ b)
-found-entry o [] b h = absurd (Option·none-ne-some b h)
+found-entry o [] b h = none-some h
 found-entry o (x ∷ r) b h = bool (eqb (x .offset) o)
     (λ t. (x, List·Memᴰ·head refl, eqb-true (x .offset) o t, some-inj (rw t at h)))
     (λ t. let k = found-entry o r b (rw t at h) in (k .0, List·Memᴰ·tail (k .1), k .2, k .3))
@@ -75,12 +75,12 @@ one-entry [] s e d i j q = absurd (List·Memᴰ·not-nil i)
 one-entry (x ∷ r) s e d i j q = go (one-entry r (s .1) e d) (List·Memᴰ·cases-cons i) (List·Memᴰ·cases-cons j)
   where
     other : (k : Entry) → x .offset ≡ k .offset → List·Memᴰ k r → ⊥
-    other k p n = Option·none-ne-some (k .block) (sym (s .0) ∙ ap (λ o. find o r) p ∙ entry-found r (s .1) k n)
+    other k p n = none-some (sym (s .0) ∙ ap (λ o. find o r) p ∙ entry-found r (s .1) k n)
 
     go : (List·Memᴰ e r → List·Memᴰ d r → e .offset ≡ d .offset → e ≡ d) → (e ≡ x) ⊎ List·Memᴰ e r → (d ≡ x) ⊎ List·Memᴰ d r → e ≡ d
     go later (inl p) (inl t) = p ∙ sym t
-    go later (inl p) (inr n) = absurd (other d (ap (λ k. k .offset) (sym p) ∙ q) n)
-    go later (inr m) (inl t) = absurd (other e (ap (λ k. k .offset) (sym t) ∙ sym q) m)
+    go later (inl p) (inr n) = absurd (other d (cc) n)
+    go later (inr m) (inl t) = absurd (other e (cc) m)
     go later (inr m) (inr n) = later m n q
 
 -- A ledger whose entries are the live blocks of a page map, told.
@@ -88,12 +88,12 @@ pub entries-agree : (l : List Entry) (m : PageMap) → Single l → ((o : ℕ) �
 entries-agree l m s agree = record {
   blocks = λ o g r. (
     λ h. let x = Memᴰ·of-map told l (h .1) in let e = x .0 in
-        (e .block, agree o ∙ ap (λ q. find q l) (sym (h .2) ∙ ap (λ k. k .offset) (sym (x .2))) ∙ entry-found l s e (x .1), ap (λ k. k .group) (x .2) ∙ h .3, ap (λ k. k .room) (x .2) ∙ h .4),
-    λ b. let x = found-entry o l (b .0) (sym (agree o) ∙ b .1) in
-        (told (x .0), Memᴰ·map told (x .1), x .2, ap groupOf (x .3) ∙ b .2, ap roomOf (x .3) ∙ b .3),
+        (e .block, cc (agree o, entry-found l s e (x .1)), cc, cc),
+    λ b. let x = found-entry o l (b .0) (cc (agree o)) in
+        (told (x .0), Memᴰ·map told (x .1), x .2, cc, cc),
   );
   single = λ h k i j q. let x = Memᴰ·of-map told l i in let y = Memᴰ·of-map told l j in
-      sym (x .2) ∙ ap told (one-entry l s (x .0) (y .0) (x .1) (y .1) (ap (λ t. t .offset) (x .2) ∙ q ∙ ap (λ t. t .offset) (sym (y .2)))) ∙ y .2;
+      sym (x .2) ∙ ap told (one-entry l s (x .0) (y .0) (x .1) (y .1) (cc)) ∙ y .2;
 }
 
 abbrev pub kept : (Held → Bool) → List Entry → List Entry
@@ -102,13 +102,13 @@ kept f l = keep (λ e. f (told e)) l
 pub keep-told : (f : Held → Bool) (l : List Entry) → keep f (map told l) ≡ map told (kept f l)
 unfolding keep
 keep-told f [] = refl
-keep-told f (e ∷ r) = bool (f (told e)) (λ t. rw t (ap (λ k. told e ∷ k) (keep-told f r))) (λ t. rw t (keep-told f r))
+keep-told f (e ∷ r) = bool (f (told e)) (λ t. rw t (cc (keep-told f r))) (λ t. rw t (keep-told f r))
 
 kept-none : (f : Held → Bool) (o : ℕ) (l : List Entry) → find o l ≡ none → find o (kept f l) ≡ none
 unfolding keep
 kept-none f o [] h = refl
 kept-none f o (e ∷ r) h = bool (eqb (e .offset) o)
-    (λ t. absurd (Option·none-ne-some (e .block) (sym (rw t at h))))
+    (λ t. none-some (sym (rw t at h)))
     (λ t. bool (f (told e)) (λ u. rw (u, t) (kept-none f o r (rw t at h))) (λ u. rw u (kept-none f o r (rw t at h))))
 
 kept-single : (f : Held → Bool) (l : List Entry) → Single l → Single (kept f l)
@@ -140,7 +140,7 @@ unfolding keep
 ended-group g q [] h = refl
 ended-group g q (e ∷ r) h = bool (eqb (groupOf (e .block)) g)
     (λ t. bool (eqb (e .offset) q)
-    (λ u. rw (t, u) (rw t (kept-none (otherGroup g) q r (ap (λ k. find k r) (sym (eqb-true (e .offset) q u)) ∙ h .0))))
+    (λ u. rw (t, u) (rw t (kept-none (otherGroup g) q r (cc (eqb-true (e .offset) q u)))))
     (λ u. rw (t, u) (ended-group g q r (h .1))))
     (λ t. bool (eqb (e .offset) q)
     (λ u. rw (t, u) (rw t))
@@ -166,10 +166,10 @@ module _ (n : ℕ) (s : State) (l : List Entry) (v : Valid s) (agree : (o : ℕ)
   pub unchanged : (x : Effect) (s′ : State) → x ≡ nothing → s′ ≡ s → After n s l x s′
   unchanged x s′ e f = record {
     entries = l;
-    live = ap (λ y. applied n y (map told l)) e;
-    agree = λ o. ap (λ t. blockAt (pageMap t) o) f ∙ agree o;
+    live = cc;
+    agree = λ o. cc (agree o);
     single = single;
-    size = ap (λ t. total (pageMap t)) f;
+    size = cc;
     change = equal refl;
   }
 
@@ -177,12 +177,12 @@ module _ (n : ℕ) (s : State) (l : List Entry) (v : Valid s) (agree : (o : ℕ)
   after-allocate g k r (gives o b ans fresh grp room only) = let e : Entry = record { serial = n; offset = o; block = b } in record {
     entries = e ∷ l;
     live = rw ans (λ i. record { serial = n; offset = o; group = sym grp i; room = sym room i } ∷ map told l);
-    agree = λ q. bool (eqb o q) (λ t. rw t (ap (blockAt (pageMap (r .after))) (sym (eqb-true o q t)) ∙ only .0)) (λ t. rw t (only .1 q (λ z. eqb-false o q t (sym z)) ∙ agree q));
-    single = (sym (agree o) ∙ fresh, single);
+    agree = λ q. bool (eqb o q) (λ t. rw t (cc (eqb-true o q t))) (λ t. rw t (only .1 q (λ z. eqb-false o q t (sym z)) ∙ agree q));
+    single = (cc (agree o), single);
     size = only .2;
     change = more e refl refl;
   }
-  after-allocate g k r (denies j ans st) = unchanged (ofGrant g k (grantOf (r .answer))) (r .after) (ap (λ a. ofGrant g k (grantOf a)) ans) st
+  after-allocate g k r (denies j ans st) = unchanged _ (r .after) (cc) st
 
   after-free : (g o : ℕ) → After n s l (ofOperation g (Free o) ((free g o s) .answer)) ((free g o s) .after)
   after-free g o = bool (groupOk g) (λ t. rw t (go (blockAt (pageMap s) o) refl)) (λ t. rw t (unchanged nothing s refl refl))
@@ -192,9 +192,9 @@ module _ (n : ℕ) (s : State) (l : List Entry) (v : Valid s) (agree : (o : ℕ)
       go (some b) e = bool (eqb (groupOf b) g)
           (λ t. rw t (let only = freed-only s o b e in record {
             entries = kept (elsewhere o) l;
-            live = keep-told (elsewhere o) l;
+            live = keep-told _ l;
             agree = λ q. bool (eqb q o)
-                (λ u. ap (blockAt (pageMap (freed o b s))) (eqb-true q o u) ∙ only .0 ∙ sym (ended-here o l) ∙ ap (λ k. find k (kept (elsewhere o) l)) (sym (eqb-true q o u)))
+                (λ u. cc (eqb-true q o u, ended-here o l))
                 (λ u. only .1 q (eqb-false q o u) ∙ agree q ∙ sym (ended-other o q (eqb-false q o u) l));
             single = kept-single (elsewhere o) l single;
             size = only .2;
@@ -206,8 +206,8 @@ module _ (n : ℕ) (s : State) (l : List Entry) (v : Valid s) (agree : (o : ℕ)
   after-reset g = bool (groupOk g)
       (λ t. rw t (let r = reset-blocks g s (group-least g t) (all-sized (s .segments) (v .sound)) in record {
         entries = kept (otherGroup g) l;
-        live = keep-told (otherGroup g) l;
-        agree = λ q. r .0 q ∙ ap (λ b. without (isOf g b) b) (agree q) ∙ sym (ended-group g q l single);
+        live = keep-told _ l;
+        agree = λ q. cc (r .0 q, agree q, ended-group g q l single);
         single = kept-single (otherGroup g) l single;
         size = r .1;
         change = fewer (otherGroup g) refl;
@@ -221,14 +221,14 @@ module _ (n : ℕ) (s : State) (l : List Entry) (v : Valid s) (agree : (o : ℕ)
   after-trim = record {
     entries = l;
     live = refl;
-    agree = λ o. ap (λ m. blockAt m o) trimmed-map ∙ joined-blocks (pageMap s) o ∙ agree o;
+    agree = λ o. cc (trimmed-map, joined-blocks (pageMap s) o, agree o);
     single = single;
     size = ap (λ m. total m) trimmed-map ∙ total-joined idle 0 (pageMap s) ∙ omega arith;
     change = equal refl;
   }
 
   after-operation : (g : ℕ) (q : Operation) → After n s l (ofOperation g q ((asked g q s) .answer)) ((asked g q s) .after)
-  after-operation g (Allocate k) = after-allocate g k (allocate g k s) (allocated s v g k)
+  after-operation g (Allocate k) = after-allocate g k _ (allocated s v g k)
   after-operation g (Free o) = after-free g o
   after-operation g Reset = after-reset g
 

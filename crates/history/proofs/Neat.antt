@@ -1,24 +1,19 @@
 -- Trimmed page maps: in them a row of clear pages lies in one free run, and requests of whole pages and returns of direct blocks
 -- keep them so. Assumes nothing.
-use Prim.Native.Nat.{ℕ, zero, suc, _+_, _-_, _*_, _/_, _%_, _≤_, _<_}
+use Prim.Native.Nat.{ℕ, zero, suc, _+_, _-_, _*_, _≤_, _<_}
 use mathlib.Core.Path.{_≡_, refl, sym, _∙_, ap, subst}
-use mathlib.Core.Logic.{_⊎_, inl, inr}
-use mathlib.Core.List.{List, [], _∷_, _++_, map, List·Memᴰ, List·Memᴰ·not-nil, List·Memᴰ·head, List·Memᴰ·tail, List·Memᴰ·cases-cons, Memᴰ·map, Memᴰ·append-left}
-use mathlib.Core.Option.{Option, none, some, Option·none-ne-some}
-use mathlib.Core.Bool.{Bool, true, false, cond, not, _&&_}
+use mathlib.Core.List.{[], _∷_, _++_, List·Memᴰ·head, List·Memᴰ·tail}
+use mathlib.Core.Option.{some}
+use mathlib.Core.Bool.{Bool, true, false}
 use native.Mathlib.Omega.{arith}
-use lib.Dec.{ltb, leb, eqb}
-use lib.ListN.{length, getD, set}
-use lib.Seq.{ext-getD}
-use borrow.Author.Tests.{leb-true, leb-false, ltb-true, ltb-false, lt-ltb, le-ltb, eqb-true, eqb-false, eq-eqb, ne-eqb}
-use Rattle.lemmas.specs.Keep.{keep}
-use Rattle.lemmas.proofs.Cases.{bool, either, true-false, some-inj}
+use lib.Dec.{ltb, leb}
+use borrow.Author.Tests.{leb-true, leb-false, ltb-true, ltb-false, lt-ltb, le-ltb}
+use Rattle.lemmas.proofs.Cases.{bool, true-false, clash}
 use Rattle.model.specs.Numbers.{zonePages}
-use Rattle.model.specs.Sizes.{room, chunks, pagesFor, roomFor}
-use Rattle.model.specs.Arena.{Segment, run, direct, zone, pages, bytes, total, retold, Place, locate, edit, Each}
-use Rattle.model.specs.PageMap.{Occupancy, occupancy, PageMap, pageMap, allZero, idle, idleZone, Block, whole, chunk, groupOf, roomOf, chunkOf, blockIn, blockThere, blockAt}
-use Rattle.model.specs.Pages.{FreeRun, claim, withRun, carve, joined, freePages, release}
-use Rattle.model.proofs.Arena.{Split, split, locate-mid, each-edit}
+use Rattle.model.specs.Arena.{Segment, run, direct, zone, pages, bytes, total, locate, edit, Each}
+use Rattle.model.specs.PageMap.{Occupancy, PageMap, idle, whole}
+use Rattle.model.specs.Pages.{FreeRun, claim, withRun, joined, freePages, release}
+use Rattle.model.proofs.Arena.{split, locate-mid, each-edit, same-segment}
 use Rattle.model.proofs.Claim.{HasRun, claim-found}
 use Rattle.model.proofs.Joins.{run-append}
 use Rattle.history.specs.Rows.{isClear, clearThere, Clear, Row}
@@ -49,8 +44,8 @@ neat-run (suc n) m h = (refl, omega arith, h)
 pub joined-neat : (f : Occupancy → Bool) (n : ℕ) (m : PageMap) → Each (Fit f) m → Neat false (joined f n m)
 joined-neat f n [] h = neat-run n [] tt
 joined-neat f n (run k ∷ r) h = joined-neat f (n + k) r (h .1)
-joined-neat f n (direct k g ∷ r) h = neat-run n (direct k g ∷ joined f 0 r) (h .0, joined-neat f 0 r (h .1))
-joined-neat f n (zone l ∷ r) h = bool (f l) (λ t. rw t (joined-neat f (n + zonePages) r (h .1))) (λ t. rw t (neat-run n (zone l ∷ joined f 0 r) (h .0 t, joined-neat f 0 r (h .1))))
+joined-neat f n (direct k g ∷ r) h = neat-run n _ (h .0, joined-neat f 0 r (h .1))
+joined-neat f n (zone l ∷ r) h = bool (f l) (λ t. rw t (joined-neat f _ r (h .1))) (λ t. rw t (neat-run n _ (h .0 t, joined-neat f 0 r (h .1))))
 
 neat-fit : (b : Bool) (m : PageMap) → Neat b m → Each (Fit (λ _. false)) m
 neat-fit b [] h = tt
@@ -59,34 +54,34 @@ neat-fit b (direct k g ∷ r) h = (h .0, neat-fit false r (h .1))
 neat-fit b (zone l ∷ r) h = (λ _. h .0, neat-fit false r (h .1))
 
 pub release-neat : (o : ℕ) (m : PageMap) → Neat false m → Neat false (release o m)
-release-neat o m h = joined-neat (λ _. false) 0 (edit o freePages m) (each-edit (Fit (λ _. false)) o freePages (λ x _. (tt, tt)) m (neat-fit false m h))
+release-neat o m h = joined-neat (λ _. false) 0 (edit o freePages m) (each-edit _ o freePages (λ x _. (tt, tt)) m (neat-fit false m h))
 
 module _ (k n g : ℕ) (pos : 0 < n) where
   -- The free run is a run, so what stands behind it is none.
   carve-here : (b : Bool) (x : Segment Occupancy) (r : PageMap) → x ≡ run k → Neat b (x ∷ r) → Neat b (direct n g ∷ (withRun (k - n) [] ++ r))
-  carve-here b x r e h = let q : Neat b (run k ∷ r) = subst (λ y. Neat b (y ∷ r)) e h in (pos, rw (run-append (k - n) r) (neat-run (k - n) r (q .2)))
+  carve-here b x r e h = let q : Neat b (run k ∷ r) = rw e at h in (pos, rw (run-append (k - n) r) (neat-run (k - n) r (q .2)))
 
   pub carve-neat : (b : Bool) (o : ℕ) (m : PageMap) → locate o m ≡ some (record { away = 0; segment = run k }) → Neat b m → Neat b (edit o (λ _. direct n g ∷ withRun (k - n) []) m)
   carve-neat b o [] e h = tt
-  carve-neat b o (run j ∷ r) e h = bool (ltb o (j * 4096)) (λ t. rw t (carve-here b (run j) r (ap (λ p. p .segment) (some-inj (rw t at e))) h)) (λ t. rw t (h .0, h .1, carve-neat true (o - j * 4096) r (rw t at e) (h .2)))
-  carve-neat b o (direct j i ∷ r) e h = bool (ltb o (j * 4096)) (λ t. rw t (carve-here b (direct j i) r (ap (λ p. p .segment) (some-inj (rw t at e))) h)) (λ t. rw t (h .0, carve-neat false (o - j * 4096) r (rw t at e) (h .1)))
-  carve-neat b o (zone l ∷ r) e h = bool (ltb o 32768) (λ t. rw t (carve-here b (zone l) r (ap (λ p. p .segment) (some-inj (rw t at e))) h)) (λ t. rw t (h .0, carve-neat false (o - 32768) r (rw t at e) (h .1)))
+  carve-neat b o (run j ∷ r) e h = bool (ltb o (j * 4096)) (λ t. rw t (carve-here b (run j) r (same-segment (rw t at e)) h)) (λ t. rw t (h .0, h .1, carve-neat true _ r (rw t at e) (h .2)))
+  carve-neat b o (direct j i ∷ r) e h = bool (ltb o (j * 4096)) (λ t. rw t (carve-here b _ r (same-segment (rw t at e)) h)) (λ t. rw t (h .0, carve-neat false _ r (rw t at e) (h .1)))
+  carve-neat b o (zone l ∷ r) e h = bool (ltb o 32768) (λ t. rw t (carve-here b (zone l) r (same-segment (rw t at e)) h)) (λ t. rw t (h .0, carve-neat false (o - 32768) r (rw t at e) (h .1)))
 
 -- Rows and runs --------------------------------------------------------------------------------------------
 
 -- what stands at the front of a neat map, behind a run, is not clear
 front-taken : (m : PageMap) → Neat true m → Clear m 0 → ⊥
-front-taken [] h c = let z : _≡_ {A = ℕ} 0 1 = cc in omega arith
-front-taken (run k ∷ r) h c = let u : true ≡ false = h .0 in let z : _≡_ {A = ℕ} 0 1 = cc in omega arith
-front-taken (direct k g ∷ r) h c = let u : false ≡ true = rw (lt-ltb 0 (k * 4096) (omega (arith, h .0))) at c in let z : _≡_ {A = ℕ} 0 1 = cc in omega arith
-front-taken (zone l ∷ r) h c = let u : false ≡ true = sym (h .0) ∙ c in let z : _≡_ {A = ℕ} 0 1 = cc in omega arith
+front-taken [] h c = clash (cc)
+front-taken (run k ∷ r) h c = true-false refl (h .0)
+front-taken (direct k g ∷ r) h c = true-false (rw (lt-ltb 0 (k * 4096) (omega arith)) at c) refl
+front-taken (zone l ∷ r) h c = true-false (sym (h .0) ∙ c) refl
 
 -- page q of a map, past its first segment
 clear-past : (x : Segment Occupancy) (r : PageMap) (q : ℕ) → Clear (x ∷ r) (pages x + q) → Clear r q
 clear-past x r q c = ap (λ k. clearThere (locate k r)) (let e : q * 4096 ≡ (pages x + q) * 4096 - bytes x = omega arith in e) ∙ rw (le-ltb ((pages x + q) * 4096) (bytes x) (omega arith)) at c
 
 row-past : (n p : ℕ) (x : Segment Occupancy) (r : PageMap) → pages x ≤ p → ((q : ℕ) → p ≤ q → q < p + n → Clear (x ∷ r) q) → Row n r
-row-past n p x r h c = (p - pages x, λ q a b. clear-past x r q (c (pages x + q) (omega arith) (omega arith)))
+row-past n p x r h c = (p - pages x, λ q a b. clear-past x r q (c _ (omega arith) (omega arith)))
 
 later : (n : ℕ) (x : Segment Occupancy) (r : PageMap) → HasRun n r → HasRun n (x ∷ r)
 later n x r h = (h .0, List·Memᴰ·tail (h .1), h .2)
@@ -97,29 +92,29 @@ clear-first x r p h c = rw (lt-ltb (p * 4096) (bytes x) (omega arith)) at c
 
 -- In a neat map a row of n clear pages lies in one run.
 pub row-run : (n : ℕ) → 0 < n → (b : Bool) (m : PageMap) → Neat b m → Row n m → HasRun n m
-row-run n pos b [] h w = absurd (true-false (w .1 (w .0) (omega arith) (omega arith)) refl)
+row-run n pos b [] h w = true-false (w .1 (w .0) (omega arith) (omega arith)) refl
 row-run n pos b (run k ∷ r) h w = bool (ltb (w .0) k)
     (λ t. bool (leb (w .0 + n) k)
-    (λ u. (k, List·Memᴰ·head refl, omega (arith, leb-true (w .0 + n) k u)))
-    (λ u. absurd (front-taken r (h .2) (clear-past (run k) r 0 (w .1 (k + 0) (omega (arith, ltb-true (w .0) k t)) (omega (arith, leb-false (w .0 + n) k u)))))))
+    (λ u. (k, List·Memᴰ·head refl, omega (arith, leb-true)))
+    (λ u. absurd (front-taken r (h .2) (clear-past (run k) r 0 (w .1 (k + 0) (omega (arith, ltb-true)) (omega (arith, leb-false)))))))
     (λ t. later n (run k) r (row-run n pos true r (h .2) (row-past n (w .0) (run k) r (ltb-false (w .0) k t) (w .1))))
 row-run n pos b (direct k g ∷ r) h w = bool (ltb (w .0) k)
-    (λ t. absurd (let e : false ≡ true = clear-first (direct k g) r (w .0) (ltb-true (w .0) k t) (w .1 (w .0) (omega arith) (omega arith)) in let z : _≡_ {A = ℕ} 0 1 = cc in omega arith))
-    (λ t. later n (direct k g) r (row-run n pos false r (h .1) (row-past n (w .0) (direct k g) r (ltb-false (w .0) k t) (w .1))))
+    (λ t. true-false (clear-first (direct k g) r (w .0) (ltb-true (w .0) k t) (w .1 (w .0) (omega arith) (omega arith))) refl)
+    (λ t. later n _ r (row-run n pos false r (h .1) (row-past n (w .0) (direct k g) r (ltb-false (w .0) k t) (w .1))))
 row-run n pos b (zone l ∷ r) h w = bool (ltb (w .0) 8)
-    (λ t. absurd (let e : false ≡ true = sym (h .0) ∙ clear-first (zone l) r (w .0) (ltb-true (w .0) 8 t) (w .1 (w .0) (omega arith) (omega arith)) in let z : _≡_ {A = ℕ} 0 1 = cc in omega arith))
+    (λ t. true-false (cc (clear-first (zone l) r (w .0) (ltb-true (w .0) 8 t) (w .1 (w .0) (omega arith) (omega arith)))) refl)
     (λ t. later n (zone l) r (row-run n pos false r (h .1) (row-past n (w .0) (zone l) r (ltb-false (w .0) 8 t) (w .1))))
 
 -- What the claim finds is a row of clear pages.
 pub found-row : (n : ℕ) (m : PageMap) (h : FreeRun) → 0 < n → claim n m ≡ some h → Row n m
 found-row n m h pos e =
     let f = claim-found n m h pos e in
-    let S = split (h .page * 4096) m (record { away = 0; segment = run (h .size) }) (f .0) in
-    let base : h .page ≡ total (S .before) = omega (arith, S .at) in (
+    let S = split _ m (f .0) in
+    let base : h .page ≡ total (S .before) = omega arith in (
       h .page,
       λ q a b.
           let d = (q - h .page) * 4096 in
           let at : q * 4096 ≡ total (S .before) * 4096 + d = omega arith in
-          let small : d < h .size * 4096 = omega (arith, f .1) in
-          ap (λ k. clearThere (locate k m)) at ∙ ap (λ l. clearThere (locate (total (S .before) * 4096 + d) l)) (S .whole) ∙ ap clearThere (locate-mid (S .before) (run (h .size) ∷ []) (S .behind) d (omega arith)) ∙ ap clearThere (let o : locate d (run (h .size) ∷ []) ≡ some (record { away = d; segment = run (h .size) }) = rw (lt-ltb d (h .size * 4096) small) in o),
+          let small : d < h .size * 4096 = omega arith in
+          ap (λ k. clearThere (locate k m)) at ∙ ap (λ l. clearThere (locate (total (S .before) * 4096 + d) l)) (S .whole) ∙ ap clearThere (locate-mid (S .before) (run (h .size) ∷ []) (S .behind) d (omega arith)) ∙ ap clearThere (let o : locate d (run (h .size) ∷ []) ≡ some (record { away = d; segment = run (h .size) }) = rw (lt-ltb d _ small) in o),
     )

@@ -1,12 +1,11 @@
 -- Requests of whole pages, and returns by which no chunk comes back, are functions of the page map: what they answer and which page
 -- map they leave. From a trimmed page map such a request is refused exactly when no row of pages is clear. Assumes nothing.
-use Prim.Native.Nat.{ℕ, zero, suc, _+_, _-_, _*_, _≤_, _<_}
+use Prim.Native.Nat.{ℕ, _-_, _*_, _≤_, _<_}
 use mathlib.Core.Path.{_≡_, refl, sym, _∙_, ap, subst}
-use mathlib.Core.List.{List, [], _∷_, map}
 use mathlib.Core.Option.{Option, none, some}
-use mathlib.Core.Bool.{Bool, true, false, cond, _&&_}
+use mathlib.Core.Bool.{true, false, cond}
 use native.Mathlib.Omega.{arith}
-use lib.Dec.{ltb, leb, eqb}
+use lib.Dec.{eqb}
 use borrow.Author.Tests.{le-ltb}
 use Rattle.lemmas.proofs.Cases.{bool, either, true-false}
 use Rattle.model.specs.declared.Operation.{Operation}
@@ -15,11 +14,11 @@ use Rattle.model.specs.declared.Refusal.the-variants.{BadGroup, BadSize, NoRoom
 use Rattle.model.specs.declared.Answer.{Answer}
 use Rattle.model.specs.declared.Answer.the-variants.{Granted, Refused, Done}
 use Rattle.model.specs.Sizes.{pagesFor}
-use Rattle.model.specs.Arena.{Segment, direct}
+use Rattle.model.specs.Arena.{direct}
 use Rattle.model.specs.State.{State}
 use Rattle.model.specs.PageMap.{occupancy, PageMap, pageMap, Block, whole, chunk, groupOf, blockAt}
 use Rattle.model.specs.Pages.{FreeRun, claim, carve, release}
-use Rattle.model.specs.Calls.{Outcome, isRefused, groupOk, sizeOk}
+use Rattle.model.specs.Calls.{isRefused, groupOk, sizeOk}
 use Rattle.model.specs.Allocate.{directFrom, allocate}
 use Rattle.model.specs.Free.{freeBlock, free}
 use Rattle.model.specs.Perform.{asked}
@@ -73,7 +72,7 @@ free-says s g o = bool (groupOk g) (λ t. rw t (go (blockAt (pageMap s) o))) (λ
 
 direct-map : (s : State) (n g : ℕ) (h : Option FreeRun) → pageMap ((directFrom n g s h) .after) ≡ mapDirect n g (pageMap s) h
 direct-map s n g none = refl
-direct-map s n g (some h) = carve-retold occupancy h n (direct n g) (s .segments)
+direct-map s n g (some h) = carve-retold occupancy h n _ (s .segments)
 
 direct-says : (s : State) (n g : ℕ) (h : Option FreeRun) → (directFrom n g s h) .answer ≡ sayDirect h
 direct-says s n g none = refl
@@ -82,7 +81,7 @@ direct-says s n g (some h) = refl
 allocate-both : (s : State) (g n : ℕ) → 8192 ≤ n → (pageMap ((allocate g n s) .after) ≡ mapAfter (pageMap s) g (Allocate n)) × ((allocate g n s) .answer ≡ sayAt (pageMap s) g (Allocate n))
 allocate-both s g n h = rw (le-ltb n 8192 h) (bool (groupOk g)
     (λ t. rw t (bool (sizeOk n)
-    (λ u. rw (u, claim-retold occupancy (pagesFor n) (s .segments)) (direct-map s (pagesFor n) g (claim (pagesFor n) (s .segments)), direct-says s (pagesFor n) g (claim (pagesFor n) (s .segments))))
+    (λ u. rw (u, claim-retold occupancy _ _) (direct-map s _ g (claim (pagesFor n) (s .segments)), direct-says s _ g (claim (pagesFor n) (s .segments))))
     (λ u. rw u (refl, refl))))
     (λ t. rw t (refl, refl)))
 
@@ -109,20 +108,20 @@ call-says s g Reset a = absurd a
 -- What is allowed depends on the page map alone.
 pub allowed-same : (s t : State) (g : ℕ) (q : Operation) → pageMap s ≡ pageMap t → AllowedOn s g q → AllowedOn t g q
 allowed-same s t g (Allocate n) e a = a
-allowed-same s t g (Free o) e a = λ c i h b. ap isRefused (free-says t g o ∙ ap (λ m. sayAt m g (Free o)) (sym e) ∙ sym (free-says s g o)) ∙ a c i h (ap (λ m. blockAt m o) e ∙ b)
+allowed-same s t g (Free o) e a = λ c i h b. cc (free-says t g o, free-says s g o, a c i h (ap (λ m. blockAt m o) e ∙ b))
 allowed-same s t g Reset e a = a
 
 -- A trimmed page map stays one ----------------------------------------------------------------------------------------------------
 
 pub call-neat : (s : State) (g : ℕ) (q : Operation) → Neat false (pageMap s) → AllowedOn s g q → Neat false (pageMap ((asked g q s) .after))
-call-neat s g q h a = subst (Neat false) (sym (call-map s g q a)) (go q a)
+call-neat s g q h a = rw (call-map s g q a) (go q a)
   where
     m : PageMap
     m = pageMap s
 
     direct-neat : (n : ℕ) → 8192 ≤ n → (r : Option FreeRun) → claim (pagesFor n) m ≡ r → Neat false (mapDirect (pagesFor n) g m r)
     direct-neat n k none e = h
-    direct-neat n k (some r) e = carve-neat (r .size) (pagesFor n) g (omega arith) false (r .page * 4096) m (claim-found (pagesFor n) m r (omega arith) e .0) h
+    direct-neat n k (some r) e = carve-neat (r .size) _ g (omega arith) false _ m (claim-found _ m r (omega arith) e .0) h
 
     free-neat : (o : ℕ) (b : Option Block) → Neat false (mapFree g o m b)
     free-neat o none = h
@@ -154,9 +153,9 @@ request-exact s g n h k t u = go (claim (pagesFor n) m) refl (allocate-both s g 
     go : (r : Option FreeRun) → claim (pagesFor n) m ≡ r → (allocate g n s) .answer ≡ sayDirect (claim (pagesFor n) m) → ExactOn s g n
     go none e x = record {
       refused = λ _. x ∙ ap sayDirect e;
-      granted = λ w. absurd (claim-none (pagesFor n) m e (row-run (pagesFor n) pos false m h w));
+      granted = λ w. absurd (claim-none _ m e (row-run _ pos false m h w));
     }
     go (some r) e x = record {
-      refused = λ w. absurd (w (found-row (pagesFor n) m r pos e));
+      refused = λ w. absurd (w (found-row _ m r pos e));
       granted = λ _. (r .page * 4096, x ∙ ap sayDirect e);
     }

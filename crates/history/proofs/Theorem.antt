@@ -48,7 +48,7 @@ trimmed-map : (s : State) → pageMap (trimmed s) ≡ joined idle 0 (pageMap s)
 trimmed-map s = joined-retold occupancy idleZone idle (λ z. refl) 0 (s .segments)
 
 trimmed-neat : (s : State) → Valid s → Neat false (pageMap (trimmed s))
-trimmed-neat s v = subst (Neat false) (sym (trimmed-map s)) (joined-neat idle 0 (pageMap s) (all-fit (s .segments) (v .sound)))
+trimmed-neat s v = rw (trimmed-map s) (joined-neat idle 0 (pageMap s) (all-fit (s .segments) (v .sound)))
 
 -- A start that is not refused.
 record Started (m : Metadata) (n : ℕ) : Type 0 where
@@ -59,9 +59,9 @@ record Started (m : Metadata) (n : ℕ) : Type 0 where
 started : (m : Metadata) (n : ℕ) → isRefused ((perform m (init n)) .answer) ≡ false → Started m n
 started m n h = bool (leb 1 n && leb n mostPages)
     (λ t. bool (leb (wordsFor n) (m .words))
-    (λ u. record { least = leb-true 1 n (and-left (leb 1 n) (leb n mostPages) t); most = leb-true n mostPages (and-right (leb 1 n) (leb n mostPages) t); leaves = rw (t, u) })
-    (λ u. absurd (true-false refl (rw (t, u) at h))))
-    (λ t. absurd (true-false refl (rw t at h)))
+    (λ u. record { least = leb-true 1 n (and-left (leb 1 n) _ t); most = leb-true n mostPages (and-right (leb 1 n) _ t); leaves = rw (t, u) })
+    (λ u. true-false refl (rw (t, u) at h)))
+    (λ t. true-false refl (rw t at h))
 
 -- Another start has no effect only if it is refused.
 no-start : (a : Answer) → (unlessRefused a begins ≡ begins → ⊥) → isRefused a ≡ true
@@ -75,19 +75,19 @@ module _ (B : Type 0) (view : B → Metadata) (next : B → Command → B) (says
   On k b s = view b ≡ record { words = k; state = some s }
 
   on-map : (k : ℕ) (b : B) (s : State) → On k b s → mapAt B view next says b ≡ some (pageMap s)
-  on-map k b s e = ap (λ m. mapOf (m .state)) e
+  on-map k b s e = cc
 
   on-next : (k : ℕ) (b : B) (s : State) (a : Action) → On k b s → On k (next b (act a)) ((serve s a) .after)
-  on-next k b s a e = does b (act a) ∙ ap (λ m. (perform m (act a)) .after) e
+  on-next k b s a e = cc (does b (act a))
 
   on-says : (k : ℕ) (b : B) (s : State) (a : Action) → On k b s → says b (act a) ≡ (serve s a) .answer
-  on-says k b s a e = tells b (act a) ∙ ap (λ m. (perform m (act a)) .answer) e
+  on-says k b s a e = cc (tells b (act a))
 
   -- The sequence -----------------------------------------------------------------------------------------------------------------
 
   allowed-on : (k : ℕ) (b : B) (s : State) (g : ℕ) (q : Operation) → On k b s → Allowed B view next says b g q → AllowedOn s g q
   allowed-on k b s g (Allocate n) e a = a
-  allowed-on k b s g (Free o) e a = λ c i h w. ap isRefused (sym (on-says k b s (group (record { group = g; operation = Free o })) e)) ∙ a (pageMap s) (on-map k b s e) c i h w
+  allowed-on k b s g (Free o) e a = λ c i h w. ap isRefused (sym (on-says k b s _ e)) ∙ a (pageMap s) (on-map k b s e) c i h w
   allowed-on k b s g Reset e a = a
 
   same-answers : (q : List Call) (j k : ℕ) (b d : B) (s t : State) → On j b s → On k d t → pageMap s ≡ pageMap t → Sequence B view next says b q → answersTo B view next says b q ≡ answersTo B view next says d q
@@ -97,15 +97,15 @@ module _ (B : Type 0) (view : B → Metadata) (next : B → Command → B) (says
       let o = c .operation in
       let al = allowed-on j b s g o e (a .0) in
       let bl = allowed-same s t g o m al in
-      let said : says b (act (group c)) ≡ says d (act (group c)) = on-says j b s (group c) e ∙ call-says s g o al ∙ ap (λ x. sayAt x g o) m ∙ sym (call-says t g o bl) ∙ sym (on-says k d t (group c) f) in
-      let maps : pageMap ((asked g o s) .after) ≡ pageMap ((asked g o t) .after) = call-map s g o al ∙ ap (λ x. mapAfter x g o) m ∙ sym (call-map t g o bl) in
-      let rest = same-answers q j k (next b (act (group c))) (next d (act (group c))) ((asked g o s) .after) ((asked g o t) .after) (on-next j b s (group c) e) (on-next k d t (group c) f) maps (a .1) in
+      let said : says b (act (group c)) ≡ says d (act (group c)) = cc (on-says j b s (group c) e, call-says s g o al, call-says t g o bl, on-says k d t (group c) f) in
+      let maps : pageMap ((asked g o s) .after) ≡ pageMap ((asked g o t) .after) = cc (call-map s g o al, call-map t g o bl) in
+      let rest = same-answers q j k _ _ _ _ (on-next j b s (group c) e) (on-next k d t (group c) f) maps (a .1) in
       λ i. said i ∷ rest i
 
   exact-call : (k : ℕ) (b : B) (s : State) (g : ℕ) (q : Operation) → On k b s → Neat false (pageMap s) → AllowedOn s g q → ExactCall B view next says b (pageMap s) g q
   exact-call k b s g (Allocate n) e h a = λ t u.
       let x = request-exact s g n h a t u in
-      let said = on-says k b s (group (record { group = g; operation = Allocate n })) e in
+      let said = on-says k b s _ e in
       record {
         refused = λ w. refusal-told NoRoom _ .1 (said ∙ x .refused w);
         granted = λ r. let y = x .granted r in (y .0, grant-told (y .0) _ .1 (said ∙ y .1));
@@ -118,7 +118,7 @@ module _ (B : Type 0) (view : B → Metadata) (next : B → Command → B) (says
   all-exact (c ∷ q) k b s e h a =
       let al = allowed-on k b s (c .group) (c .operation) e (a .0) in (
         (pageMap s, on-map k b s e, exact-call k b s (c .group) (c .operation) e h al),
-        all-exact q k (next b (act (group c))) ((asked (c .group) (c .operation) s) .after) (on-next k b s (group c) e) (call-neat s (c .group) (c .operation) h al) (a .1),
+        all-exact q k _ _ (on-next k b s (group c) e) (call-neat s (c .group) (c .operation) h al) (a .1),
       )
 
   -- Two states with the same pages and the same live blocks.
@@ -128,15 +128,15 @@ module _ (B : Type 0) (view : B → Metadata) (next : B → Command → B) (says
       let te = on-next k d e trim oe in
       let maps : pageMap (trimmed m) ≡ pageMap (trimmed e) = trimmed-map m ∙ same-trimmed (pageMap m) (pageMap e) (all-sized (m .segments) (vm .sound)) (all-sized (e .segments) (ve .sound)) (λ o. sym (h o)) (sym t) ∙ sym (trimmed-map e) in
       record {
-        map = (pageMap (trimmed m), on-map j (next b (act trim)) (trimmed m) tm, on-map k (next d (act trim)) (trimmed e) te ∙ ap some (sym maps));
+        map = (pageMap (trimmed m), on-map j _ (trimmed m) tm, on-map k _ (trimmed e) te ∙ ap some (sym maps));
         answers = λ q. go q tm te maps;
-        exact-split = λ q. all-exact q j (next b (act trim)) (trimmed m) tm (trimmed-neat m vm);
-        exact-end = λ q. all-exact q k (next d (act trim)) (trimmed e) te (trimmed-neat e ve);
+        exact-split = λ q. all-exact q j _ (trimmed m) tm (trimmed-neat m vm);
+        exact-end = λ q. all-exact q k _ (trimmed e) te (trimmed-neat e ve);
       }
     where
       go : (q : List Call) → On j (next b (act trim)) (trimmed m) → On k (next d (act trim)) (trimmed e) → pageMap (trimmed m) ≡ pageMap (trimmed e) → Sequence B view next says (next b (act trim)) q ⊎ Sequence B view next says (next d (act trim)) q → answersTo B view next says (next b (act trim)) q ≡ answersTo B view next says (next d (act trim)) q
-      go q tm te maps (inl a) = same-answers q j k (next b (act trim)) (next d (act trim)) (trimmed m) (trimmed e) tm te maps a
-      go q tm te maps (inr a) = sym (same-answers q k j (next d (act trim)) (next b (act trim)) (trimmed e) (trimmed m) te tm (sym maps) a)
+      go q tm te maps (inl a) = same-answers q j k _ _ (trimmed m) (trimmed e) tm te maps a
+      go q tm te maps (inr a) = sym (same-answers q k j _ _ (trimmed e) (trimmed m) te tm (sym maps) a)
 
   -- Histories --------------------------------------------------------------------------------------------------------------------
 
@@ -162,29 +162,29 @@ module _ (B : Type 0) (view : B → Metadata) (next : B → Command → B) (says
     state = s′;
     entries = a .entries;
     on = on;
-    live = ap (applied (w .calls) (effect c (says (w .lent) c))) (r .live) ∙ a .live;
+    live = cc;
     agree = a .agree;
     single = a .single;
     size = a .size ∙ r .size;
     valid = v;
-    grew = grew-more t (w .calls) M (r .entries) (a .entries) (r .later) (r .grew) (a .change);
-    later = omega (arith, r .later);
+    grew = grew-more t (w .calls) M _ _ (r .later) (r .grew) (a .change);
+    later = omega arith;
   }
 
   reach : (N t : ℕ) (M : List Entry) (w : History B view next says) (c : Command) → Reached N t M w → (effect c (says (w .lent) c) ≡ begins → ⊥) → Reached N t M (after B view next says w c)
   reach N t M w (init n) r h =
       let here : Metadata = record { words = r .words; state = some (r .state) } in
       let no : isRefused (says (w .lent) (init n)) ≡ true = no-start (says (w .lent) (init n)) h in
-      let same : (perform here (init n)) .after ≡ here = perform-leaves here (init n) (r .valid) (ap isRefused (sym (tells (w .lent) (init n) ∙ ap (λ m. (perform m (init n)) .answer) (r .on))) ∙ no) in
-      reach-by N t M w (init n) r (r .state) (does (w .lent) (init n) ∙ ap (λ m. (perform m (init n)) .after) (r .on) ∙ same) (r .valid)
-      (unchanged (w .calls) (r .state) (r .entries) (r .valid) (r .agree) (r .single) (effect (init n) (says (w .lent) (init n))) (r .state) (rw no) refl)
+      let same : (perform here (init n)) .after ≡ here = perform-leaves here (init n) (r .valid) (cc (tells (w .lent) (init n))) in
+      reach-by N t M w (init n) r (r .state) (cc (does (w .lent) (init n))) (r .valid)
+      (unchanged (w .calls) (r .state) _ (r .valid) (r .agree) (r .single) _ (r .state) (rw no) refl)
   reach N t M w (act a) r h =
-      reach-by N t M w (act a) r ((serve (r .state) a) .after) (on-next (r .words) (w .lent) (r .state) a (r .on)) (serve-valid (r .state) (r .valid) a)
-      (subst (λ x. After (w .calls) (r .state) (r .entries) (effect (act a) x) ((serve (r .state) a) .after)) (sym (on-says (r .words) (w .lent) (r .state) a (r .on))) (after-action (w .calls) (r .state) (r .entries) (r .valid) (r .agree) (r .single) a))
+      reach-by N t M w (act a) r _ (on-next (r .words) (w .lent) (r .state) a (r .on)) (serve-valid (r .state) (r .valid) a)
+      (rw (on-says (r .words) (w .lent) (r .state) a (r .on)) (after-action (w .calls) (r .state) (r .entries) (r .valid) (r .agree) (r .single) a))
 
   reach-all : (N t : ℕ) (M : List Entry) (l : List Command) (w : History B view next says) → Reached N t M w → NoStart B view next says w l → Reached N t M (afterAll B view next says w l)
   reach-all N t M [] w r h = r
-  reach-all N t M (c ∷ l) w r h = reach-all N t M l (after B view next says w c) (reach N t M w c r (h .0)) (h .1)
+  reach-all N t M (c ∷ l) w r h = reach-all N t M l _ (reach N t M w c r (h .0)) (h .1)
 
   -- Count anew from here.
   rebased : (N t : ℕ) (M : List Entry) (w : History B view next says) (r : Reached N t M w) → Reached N (w .calls) (r .entries) w
@@ -198,13 +198,13 @@ module _ (B : Type 0) (view : B → Metadata) (next : B → Command → B) (says
     single = r .single;
     size = r .size;
     valid = r .valid;
-    grew = grew-none (w .calls) (r .entries);
+    grew = grew-none (w .calls) _;
     later = omega arith;
   }
 
   first-reached : (b : B) (n : ℕ) → isRefused (says b (init n)) ≡ false → Reached n 0 [] (begun B view next says b n)
   first-reached b n h =
-      let S = started (view b) n (ap isRefused (sym (tells b (init n))) ∙ h) in
+      let S = started (view b) n (cc (tells b (init n))) in
       record {
         words = view b .words;
         state = freshState n;
@@ -221,7 +221,7 @@ module _ (B : Type 0) (view : B → Metadata) (next : B → Command → B) (says
 
   split-starts : (a l : List Command) (w : History B view next says) → NoStart B view next says w (a ++ l) → NoStart B view next says w a × NoStart B view next says (afterAll B view next says w a) l
   split-starts [] l w h = (tt, h)
-  split-starts (c ∷ a) l w h = let k = split-starts a l (after B view next says w c) (h .1) in ((h .0, k .0), k .1)
+  split-starts (c ∷ a) l w h = let k = split-starts a l _ (h .1) in ((h .0, k .0), k .1)
 
   -- DEMAND 3.
   pub demand-3 : Demand3 B view next says
@@ -231,12 +231,12 @@ module _ (B : Type 0) (view : B → Metadata) (next : B → Command → B) (says
       let split : History B view next says = afterAll B view next says start first in
       let parts = split-starts first stretch start starts in
       let rs = reach-all n 0 [] first start (first-reached b n h) (parts .0) in
-      let re = reach-all n (split .calls) (rs .entries) stretch split (rebased n 0 [] split rs) (parts .1) in
-      let same : re .entries ≡ rs .entries = grew-same (split .calls) (rs .entries) (re .entries) (re .grew)
+      let re = reach-all n _ _ stretch split (rebased n 0 [] split rs) (parts .1) in
+      let same : re .entries ≡ rs .entries = grew-same _ _ _ (re .grew)
       (λ x i. early x (subst (List·Memᴰ x) (sym (re .live)) i))
       (λ x i. subst (List·Memᴰ x) (re .live) (all x (subst (List·Memᴰ x) (sym (rs .live)) i))) in
-      alike (rs .words) (re .words) (split .lent) ((afterAll B view next says split stretch) .lent) (rs .state) (re .state) (rs .on) (re .on) (rs .valid) (re .valid)
-      (λ o. re .agree o ∙ ap (find o) same ∙ sym (rs .agree o)) (re .size ∙ sym (rs .size))
+      alike (rs .words) (re .words) _ _ (rs .state) (re .state) (rs .on) (re .on) (rs .valid) (re .valid)
+      (λ o. cc (re .agree o, rs .agree o)) (cc)
 
   -- The live blocks that it speaks of are those of the page map.
   pub ledger-agrees : LedgerAgrees B view next says

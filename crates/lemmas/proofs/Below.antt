@@ -1,19 +1,17 @@
 -- Laws of tests and sums over the numbers below a bound. Assumes nothing.
 use Prim.Native.Nat.{ℕ, zero, suc, _+_, _*_, _≤_, _<_}
-use mathlib.Core.Path.{_≡_, refl, sym, ap, _∙_}
-use mathlib.Core.Bool.{Bool, true, false, cond, _&&_}
+use mathlib.Core.Path.{_≡_, refl, ap, _∙_}
+use mathlib.Core.Bool.{Bool, true, cond, _&&_}
 use mathlib.Core.List.{List, [], _∷_}
-use native.Mathlib.Nat.{add-zero, add-suc, suc-mul, not-suc-le-zero}
+use native.Mathlib.Nat.{add-zero, add-suc, not-suc-le-zero}
 use native.Mathlib.Numerals.{add-one}
 use native.Mathlib.Omega.{arith}
 use lib.Dec.{eqb}
 use lib.ListN.{length, getD}
 use borrow.Author.Tests.{ne-eqb}
-use Rattle.lemmas.specs.Every.{every, count}
+use Rattle.lemmas.specs.Every.{count}
 use Rattle.lemmas.specs.Below.{allBelow, sumBelow}
-use Rattle.lemmas.proofs.Cases.{true-false, by-eqb, and-left, and-right, and-both, refuted}
-use Rattle.lemmas.proofs.Tests.{agree}
-use Rattle.lemmas.proofs.Every.{every-at, every-of}
+use Rattle.lemmas.proofs.Cases.{by-eqb, and-left, and-right, and-both, by-eq}
 
 -- ---- tests
 
@@ -22,17 +20,13 @@ module _ (f : ℕ → Bool) where
   unfolding allBelow
   all-at zero e i h = absurd (not-suc-le-zero h)
   all-at (suc n) e i h =
-      by-eqb (λ t. f i ≡ true) i n (λ q. ap f q ∙ and-left (f n) (allBelow f n) e)
-      (λ q. all-at n (and-right (f n) (allBelow f n) e) i (omega arith))
+      by-eq i n (λ q. rw q (and-left (f n) _ e))
+      (λ q. all-at n (and-right (f n) _ e) i (omega arith))
 
   pub all-of : (n : ℕ) → ((i : ℕ) → i < n → f i ≡ true) → allBelow f n ≡ true
   unfolding allBelow
   all-of zero h = refl
-  all-of (suc n) h = and-both (f n) (allBelow f n) (h n (omega arith)) (all-of n (λ i l. h i (omega arith)))
-
-  -- One number that fails.
-  pub all-not : (n i : ℕ) → i < n → f i ≡ false → allBelow f n ≡ false
-  all-not n i l e = refuted (allBelow f n) (λ q. true-false (all-at n q i l) e)
+  all-of (suc n) h = and-both (f n) _ (h n (omega arith)) (all-of n (λ i l. h i (omega arith)))
 
   -- A scan's start, its next number, its end.
   pub all-none : allBelow f 0 ≡ true
@@ -43,11 +37,8 @@ module _ (f : ℕ → Bool) where
   unfolding allBelow
   all-more i = rw add-one
 
-  pub all-pass : (i : ℕ) → f i ≡ true → allBelow f i ≡ true → allBelow f (i + 1) ≡ true
-  all-pass i a b = all-more i ∙ and-both (f i) (allBelow f i) a b
-
   pub all-done : (n i : ℕ) {b : Bool} → i ≡ n → b ≡ allBelow f i → b ≡ allBelow f n
-  all-done n i e h = h ∙ ap (allBelow f) e
+  all-done n i e h = cc
 
 -- ---- sums
 
@@ -75,26 +66,19 @@ unfolding sumBelow
 sum-less f g zero j h l e = absurd (not-suc-le-zero l)
 sum-less f g (suc n) j h l e =
     let a = h n (omega arith) in
-    by-eqb (λ t. f n + sumBelow f n < g n + sumBelow g n) j n
+    by-eq j n
     (λ q. let u = ap f q in let v = ap g q in let b = sum-mono f g n (λ i k. h i (omega arith)) in omega arith)
     (λ q. let b = sum-less f g n j (λ i k. h i (omega arith)) (omega arith) e in omega arith)
 
 -- Two functions, one nowhere more than the other, with one sum, are the same.
 pub sum-tight : (f g : ℕ → ℕ) (n : ℕ) → ((i : ℕ) → i < n → f i ≤ g i) → sumBelow f n ≡ sumBelow g n → (i : ℕ) → i < n → f i ≡ g i
 sum-tight f g n h e i l =
-    by-eqb (λ t. f i ≡ g i) (f i) (g i) (λ q. q) (λ q. let a = h i l in let b = sum-less f g n i h l (omega arith) in absurd (omega arith))
+    by-eq (f i) (g i) (λ q. q) (λ q. let a = h i l in let b = sum-less f g n i h l (omega arith) in absurd (omega arith))
 
 pub sum-const : (c n : ℕ) → sumBelow (λ i. c) n ≡ n * c
 unfolding sumBelow
 sum-const c zero = omega arith
-sum-const c (suc n) = let a = sum-const c n in omega (arith, suc-mul n c)
-
--- Where no term is more than c.
-pub sum-le : (f : ℕ → ℕ) (c n : ℕ) → ((i : ℕ) → i < n → f i ≤ c) → sumBelow f n ≤ n * c
-sum-le f c n h = rw (sum-const c n) at (sum-mono f (λ i. c) n h)
-
-pub sum-lt : (f : ℕ → ℕ) (c n j : ℕ) → ((i : ℕ) → i < n → f i ≤ c) → j < n → f j < c → sumBelow f n < n * c
-sum-lt f c n j h l e = rw (sum-const c n) at (sum-less f (λ i. c) n j h l e)
+sum-const c (suc n) = let a = sum-const c n in omega arith
 
 pub sum-zero : (f : ℕ → ℕ) (n : ℕ) → ((i : ℕ) → i < n → f i ≡ 0) → sumBelow f n ≡ 0
 sum-zero f n h = let a = sum-eq f (λ i. 0) n h in let b = sum-const 0 n in omega arith
@@ -113,7 +97,7 @@ sum-front f (suc n) = let a = sum-front f n in omega arith
 
 pub sum-split : (f : ℕ → ℕ) (m n : ℕ) → sumBelow f (m + n) ≡ sumBelow f m + sumBelow (λ i. f (m + i)) n
 unfolding sumBelow
-sum-split f m zero = ap (sumBelow f) (add-zero m) ∙ sym (add-zero (sumBelow f m))
+sum-split f m zero = cc (add-zero m, add-zero _)
 sum-split f m (suc n) = let a = sum-split f m n in ap (sumBelow f) (add-suc m n) ∙ omega arith
 
 -- One term is within the sum.
@@ -121,7 +105,7 @@ pub sum-term : (f : ℕ → ℕ) (n i : ℕ) → i < n → f i ≤ sumBelow f n
 unfolding sumBelow
 sum-term f zero i l = absurd (not-suc-le-zero l)
 sum-term f (suc n) i l =
-    by-eqb (λ t. f i ≤ f n + sumBelow f n) i n (λ q. let a = ap f q in omega arith) (λ q. let a = sum-term f n i (omega arith) in omega arith)
+    by-eq i n (λ q. let a = ap f q in omega arith) (λ q. let a = sum-term f n i (omega arith) in omega arith)
 
 -- A function that is v at one number and 0 at the others: the number is not below n; it is.
 pub sum-out : (c v n : ℕ) → n ≤ c → sumBelow (λ i. cond (eqb i c) v 0) n ≡ 0
@@ -138,12 +122,6 @@ sum-one c v (suc n) h =
 -- ---- the indices of a list
 
 module _ {ℓ} {A : Type ℓ} (p : A → Bool) where
-  pub every-below : (s : List A) (d : A) → every p s ≡ allBelow (λ i. p (getD s i d)) (length s)
-  every-below s d =
-      agree (every p s) (allBelow (λ i. p (getD s i d)) (length s))
-      (λ e. all-of (λ i. p (getD s i d)) (length s) (λ i h. every-at p s i d e h))
-      (λ e. every-of p s d (all-at (λ i. p (getD s i d)) (length s) e))
-
   pub count-below : (s : List A) (d : A) → count p s ≡ sumBelow (λ i. cond (p (getD s i d)) 1 0) (length s)
   unfolding count sumBelow
   count-below [] d = refl

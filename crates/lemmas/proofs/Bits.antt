@@ -1,7 +1,7 @@
 -- An or is zero, or below a power of two, where both numbers are; scans by or. A xor is zero where its numbers are the same. Assumes nothing.
 use Prim.Native.Nat.{ℕ, _+_, _^_, _≤_, _<_}
-use mathlib.Core.Path.{_≡_, sym, ap, _∙_}
-use mathlib.Core.Bool.{Bool, _&&_}
+use mathlib.Core.Path.{_≡_}
+use mathlib.Core.Bool.{_&&_}
 use mathlib.Core.List.{List}
 use native.Mathlib.Nat.{le-trans}
 use native.Mathlib.Omega.{arith}
@@ -32,7 +32,7 @@ or-zero a b =
 -- A turn that or-s the next word into what is gathered: that is zero where all words so far are.
 pub or-more : (s : List ℕ) (i d acc : ℕ) → i < length s → eqb acc 0 ≡ every isZero (take i s) → eqb (bitOr acc (getD s i d)) 0 ≡ every isZero (take (i + 1) s)
 or-more s i d acc h e =
-    or-zero acc (getD s i d) ∙ ap (λ (b : Bool). b && eqb (getD s i d) 0) e ∙ sym (every-more isZero s i d h)
+    cc (or-zero acc _, every-more isZero s i d h)
 
 -- An or is below a power of two where both numbers are, ..
 pub or-below : (k a b : ℕ) → ltb (bitOr a b) (2 ^ k) ≡ (ltb a (2 ^ k) && ltb b (2 ^ k))
@@ -46,10 +46,10 @@ or-below k a b =
 pub or-below-more : (k : ℕ) (s : List ℕ) (i acc : ℕ) → i < length s → ltb acc (2 ^ k) ≡ every (λ x. ltb x (2 ^ k)) (take i s)
     → ltb (bitOr acc (getD s i 0)) (2 ^ k) ≡ every (λ x. ltb x (2 ^ k)) (take (i + 1) s)
 or-below-more k s i acc h e =
-    or-below k acc (getD s i 0) ∙ ap (λ (b : Bool). b && ltb (getD s i 0) (2 ^ k)) e ∙ sym (every-more (λ x. ltb x (2 ^ k)) s i 0 h)
+    cc (or-below k acc _, every-more (λ x. ltb x (2 ^ k)) s i 0 h)
 
 -- A xor is zero where the two numbers are the same.
 pub xor-zero : (a b : ℕ) → eqb (bitXor a b) 0 ≡ eqb a b
 xor-zero a b =
-    by-eqb (λ t. eqb (bitXor a b) 0 ≡ t) a b (λ e. eq-eqb (bitXor a b) 0 (ap (bitXor a) (sym e) ∙ xor-self a))
+    by-eqb (λ t. eqb (bitXor a b) 0 ≡ t) a b (λ e. eq-eqb (bitXor a b) 0 (cc (xor-self a)))
     (λ n. ne-eqb (bitXor a b) 0 (λ z. n (omega (arith, xor-add-and a b, and-le-l a b, and-le-r a b))))

@@ -1,15 +1,21 @@
 -- Proofs by cases: on a Boolean, on a test of two numbers, on a conjunction, on an option. Assumes nothing.
-use Prim.Native.Nat.{ℕ, _+_, _≤_, _<_}
+use Prim.Native.Nat.{ℕ, _≤_, _<_}
 use mathlib.Core.Path.{_≡_, refl}
-use mathlib.Core.Option.{Option, none, some, Option·some-injective}
-use mathlib.Core.Bool.{Bool, true, false, cond, not, _&&_}
+use mathlib.Core.Option.{none, some, Option·some-injective, Option·none-ne-some}
+use mathlib.Core.Bool.{Bool, true, false, cond, _&&_}
 use native.Mathlib.Omega.{arith}
 use lib.Dec.{ltb, leb, eqb}
 use borrow.Author.Tests.{ltb-true, ltb-false, leb-true, leb-false, eqb-true, eqb-false}
 
--- True and false are different.
-pub true-false : {b : Bool} → b ≡ true → b ≡ false → ⊥
-true-false p q = let z : _≡_ {A = ℕ} 0 1 = cc in omega arith
+-- Anything follows where two constructors are the same: `clash (cc)`, from the equations in scope.
+pub clash {ℓ} : {P : Type ℓ} → _≡_ {A = ℕ} 0 1 → P
+clash e = absurd (omega arith)
+
+pub true-false {ℓ} : {P : Type ℓ} {b : Bool} → b ≡ true → b ≡ false → P
+true-false p q = clash (cc)
+
+pub none-some {ℓ κ} : {A : Type ℓ} {P : Type κ} {a : A} → none ≡ some a → P
+none-some {a} e = absurd (Option·none-ne-some a e)
 
 -- A claim, by the value of a Boolean.
 pub bool {ℓ} : {P : Type ℓ} (b : Bool) → (b ≡ true → P) → (b ≡ false → P) → P
@@ -29,6 +35,13 @@ cond-same false a = refl
 pub one-most : (b : Bool) → cond b 1 0 ≤ 1
 one-most true = omega arith
 one-most false = omega arith
+
+-- A claim, by the order of two numbers.
+pub by-eq {ℓ} : {P : Type ℓ} (a b : ℕ) → (a ≡ b → P) → ((a ≡ b → ⊥) → P) → P
+by-eq a b f g = bool (eqb a b) (λ t. f (eqb-true a b t)) (λ t. g (eqb-false a b t))
+
+pub by-lt {ℓ} : {P : Type ℓ} (a b : ℕ) → (a < b → P) → (b ≤ a → P) → P
+by-lt a b f g = bool (ltb a b) (λ t. f (ltb-true a b t)) (λ t. g (ltb-false a b t))
 
 -- A claim about the result of a test, by the fact that the test stands for.
 pub by-eqb {ℓ} : (P : Bool → Type ℓ) (a b : ℕ) → (a ≡ b → P true) → ((a ≡ b → ⊥) → P false) → P (eqb a b)
@@ -59,7 +72,7 @@ and-left false b e = e
 
 pub and-right : (a b : Bool) → (a && b) ≡ true → b ≡ true
 and-right true b e = e
-and-right false b e = absurd (true-false e refl)
+and-right false b e = true-false e refl
 
 pub and-both : (a b : Bool) → a ≡ true → b ≡ true → (a && b) ≡ true
 and-both true b p q = q

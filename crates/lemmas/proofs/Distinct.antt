@@ -1,24 +1,19 @@
 -- Laws of lists that no element stands in twice, and of a list without a number. Assumes nothing.
-use Prim.Native.Nat.{ℕ, zero, suc, _+_, _≤_, _<_}
-use mathlib.Core.Path.{_≡_, refl, sym, ap, _∙_}
-use mathlib.Core.Bool.{Bool, cond, not}
+use Prim.Native.Nat.{ℕ, _+_, _≤_}
+use mathlib.Core.Path.{_≡_, refl, sym}
+use mathlib.Core.Bool.{Bool, not}
 use mathlib.Core.List.{List, [], _∷_, _++_, List·Memᴰ, List·Memᴰ·head, List·Memᴰ·tail, List·Memᴰ·append-cases, Memᴰ·cast, Memᴰ·append-left, Memᴰ·append-right}
 use mathlib.Core.Logic.{⊎-elim}
-use native.Mathlib.Nat.{not-suc-le-zero, le-of-suc-le-suc}
 use native.Mathlib.Omega.{arith}
 use lib.Dec.{eqb}
-use lib.ListN.{length, getD}
+use lib.ListN.{length}
 use borrow.Author.Tests.{eq-eqb, ne-eqb, eqb-false, not-true}
-use Rattle.lemmas.specs.Every.{count}
-use Rattle.lemmas.specs.Below.{sumBelow}
 use Rattle.lemmas.specs.Keep.{keep}
 use Rattle.lemmas.specs.Times.{times, Distinct, remove}
-use Rattle.lemmas.proofs.Cases.{bool, by-eqb}
-use Rattle.lemmas.proofs.Below.{sum-le, sum-tight, sum-const}
+use Rattle.lemmas.proofs.Cases.{bool, by-eq}
 use Rattle.lemmas.proofs.Every.{every-of-members, count-both}
 use Rattle.lemmas.proofs.Keep.{keep-append, length-keep, keep-in, keep-keeps, keep-all}
-use Rattle.lemmas.proofs.Members.{member-at}
-use Rattle.lemmas.proofs.Times.{times-nil, times-cons, times-here, times-there, member-times, times-member, times-absent, absent-times, times-past, sum-times}
+use Rattle.lemmas.proofs.Times.{times-nil, times-cons, times-here, times-there, member-times, times-member, times-absent, absent-times}
 
 -- ---- no element twice
 
@@ -47,19 +42,11 @@ module _ {ℓ} {A : Type ℓ} where
   distinct-keep p (x ∷ l) h =
       bool (p x) (λ e. rw e (λ m. h .0 (keep-in p l m .1), distinct-keep p l (h .1))) (λ e. rw e (distinct-keep p l (h .1)))
 
-  -- An element stands at one index only.
-  pub distinct-index : (l : List A) (i j : ℕ) (d : A) → Distinct l → i < length l → j < length l → getD l i d ≡ getD l j d → i ≡ j
-  distinct-index [] i j d h a b e = absurd (not-suc-le-zero a)
-  distinct-index (x ∷ l) zero zero d h a b e = refl
-  distinct-index (x ∷ l) zero (suc j) d h a b e = absurd (h .0 (Memᴰ·cast e (member-at l j d (le-of-suc-le-suc b))))
-  distinct-index (x ∷ l) (suc i) zero d h a b e = absurd (h .0 (Memᴰ·cast (sym e) (member-at l i d (le-of-suc-le-suc a))))
-  distinct-index (x ∷ l) (suc i) (suc j) d h a b e = ap suc (distinct-index l i j d (h .1) (le-of-suc-le-suc a) (le-of-suc-le-suc b) e)
-
 -- Of numbers: none stands more than once.
 pub distinct-times : (l : List ℕ) → Distinct l → (q : ℕ) → times q l ≤ 1
 distinct-times [] h q = omega (arith, times-nil q)
 distinct-times (x ∷ l) h q =
-    by-eqb (λ t. times q (x ∷ l) ≤ 1) q x
+    by-eq q x
     (λ e. let a = times-absent q l (λ m. h .0 (Memᴰ·cast (sym e) m)) in omega (arith, times-here q l e))
     (λ n. let a = distinct-times l (h .1) q in omega (arith, times-there q l n))
 
@@ -70,14 +57,10 @@ times-distinct (x ∷ l) h = (
   times-distinct l (λ q. let a = h q in omega (arith, times-cons q x l)),
 )
 
--- A member of such a list stands there once.
-pub distinct-once : (l : List ℕ) → Distinct l → {q : ℕ} → List·Memᴰ q l → times q l ≡ 1
-distinct-once l h {q} m = let a = distinct-times l h q in let b = member-times q m in omega arith
-
 -- What stands in such a list stands no more often than in any list that has it.
 pub distinct-le : (a b : List ℕ) → Distinct a → ((x : ℕ) → List·Memᴰ x a → List·Memᴰ x b) → (q : ℕ) → times q a ≤ times q b
 distinct-le a b h f q =
-    by-eqb (λ t. times q a ≤ times q b) (times q a) 0 (λ e. omega arith)
+    by-eq (times q a) 0 (λ e. omega arith)
     (λ n.
     let m = member-times q (f q (times-member q a (omega arith))) in
     let k = distinct-times a h q in omega arith)
@@ -86,20 +69,6 @@ distinct-le a b h f q =
 pub distinct-perm : (a b : List ℕ) → Distinct a → Distinct b → ((x : ℕ) → List·Memᴰ x a → List·Memᴰ x b) → ((x : ℕ) → List·Memᴰ x b → List·Memᴰ x a)
     → (q : ℕ) → times q a ≡ times q b
 distinct-perm a b h k f g q = let x = distinct-le a b h f q in let y = distinct-le b a k g q in omega arith
-
--- Such a list of numbers below n has at most n; and if it has n, it has each of them.
-module _ (n : ℕ) (l : List ℕ) (once : Distinct l) (below : (x : ℕ) → List·Memᴰ x l → x < n) where
-  distinct-sum : sumBelow (λ q. times q l) n ≡ length l
-  distinct-sum = sum-times l n (times-past n l below)
-
-  pub distinct-length : length l ≤ n
-  distinct-length = let a = sum-le (λ q. times q l) 1 n (λ q k. distinct-times l once q) in let b = distinct-sum in omega arith
-
-  pub distinct-full : length l ≡ n → (q : ℕ) → q < n → List·Memᴰ q l
-  distinct-full e q k =
-      times-member q l
-      (let a = sum-tight (λ i. times i l) (λ i. 1) n (λ i j. distinct-times l once i) (let b = distinct-sum in let c = sum-const 1 n in omega arith) q k in
-      omega arith)
 
 -- ---- without a number
 
@@ -141,23 +110,4 @@ module _ (q : ℕ) where
   pub length-remove : (l : List ℕ) → times q l + length (remove q l) ≡ length l
   unfolding remove times
   length-remove l =
-      ap (λ (n : ℕ). count (λ x. eqb q x) l + n) (length-keep (λ x. not (eqb q x)) l) ∙ count-both (λ x. eqb q x) l
-
-  -- How often a number is left: not at all; or, another number, as often as it stood there.
-  pub times-removed : (l : List ℕ) → times q (remove q l) ≡ 0
-  times-removed l = times-absent q (remove q l) (remove-gone l)
-
-  remove-nil : remove q [] ≡ []
-  unfolding remove keep
-  remove-nil = refl
-
-  pub times-remove : (r : ℕ) (l : List ℕ) → (q ≡ r → ⊥) → times r (remove q l) ≡ times r l
-  times-remove r [] n = rw remove-nil
-  times-remove r (x ∷ l) n =
-      by-eqb (λ t. times r (remove q (x ∷ l)) ≡ times r (x ∷ l)) q x
-      (λ e. ap (times r) (remove-here l e) ∙ times-remove r l n ∙ sym (times-there r l (λ k. n (e ∙ sym k))))
-      (λ k.
-      ap (times r) (remove-there l k)
-      ∙ times-cons r x (remove q l)
-      ∙ ap (λ (m : ℕ). cond (eqb r x) 1 0 + m) (times-remove r l n)
-      ∙ sym (times-cons r x l))
+      cc (length-keep (λ x. not (eqb q x)) l, count-both (λ x. eqb q x) l)

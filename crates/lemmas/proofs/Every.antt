@@ -1,17 +1,17 @@
 -- Laws of a test over a list: of a joined list, of a scan's next element and its end, of one element and of all. Assumes nothing.
 use Prim.Native.Nat.{ℕ, zero, suc, _+_, _≤_, _<_}
-use mathlib.Core.Path.{_≡_, refl, sym, ap, _∙_}
+use mathlib.Core.Path.{_≡_, refl, sym, _∙_}
 use mathlib.Core.Bool.{Bool, true, false, cond, not, _&&_}
 use mathlib.Core.List.{List, [], _∷_, _++_, List·Memᴰ, List·Memᴰ·head, List·Memᴰ·tail}
 use native.Mathlib.Nat.{add-zero, zero-add, add-assoc, not-suc-le-zero, le-of-suc-le-suc, zero-lt-suc}
 use native.Mathlib.Numerals.{add-one}
 use native.Mathlib.Omega.{arith}
 use lib.Dec.{eqb}
-use lib.ListN.{length, take, drop, getD, set, replicate, take-append-drop}
+use lib.ListN.{length, take, drop, getD, replicate, take-append-drop}
 use lib.Seq.{take-suc, take-add, take-all}
 use borrow.Author.Tests.{eq-eqb, eqb-true}
 use Rattle.lemmas.specs.Every.{every, count}
-use Rattle.lemmas.proofs.Cases.{true-false, and-left, and-right, and-both, refuted, one-most}
+use Rattle.lemmas.proofs.Cases.{true-false, and-left, and-right, and-both, one-most}
 use Rattle.lemmas.proofs.Tests.{and-true, and-assoc, false-left, false-right}
 
 module _ {ℓ} {A : Type ℓ} (p : A → Bool) where
@@ -24,33 +24,24 @@ module _ {ℓ} {A : Type ℓ} (p : A → Bool) where
   pub every-append : (a b : List A) → every p (a ++ b) ≡ (every p a && every p b)
   unfolding every
   every-append [] b = refl
-  every-append (x ∷ a) b = ap (λ (t : Bool). p x && t) (every-append a b) ∙ and-assoc (p x) (every p a) (every p b)
+  every-append (x ∷ a) b = cc (every-append a b, and-assoc (p x) (every p a) (every p b))
 
   pub every-split : (s : List A) (i : ℕ) → every p s ≡ (every p (take i s) && every p (drop i s))
-  every-split s i = ap (every p) (sym (take-append-drop i s)) ∙ every-append (take i s) (drop i s)
+  every-split s i = cc (take-append-drop i s, every-append (take i s) (drop i s))
 
   pub every-part : (s : List A) (i n : ℕ) → every p (take (i + n) s) ≡ (every p (take i s) && every p (take n (drop i s)))
-  every-part s i n = ap (every p) (take-add i n s) ∙ every-append (take i s) (take n (drop i s))
+  every-part s i n = cc (take-add i n s, every-append (take i s) _)
 
   -- One element more.
   pub every-more : (s : List A) (i : ℕ) (d : A) → i < length s → every p (take (i + 1) s) ≡ (every p (take i s) && p (getD s i d))
   unfolding every
   every-more s i d h =
       rw (add-one, take-suc s i d)
-      (every-append (take i s) (getD s i d ∷ []) ∙ ap (λ (t : Bool). every p (take i s) && t) (and-true (p (getD s i d))))
-
-  -- A scan's flag, over an element that passes; and what it is over one that fails.
-  pub every-pass : (s : List A) (i : ℕ) (d : A) {b : Bool} → i < length s → p (getD s i d) ≡ true → b ≡ every p (take i s) → b ≡ every p (take (i + 1) s)
-  every-pass s i d h t e =
-      e ∙ sym (every-more s i d h ∙ ap (λ (b : Bool). every p (take i s) && b) t ∙ and-true (every p (take i s)))
-
-  pub every-fail : (s : List A) (i : ℕ) (d : A) → i < length s → p (getD s i d) ≡ false → false ≡ every p (take (i + 1) s)
-  every-fail s i d h f =
-      sym (every-more s i d h ∙ false-right (every p (take i s)) f)
+      (cc (every-append (take i s) _, and-true _))
 
   -- A scan's end.
   pub every-done : (s : List A) (i : ℕ) {b : Bool} → length s ≤ i → b ≡ every p (take i s) → b ≡ every p s
-  every-done s i h e = e ∙ ap (every p) (take-all i s h)
+  every-done s i h e = cc (take-all i s h)
 
   pub every-at : (s : List A) (i : ℕ) (d : A) → every p s ≡ true → i < length s → p (getD s i d) ≡ true
   unfolding every
@@ -63,15 +54,6 @@ module _ {ℓ} {A : Type ℓ} (p : A → Bool) where
   every-of [] d h = refl
   every-of (x ∷ s) d h = and-both (p x) (every p s) (h 0 (zero-lt-suc (length s))) (every-of s d (λ i l. h (suc i) (omega arith)))
 
-  -- One element that fails.
-  pub every-not : (s : List A) (i : ℕ) (d : A) → i < length s → p (getD s i d) ≡ false → every p s ≡ false
-  every-not s i d h f = refuted (every p s) (λ e. true-false (every-at s i d e h) f)
-
-  pub every-member : {x : A} {s : List A} → every p s ≡ true → List·Memᴰ x s → p x ≡ true
-  unfolding every
-  every-member {x} {s = y ∷ s} e (List·Memᴰ·head q) = ap p q ∙ and-left (p y) (every p s) e
-  every-member {x} {s = y ∷ s} e (List·Memᴰ·tail m) = every-member (and-right (p y) (every p s) e) m
-
   pub every-of-members : (s : List A) → ((x : A) → List·Memᴰ x s → p x ≡ true) → every p s ≡ true
   unfolding every
   every-of-members [] h = refl
@@ -80,28 +62,21 @@ module _ {ℓ} {A : Type ℓ} (p : A → Bool) where
   pub every-replicate : (n : ℕ) (a : A) → p a ≡ true → every p (replicate n a) ≡ true
   unfolding every
   every-replicate zero a h = refl
-  every-replicate (suc n) a h = and-both (p a) (every p (replicate n a)) h (every-replicate n a h)
-
-  pub every-set : (s : List A) (i : ℕ) (v : A) → every p s ≡ true → p v ≡ true → every p (set s i v) ≡ true
-  unfolding every
-  every-set [] i v e h = refl
-  every-set (x ∷ s) zero v e h = and-both (p v) (every p s) h (and-right (p x) (every p s) e)
-  every-set (x ∷ s) (suc i) v e h =
-      and-both (p x) (every p (set s i v)) (and-left (p x) (every p s) e) (every-set s i v (and-right (p x) (every p s) e) h)
+  every-replicate (suc n) a h = and-both (p a) _ h (every-replicate n a h)
 
   -- ---- a scan by blocks: of the n elements from i on, all pass; one fails; they are the last
 
   pub every-block : (s : List A) (i n e : ℕ) → i + n ≡ e → every p (take i s) ≡ true → every p (take n (drop i s)) ≡ true → every p (take e s) ≡ true
   every-block s i n e q a b =
-      ap (λ (k : ℕ). every p (take k s)) (sym q) ∙ every-part s i n ∙ and-both (every p (take i s)) (every p (take n (drop i s))) a b
+      cc (every-part s i n, and-both _ _ a b)
 
   pub every-block-not : (s : List A) (i n : ℕ) → every p (take n (drop i s)) ≡ false → every p s ≡ false
   every-block-not s i n f =
-      every-split s (i + n) ∙ false-left (every p (drop (i + n) s)) (every-part s i n ∙ false-right (every p (take i s)) f)
+      every-split s (i + n) ∙ false-left _ (every-part s i n ∙ false-right (every p (take i s)) f)
 
   pub every-block-last : (s : List A) (i n : ℕ) → length s ≤ i + n → every p (take i s) ≡ true → every p (take n (drop i s)) ≡ every p s
   every-block-last s i n h a =
-      sym (ap (λ (b : Bool). b && every p (take n (drop i s))) a) ∙ sym (every-part s i n) ∙ ap (every p) (take-all (i + n) s h)
+      cc (every-part s i n, take-all (i + n) s h)
 
   -- ---- count
 
@@ -112,29 +87,26 @@ module _ {ℓ} {A : Type ℓ} (p : A → Bool) where
   pub count-append : (a b : List A) → count p (a ++ b) ≡ count p a + count p b
   unfolding count
   count-append [] b = sym (zero-add (count p b))
-  count-append (x ∷ a) b = ap (λ (n : ℕ). cond (p x) 1 0 + n) (count-append a b) ∙ sym (add-assoc (cond (p x) 1 0) (count p a) (count p b))
-
-  pub count-split : (s : List A) (i : ℕ) → count p s ≡ count p (take i s) + count p (drop i s)
-  count-split s i = ap (count p) (sym (take-append-drop i s)) ∙ count-append (take i s) (drop i s)
+  count-append (x ∷ a) b = cc (count-append a b, add-assoc _ (count p a) (count p b))
 
   -- One element more.
   pub count-more : (s : List A) (i : ℕ) (d : A) → i < length s → count p (take (i + 1) s) ≡ count p (take i s) + cond (p (getD s i d)) 1 0
   unfolding count
   count-more s i d h =
       rw (add-one, take-suc s i d)
-      (count-append (take i s) (getD s i d ∷ []) ∙ ap (λ (n : ℕ). count p (take i s) + n) (add-zero (cond (p (getD s i d)) 1 0)))
+      (cc (count-append (take i s) _, add-zero _))
 
   -- A scan's number, over an element that passes and over one that fails; and its end.
   pub count-pass : (s : List A) (i : ℕ) (d : A) {n : ℕ} → i < length s → p (getD s i d) ≡ true → n ≡ count p (take i s) → n + 1 ≡ count p (take (i + 1) s)
   count-pass s i d h t e =
-      ap (λ (k : ℕ). k + 1) e ∙ sym (count-more s i d h ∙ ap (λ (b : Bool). count p (take i s) + cond b 1 0) t)
+      cc (count-more s i d h)
 
   pub count-fail : (s : List A) (i : ℕ) (d : A) {n : ℕ} → i < length s → p (getD s i d) ≡ false → n ≡ count p (take i s) → n ≡ count p (take (i + 1) s)
   count-fail s i d h f e =
-      e ∙ sym (count-more s i d h ∙ ap (λ (b : Bool). count p (take i s) + cond b 1 0) f ∙ add-zero (count p (take i s)))
+      cc (count-more s i d h, add-zero _)
 
   pub count-done : (s : List A) (i : ℕ) {n : ℕ} → length s ≤ i → n ≡ count p (take i s) → n ≡ count p s
-  count-done s i h e = e ∙ ap (count p) (take-all i s h)
+  count-done s i h e = cc (take-all i s h)
 
   pub count-le-length : (s : List A) → count p s ≤ length s
   unfolding count
@@ -149,15 +121,6 @@ module _ {ℓ} {A : Type ℓ} (p : A → Bool) where
       let ih = count-all s (and-right (p x) (every p s) e) in
       rw (and-left (p x) (every p s) e) (omega arith)
 
-  pub all-count : (s : List A) → count p s ≡ length s → every p s ≡ true
-  unfolding every count
-  all-count [] e = refl
-  all-count (x ∷ s) e = go (p x) e (all-count s)
-    where
-      go : (b : Bool) → cond b 1 0 + count p s ≡ suc (length s) → (count p s ≡ length s → every p s ≡ true) → (b && every p s) ≡ true
-      go true q f = f (omega arith)
-      go false q f = let a = count-le-length s in absurd (omega arith)
-
   pub count-none : (s : List A) → every (λ x. not (p x)) s ≡ true → count p s ≡ 0
   unfolding every count
   count-none [] e = refl
@@ -166,15 +129,6 @@ module _ {ℓ} {A : Type ℓ} (p : A → Bool) where
       go : (b : Bool) → (not b && every (λ x. not (p x)) s) ≡ true → (every (λ x. not (p x)) s ≡ true → count p s ≡ 0) → cond b 1 0 + count p s ≡ 0
       go true q f = absurd (true-false q refl)
       go false q f = let a = f q in omega arith
-
-  pub none-count : (s : List A) → count p s ≡ 0 → every (λ x. not (p x)) s ≡ true
-  unfolding every count
-  none-count [] e = refl
-  none-count (x ∷ s) e = go (p x) e (none-count s)
-    where
-      go : (b : Bool) → cond b 1 0 + count p s ≡ 0 → (count p s ≡ 0 → every (λ x. not (p x)) s ≡ true) → (not b && every (λ x. not (p x)) s) ≡ true
-      go true q f = absurd (omega arith)
-      go false q f = f (omega arith)
 
   -- Those that pass and those that fail.
   pub count-both : (s : List A) → count p s + count (λ x. not (p x)) s ≡ length s
@@ -186,21 +140,14 @@ module _ {ℓ} {A : Type ℓ} (p : A → Bool) where
       go true q = omega arith
       go false q = omega arith
 
-  -- A store: what stood there no longer counts, what was stored does.
-  pub count-set : (s : List A) (i : ℕ) (v d : A) → i < length s → count p (set s i v) + cond (p (getD s i d)) 1 0 ≡ count p s + cond (p v) 1 0
-  unfolding count
-  count-set [] i v d h = absurd (not-suc-le-zero h)
-  count-set (x ∷ s) zero v d h = omega arith
-  count-set (x ∷ s) (suc i) v d h = let ih = count-set s i v d (le-of-suc-le-suc h) in omega arith
-
 -- A list all of whose elements are one number is that number, as often as the list is long.
 pub every-equal : (a : ℕ) (s : List ℕ) → every (λ x. eqb x a) s ≡ true → s ≡ replicate (length s) a
 unfolding every
 every-equal a [] e = refl
 every-equal a (x ∷ s) e =
-    let h = eqb-true x a (and-left (eqb x a) (every (λ x. eqb x a) s) e) in
-    let t = every-equal a s (and-right (eqb x a) (every (λ x. eqb x a) s) e) in
-    ap (λ (y : ℕ). y ∷ s) h ∙ ap (λ (l : List ℕ). a ∷ l) t
+    let h = eqb-true x a (and-left (eqb x a) _ e) in
+    let t = every-equal a s (and-right (eqb x a) _ e) in
+    cc
 
 pub equal-every : (a n : ℕ) → every (λ x. eqb x a) (replicate n a) ≡ true
 equal-every a n = every-replicate (λ x. eqb x a) n a (eq-eqb a a refl)

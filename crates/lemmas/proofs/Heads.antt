@@ -1,11 +1,11 @@
 -- A list from an index on: its next element, what is known of it when its front is. Assumes nothing.
 use Prim.Native.Nat.{ℕ, suc, _+_, _-_, _≤_, _<_}
-use mathlib.Core.Path.{_≡_, refl, sym, ap, _∙_}
+use mathlib.Core.Path.{_≡_, refl, sym, _∙_}
 use mathlib.Core.List.{List, [], _∷_, _++_}
 use native.Mathlib.Numerals.{add-one}
 use native.Mathlib.Omega.{arith}
-use lib.ListN.{length, take, drop, getD, set, length-append, length-drop}
-use lib.Seq.{take-suc, drop-cons, take-suc-set, drop-set-lt, drop-drop, take-at, drop-at}
+use lib.ListN.{length, take, drop, getD, set, length-drop}
+use lib.Seq.{take-suc, drop-cons, take-suc-set, drop-set-lt, drop-drop, drop-at}
 
 module _ {ℓ} {A : Type ℓ} where
   -- ---- the next element, at i + 1
@@ -26,28 +26,13 @@ module _ {ℓ} {A : Type ℓ} where
 
   pub head-is : (s : List A) (at : ℕ) (c d : A) (t : List A) → drop at s ≡ c ∷ t → (at < length s) × (getD s at d ≡ c) × (drop (at + 1) s ≡ t)
   head-is s at c d t e =
-      let l : length s - at ≡ suc (length t) = sym (length-drop at s) ∙ ap length e in
+      let l : length s - at ≡ suc (length t) = cc (length-drop at s) in
       let h : at < length s = omega arith in
       let q : getD s at d ∷ drop (at + 1) s ≡ c ∷ t = sym (next-word s at d h) ∙ e in
       (h, cc, cc)
 
   pub head-none : (s : List A) (at : ℕ) → drop at s ≡ [] → length s ≤ at
-  head-none s at e = let l : length s - at ≡ 0 = sym (length-drop at s) ∙ ap length e in omega arith
-
-  -- A front of several: how far it reaches, and what follows it.
-  pub front-fits : (s : List A) (at : ℕ) (x t : List A) → at ≤ length s → drop at s ≡ x ++ t → at + length x ≤ length s
-  front-fits s at x t h e = omega (arith, length-drop at s, ap length e, length-append x t)
-
-  pub front-is : (s : List A) (at : ℕ) (x t : List A) → drop at s ≡ x ++ t → take (length x) (drop at s) ≡ x
-  front-is s at x t e = ap (take (length x)) e ∙ take-at x t (length x) refl
+  head-none s at e = let l : length s - at ≡ 0 = cc (length-drop at s) in omega arith
 
   pub front-after : (s : List A) (at : ℕ) (x t : List A) → drop at s ≡ x ++ t → drop (at + length x) s ≡ t
-  front-after s at x t e = sym (drop-drop (length x) at s) ∙ ap (drop (length x)) e ∙ drop-at x t (length x) refl
-
-  -- ---- two lists in two pieces
-
-  pub append-parts : (a b c e : List A) → length a ≡ length b → a ++ c ≡ b ++ e → (a ≡ b) × (c ≡ e)
-  append-parts a b c e h q = (
-    sym (take-at a c (length a) refl) ∙ ap (take (length a)) q ∙ take-at b e (length a) (sym h),
-    sym (drop-at a c (length a) refl) ∙ ap (drop (length a)) q ∙ drop-at b e (length a) (sym h),
-  )
+  front-after s at x t e = cc (drop-drop (length x) at s, drop-at x t (length x) refl)

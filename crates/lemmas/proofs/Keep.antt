@@ -8,23 +8,14 @@ use lib.ListN.{length}
 use borrow.Author.Tests.{not-true}
 use Rattle.lemmas.specs.Every.{every, count}
 use Rattle.lemmas.specs.Keep.{keep}
-use Rattle.lemmas.proofs.Cases.{bool, and-left, and-right}
+use Rattle.lemmas.proofs.Cases.{and-left, and-right}
 
 module _ {ℓ} {A : Type ℓ} (p : A → Bool) where
-  -- A list's first element passes, or fails.
-  pub keep-pass : {x : A} (l : List A) → p x ≡ true → keep p (x ∷ l) ≡ x ∷ keep p l
-  unfolding keep
-  keep-pass l e = rw e
-
-  pub keep-fail : {x : A} (l : List A) → p x ≡ false → keep p (x ∷ l) ≡ keep p l
-  unfolding keep
-  keep-fail l e = rw e
-
   pub keep-append : (a b : List A) → keep p (a ++ b) ≡ keep p a ++ keep p b
   unfolding keep
   keep-append [] b = refl
   keep-append (x ∷ a) b =
-      ap (λ (l : List A). cond (p x) (x ∷ []) [] ++ l) (keep-append a b) ∙ sym (append-assoc (cond (p x) (x ∷ []) []) (keep p a) (keep p b))
+      cc (keep-append a b, append-assoc _ (keep p a) (keep p b))
 
   pub length-keep : (l : List A) → length (keep p l) ≡ count p l
   unfolding keep count
@@ -60,18 +51,13 @@ module _ {ℓ} {A : Type ℓ} (p : A → Bool) where
   pub keep-all : (l : List A) → every p l ≡ true → keep p l ≡ l
   unfolding keep every
   keep-all [] e = refl
-  keep-all (x ∷ l) e = rw (and-left (p x) (every p l) e) (ap (λ (r : List A). x ∷ r) (keep-all l (and-right (p x) (every p l) e)))
+  keep-all (x ∷ l) e = rw (and-left (p x) (every p l) e) (cc (keep-all l (and-right (p x) (every p l) e)))
 
   pub keep-none : (l : List A) → every (λ x. not (p x)) l ≡ true → keep p l ≡ []
   unfolding keep every
   keep-none [] e = refl
   keep-none (x ∷ l) e =
-      rw (not-true (p x) (and-left (not (p x)) (every (λ x. not (p x)) l) e)) (keep-none l (and-right (not (p x)) (every (λ x. not (p x)) l) e))
-
-  pub every-keep : (l : List A) → every p (keep p l) ≡ true
-  unfolding keep every
-  every-keep [] = refl
-  every-keep (x ∷ l) = bool (p x) (λ e. rw e (rw e (every-keep l))) (λ e. rw e (every-keep l))
+      rw (not-true (p x) (and-left (not (p x)) _ e)) (keep-none l (and-right (not (p x)) _ e))
 
 -- One test after another.
 pub count-keep {ℓ} : {A : Type ℓ} (p q : A → Bool) (l : List A) → count q (keep p l) ≡ count (λ x. p x && q x) l
@@ -89,7 +75,7 @@ keep-keep f g [] = refl
 keep-keep {A = A} f g (x ∷ l) = go (f x) (keep-keep f g l)
   where
     go : (b : Bool) → keep g (keep f l) ≡ keep (λ x. f x && g x) l → keep g (cond b (x ∷ []) [] ++ keep f l) ≡ cond (b && g x) (x ∷ []) [] ++ keep (λ x. f x && g x) l
-    go true e = ap (λ (r : List A). cond (g x) (x ∷ []) [] ++ r) e
+    go true e = cc
     go false e = e
 
 -- Two tests that agree on the list.

@@ -6,7 +6,6 @@ pub mod Every
 pub mod Heads
 pub mod Keep
 pub mod ListFrom
-pub mod Members
 pub mod Parts
 pub mod Sets
 pub mod Tests

@@ -1,10 +1,10 @@
 -- Equations between tests: two that hold together, a conjunction's parts, a test with its numbers exchanged or raised. Assumes nothing.
 use Prim.Native.Nat.{ℕ, _≤_, _<_}
-use mathlib.Core.Path.{_≡_, refl, sym, ap}
+use mathlib.Core.Path.{_≡_, refl, sym}
 use mathlib.Core.Bool.{Bool, true, false, _&&_}
-use lib.Dec.{leb, eqb}
-use borrow.Author.Tests.{eq-eqb, ne-eqb, le-leb, lt-leb}
-use Rattle.lemmas.proofs.Cases.{by-eqb, and-false}
+use lib.Dec.{leb}
+use borrow.Author.Tests.{le-leb, lt-leb}
+use Rattle.lemmas.proofs.Cases.{and-false}
 
 -- Two tests, each true where the other is, are the same.
 pub agree : (a b : Bool) → (a ≡ true → b ≡ true) → (b ≡ true → a ≡ true) → a ≡ b
@@ -26,17 +26,14 @@ and-comm false b = sym (and-false b)
 
 -- One part that fails.
 pub false-left : {a : Bool} (b : Bool) → a ≡ false → (a && b) ≡ false
-false-left b e = ap (λ (a : Bool). a && b) e
+false-left b e = cc
 
 pub false-right : (a : Bool) {b : Bool} → b ≡ false → (a && b) ≡ false
 false-right a {b} e = rw e (and-false a)
 
-pub eqb-comm : (a b : ℕ) → eqb a b ≡ eqb b a
-eqb-comm a b = by-eqb (λ t. eqb a b ≡ t) b a (λ e. eq-eqb a b (sym e)) (λ n. ne-eqb a b (λ e. n (sym e)))
-
 -- Both bounds of a number, one tested after the other.
 pub range-below : (n most : ℕ) → n < 1 → false ≡ (leb 1 n && leb n most)
-range-below n most h = ap (λ b. b && leb n most) (sym (lt-leb 1 n h))
+range-below n most h = cc (lt-leb 1 n h)
 
 pub range-from : (n most : ℕ) → 1 ≤ n → leb n most ≡ (leb 1 n && leb n most)
-range-from n most h = ap (λ b. b && leb n most) (sym (le-leb 1 n h))
+range-from n most h = cc (le-leb 1 n h)

@@ -2,19 +2,17 @@
 use Prim.Native.Nat.{ℕ, suc, _+_, _≤_, _<_}
 use mathlib.Core.Path.{_≡_, refl, sym, _∙_}
 use mathlib.Core.Bool.{cond}
-use mathlib.Core.Logic.{_⊎_, inl, inr}
 use mathlib.Core.List.{List, [], _∷_, _++_, List·Memᴰ, List·Memᴰ·head, List·Memᴰ·tail}
 use native.Mathlib.Omega.{arith}
 use lib.Dec.{eqb}
-use lib.ListN.{length, getD, set}
+use lib.ListN.{length}
 use borrow.Author.Tests.{eq-eqb, ne-eqb}
 use Rattle.lemmas.specs.Every.{count}
 use Rattle.lemmas.specs.Below.{sumBelow}
 use Rattle.lemmas.specs.Times.{times, above}
-use Rattle.lemmas.proofs.Cases.{by-eqb, by-ltb}
-use Rattle.lemmas.proofs.Every.{count-append, count-le-length, count-set}
+use Rattle.lemmas.proofs.Cases.{by-eq, by-lt}
+use Rattle.lemmas.proofs.Every.{count-append}
 use Rattle.lemmas.proofs.Below.{sum-eq, sum-zero, sum-add, sum-one, sum-tight}
-use Rattle.lemmas.proofs.Members.{member-at}
 
 module _ (q : ℕ) where
   pub times-nil : times q [] ≡ 0
@@ -35,15 +33,6 @@ module _ (q : ℕ) where
   unfolding times
   times-append a b = count-append (λ x. eqb q x) a b
 
-  pub times-le-length : (l : List ℕ) → times q l ≤ length l
-  unfolding times
-  times-le-length l = count-le-length (λ x. eqb q x) l
-
-  -- A store: what stood there is gone, what was stored has come.
-  pub times-set : (l : List ℕ) (i v d : ℕ) → i < length l → times q (set l i v) + cond (eqb q (getD l i d)) 1 0 ≡ times q l + cond (eqb q v) 1 0
-  unfolding times
-  times-set l i v d h = count-set (λ x. eqb q x) l i v d h
-
   -- ---- membership
 
   pub member-times : {l : List ℕ} → List·Memᴰ q l → 0 < times q l
@@ -53,20 +42,13 @@ module _ (q : ℕ) where
   pub times-member : (l : List ℕ) → 0 < times q l → List·Memᴰ q l
   times-member [] h = absurd (omega (arith, times-nil))
   times-member (x ∷ l) h =
-      by-eqb (λ t. List·Memᴰ q (x ∷ l)) q x (λ e. List·Memᴰ·head e) (λ n. List·Memᴰ·tail (times-member l (rw (times-there l n) at h)))
+      by-eq q x (λ e. List·Memᴰ·head e) (λ n. List·Memᴰ·tail (times-member l (rw (times-there l n) at h)))
 
   pub times-absent : (l : List ℕ) → (List·Memᴰ q l → ⊥) → times q l ≡ 0
-  times-absent l n = by-eqb (λ t. times q l ≡ 0) (times q l) 0 (λ e. e) (λ h. absurd (n (times-member l (omega arith))))
+  times-absent l n = by-eq (times q l) 0 (λ e. e) (λ h. absurd (n (times-member l (omega arith))))
 
   pub absent-times : {l : List ℕ} → times q l ≡ 0 → List·Memᴰ q l → ⊥
   absent-times e m = let a = member-times m in omega arith
-
-  pub member-or-not : (l : List ℕ) → List·Memᴰ q l ⊎ (List·Memᴰ q l → ⊥)
-  member-or-not l =
-      by-ltb (λ t. List·Memᴰ q l ⊎ (List·Memᴰ q l → ⊥)) 0 (times q l) (λ h. inl (times-member l h)) (λ h. inr (absent-times (omega arith)))
-
-pub times-getD : (l : List ℕ) (i d : ℕ) → i < length l → 0 < times (getD l i d) l
-times-getD l i d h = member-times (getD l i d) (member-at l i d h)
 
 -- ---- a bound of the entries
 
@@ -85,7 +67,7 @@ times-above q l h = times-past (above l) l (λ x m. member-above m) q h
 pub sum-times : (l : List ℕ) (n : ℕ) → ((q : ℕ) → n ≤ q → times q l ≡ 0) → sumBelow (λ q. times q l) n ≡ length l
 sum-times [] n h = sum-zero (λ q. times q []) n (λ q l. times-nil q)
 sum-times (x ∷ l) n h =
-    let below : x < n = by-ltb (λ t. x < n) x n (λ k. k) (λ k. absurd (let a = h x k in omega (arith, times-here x l refl))) in
+    let below : x < n = by-lt x n (λ k. k) (λ k. absurd (let a = h x k in omega (arith, times-here x l refl))) in
     sum-eq (λ q. times q (x ∷ l)) (λ q. cond (eqb q x) 1 0 + times q l) n (λ q k. times-cons q x l)
     ∙ sum-add (λ q. cond (eqb q x) 1 0) (λ q. times q l) n
     ∙ (let a = sum-one x 1 n below in
@@ -107,7 +89,7 @@ perm-of a b e h q =
     let n : ℕ = suc q + (above a + above b) in
     sym
     (sum-tight (λ i. times i b) (λ i. times i a) n (λ i l. h i)
-    (sum-times b n (λ i l. times-above i b (omega arith)) ∙ sym e ∙ sym (sum-times a n (λ i l. times-above i a (omega arith)))) q (omega arith))
+    (cc (sum-times b n (λ i l. times-above i b (omega arith)), sum-times a n (λ i l. times-above i a (omega arith)))) q (omega arith))
 
 pub perm-member : {a b : List ℕ} {q : ℕ} → ((i : ℕ) → times i a ≡ times i b) → List·Memᴰ q a → List·Memᴰ q b
 perm-member {a} {b} {q} h m = times-member q b (let k = member-times q m in let e = h q in omega arith)

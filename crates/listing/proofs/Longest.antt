@@ -39,7 +39,7 @@ NoZone (direct n g) = Unit {0}
 NoZone (zone z) = ⊥
 
 singles-bare : (n p : ℕ) (z : Zone) → ZoneAt (singles n) p z → ⊥
-singles-bare n p z e = each-locate NoZone (singles n) (p * 4096) (record { away = 0; segment = zone z }) (singles-each NoZone tt n) e
+singles-bare n p z e = each-locate NoZone (singles n) (p * 4096) (singles-each NoZone tt n) e
 
 -- A valid state of n pages has a listing of `longest n` bytes.
 pub longest-met : (n : ℕ) → 0 < n → n ≤ mostPages → (s : State) × Valid s × (total (s .segments) ≡ n) × (length (listingText (pageMap s)) ≡ longest n)

@@ -1,7 +1,7 @@
 -- The walks over the segments: the one that counts the rows of a kind, and the one that writes them. Assumes nothing.
 use Prim.Native.Nat.{ℕ, _+_, _≤_, _<_}
 use mathlib.Core.Path.{_≡_, refl, sym, ap, _∙_, subst}
-use mathlib.Core.Bool.{Bool, true, false, cond}
+use mathlib.Core.Bool.{cond}
 use mathlib.Core.List.{List, [], _∷_, _++_, append-assoc, append-nil}
 use native.Mathlib.Omega.{arith}
 use lib.Dec.{eqb}
@@ -19,6 +19,7 @@ use Rattle.text.specs.Writing.{Bounded, Wrote}
 use Rattle.text.proofs.Left.{wrote-then, wrote-as}
 use Rattle.listing.specs.Rows.{rowsAt, rowsOf}
 use Rattle.listing.proofs.Rows.{count-at, lines-append}
+use Rattle.lemmas.proofs.Cases.{one-most}
 
 -- ---- counting
 
@@ -34,10 +35,6 @@ pub record Counting (k : ℕ) (w : List ℕ) (n a p : ℕ) : Type 0 where
 
 pub count-start : {k : ℕ} {w : List ℕ} {n : ℕ} → Holds w n → Counting k w n 0 0
 count-start h = record { b = 0; walk = walk-start 0 h; few = omega arith; most = h .most }
-
-one-most : (t : Bool) → cond t 1 0 ≤ 1
-one-most true = omega arith
-one-most false = omega arith
 
 module _ {k : ℕ} {w : List ℕ} {n a p : ℕ} (i : Counting k w n a p) where
   pub count-next : p < n → Next (i .walk)

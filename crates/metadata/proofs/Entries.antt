@@ -1,13 +1,12 @@
 -- The entries of all lists, and what it means that they are the open zones, each once. Assumes nothing.
-use Prim.Native.Nat.{ℕ, zero, suc, _+_, _-_, _*_, _≤_, _<_}
-use mathlib.Core.Path.{_≡_, refl, sym, ap, _∙_, subst}
+use Prim.Native.Nat.{ℕ, zero, suc, _+_, _-_}
+use mathlib.Core.Path.{_≡_, refl, sym, ap, _∙_}
 use mathlib.Core.Logic.{_⊎_, inl, inr}
-use mathlib.Core.List.{List, [], _∷_, _++_, map, List·Memᴰ, List·Memᴰ·not-nil, List·Memᴰ·head, List·Memᴰ·tail, List·Memᴰ·append-cases, Memᴰ·append-left, Memᴰ·append-right}
+use mathlib.Core.List.{List, [], _∷_, _++_, map, List·Memᴰ, List·Memᴰ·not-nil, List·Memᴰ·append-cases, Memᴰ·append-left, Memᴰ·append-right}
 use native.Mathlib.Omega.{arith}
 use lib.ListN.{length, getD, length-append, length-map}
-use Rattle.lemmas.specs.Times.{times, Distinct}
-use Rattle.lemmas.proofs.Times.{times-append, times-member, member-times, perm-of, perm-length, perm-member}
-use Rattle.lemmas.proofs.Distinct.{distinct-append, distinct-left, distinct-right, distinct-apart, distinct-times, times-distinct, distinct-perm}
+use Rattle.lemmas.specs.Times.{Distinct}
+use Rattle.lemmas.proofs.Distinct.{distinct-append, distinct-left, distinct-right, distinct-apart}
 use Rattle.header.specs.Keys.{key, keysFrom, keysOf}
 
 -- The entries of these lists, one list behind another.

@@ -1,28 +1,27 @@
 -- The test of the lists is exact: it holds just if the lists are as a valid state has them. Assumes nothing.
-use Prim.Native.Nat.{ℕ, zero, suc, _+_, _-_, _*_, _≤_, _<_}
+use Prim.Native.Nat.{ℕ, _+_, _-_, _*_}
 use mathlib.Core.Path.{_≡_, refl, sym, ap, _∙_, subst}
 use mathlib.Core.Logic.{_⊎_, inl, inr}
 use mathlib.Core.List.{List, [], _∷_, _++_, List·Memᴰ, List·Memᴰ·append-cases, Memᴰ·append-left, Memᴰ·append-right}
-use mathlib.Core.Option.{Option, none, some, Option·none-ne-some}
-use mathlib.Core.Bool.{Bool, true, false, cond, _&&_}
+use mathlib.Core.Option.{some}
+use mathlib.Core.Bool.{true, false}
 use native.Mathlib.Omega.{arith}
-use lib.Dec.{ltb, eqb}
+use lib.Dec.{ltb}
 use lib.ListN.{length, getD, length-append}
 use borrow.Author.Tests.{ltb-true, ltb-false, lt-ltb, le-ltb, eqb-true, eq-eqb}
 use Rattle.lemmas.specs.Times.{times, Distinct}
-use Rattle.lemmas.proofs.Cases.{bool, true-false, and-left, and-right, and-both, some-inj}
+use Rattle.lemmas.proofs.Cases.{bool, and-left, and-right, and-both, some-inj, by-eq, none-some}
 use Rattle.lemmas.proofs.Times.{times-member, member-times, perm-of, perm-length, perm-member}
 use Rattle.lemmas.proofs.Distinct.{distinct-append, distinct-left, distinct-right, distinct-apart, distinct-times, times-distinct, distinct-perm, distinct-le}
-use Rattle.model.specs.Arena.{Segment, run, direct, zone, pages, bytes, total, Place, locate}
+use Rattle.model.specs.Arena.{Segment, run, direct, zone, pages, bytes, Place, locate}
 use Rattle.model.specs.Zone.{Zone, full}
-use Rattle.model.specs.State.{State, listOf, ZoneAt}
+use Rattle.model.specs.State.{ZoneAt}
 use Rattle.model.specs.PageMap.{idleZone}
 use Rattle.model.specs.Valid.{OpenAt, IdleAt}
 use Rattle.model.proofs.Moves.{one-zone}
-use Rattle.model.proofs.Zones.{by-eq}
 use Rattle.header.specs.Keys.{keysOf}
 use Rattle.header.specs.Front.{stands}
-use Rattle.metadata.specs.Lists.{zoneFits, segmentFits, isOpen, fitFrom, listsLegal}
+use Rattle.metadata.specs.Lists.{zoneFits, segmentFits, isOpen, fitFrom}
 use Rattle.metadata.proofs.Open.{sumOpen, length-open, openPages, open-told, told-open, pages-distinct}
 use Rattle.metadata.proofs.Entries.{entries, length-entries, on-list, list-on, Single, single-entries, entries-single}
 
@@ -38,7 +37,7 @@ pub record Listed (m : List (Segment Zone)) (lists : List (List ℕ)) (spare : L
 -- The walk of the test, told: each zone fits, and the count is right.
 fit-told : (spare : List ℕ) (lists : List (List ℕ)) (k a p : ℕ) (m : List (Segment Zone)) → fitFrom spare lists k a p m ≡ true → (a + sumOpen m ≡ k) × ((q : ℕ) (z : Zone) → locate (q * 4096) m ≡ some (record { away = 0; segment = zone z }) → zoneFits spare lists (p + q) z ≡ true)
 unfolding fitFrom sumOpen
-fit-told spare lists k a p [] t = (omega (arith, eqb-true a k t), λ q z e. absurd (Option·none-ne-some (record { away = 0; segment = zone z }) e))
+fit-told spare lists k a p [] t = (omega (arith, eqb-true a k t), λ q z e. none-some e)
 fit-told spare lists k a p (x ∷ r) t =
     let f = and-left (segmentFits spare lists p x) (fitFrom spare lists k (a + isOpen x) (p + pages x) r) t in
     let g = fit-told spare lists k (a + isOpen x) (p + pages x) r (and-right (segmentFits spare lists p x) (fitFrom spare lists k (a + isOpen x) (p + pages x) r) t) in (

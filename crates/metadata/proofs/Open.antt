@@ -1,20 +1,21 @@
 -- The zones that have a chunk not live, by start page. Assumes nothing.
-use Prim.Native.Nat.{ℕ, zero, suc, _+_, _-_, _*_, _≤_, _<_}
-use mathlib.Core.Path.{_≡_, refl, sym, ap, _∙_, subst}
+use Prim.Native.Nat.{ℕ, _+_, _-_, _*_, _≤_}
+use mathlib.Core.Path.{_≡_, refl, ap, _∙_}
 use mathlib.Core.Logic.{_⊎_, inl, inr}
-use mathlib.Core.List.{List, [], _∷_, _++_, List·Memᴰ, List·Memᴰ·not-nil, List·Memᴰ·head, List·Memᴰ·tail, List·Memᴰ·cases-cons}
-use mathlib.Core.Option.{Option, none, some, Option·none-ne-some}
-use mathlib.Core.Bool.{Bool, true, false, cond, _&&_}
+use mathlib.Core.List.{List, [], _∷_, List·Memᴰ, List·Memᴰ·not-nil, List·Memᴰ·head, List·Memᴰ·tail, List·Memᴰ·cases-cons}
+use mathlib.Core.Option.{some}
+use mathlib.Core.Bool.{Bool, true, false}
 use native.Mathlib.Omega.{arith}
-use lib.Dec.{ltb, eqb}
-use lib.ListN.{length, getD}
-use borrow.Author.Tests.{ltb-true, ltb-false, lt-ltb, le-ltb}
+use lib.Dec.{ltb}
+use lib.ListN.{length}
+use borrow.Author.Tests.{ltb-false, lt-ltb, le-ltb}
 use Rattle.lemmas.specs.Times.{Distinct}
-use Rattle.lemmas.proofs.Cases.{bool, true-false, some-inj}
+use Rattle.lemmas.proofs.Cases.{bool, some-inj, clash, none-some}
 use Rattle.model.specs.Numbers.{zonePages}
-use Rattle.model.specs.Arena.{Segment, run, direct, zone, pages, bytes, total, Place, locate, Each}
+use Rattle.model.specs.Arena.{Segment, run, direct, zone, pages, bytes, total, Place, locate}
 use Rattle.model.specs.Zone.{Zone, full}
-use Rattle.model.specs.State.{Begins, ZoneAt}
+use Rattle.model.specs.State.{ZoneAt}
+use Rattle.model.proofs.Arena.{same-segment}
 use Rattle.metadata.specs.Lists.{isOpen}
 
 -- A page in front, where the zone is not full.
@@ -77,12 +78,12 @@ open-zone p (zone z ∷ r) q i = bool (full z)
 
 zone-open : (p : ℕ) (m : List (Segment Zone)) (q : ℕ) (z : Zone) → p ≤ q → locate ((q - p) * 4096) m ≡ some (record { away = 0; segment = zone z }) → full z ≡ false → List·Memᴰ q (openFrom p m)
 unfolding openFrom putOpen
-zone-open p [] q z h e f = absurd (Option·none-ne-some (record { away = 0; segment = zone z }) e)
+zone-open p [] q z h e f = none-some e
 zone-open p (run n ∷ r) q z h e f = bool (ltb ((q - p) * 4096) (n * 4096))
-    (λ t. absurd (let u : run n ≡ zone z = ap (λ a. a .segment) (some-inj (rw t at e)) in let w : _≡_ {A = ℕ} 0 1 = cc in omega arith))
+    (λ t. let u : run n ≡ zone z = same-segment (rw t at e) in clash (cc))
     (λ t. zone-open (p + n) r q z (omega (arith, ltb-false ((q - p) * 4096) (n * 4096) t)) (ap (λ k. locate k r) (let g : (q - (p + n)) * 4096 ≡ (q - p) * 4096 - n * 4096 = omega (arith, ltb-false ((q - p) * 4096) (n * 4096) t) in g) ∙ rw t at e) f)
 zone-open p (direct n j ∷ r) q z h e f = bool (ltb ((q - p) * 4096) (n * 4096))
-    (λ t. absurd (let u : direct n j ≡ zone z = ap (λ a. a .segment) (some-inj (rw t at e)) in let w : _≡_ {A = ℕ} 0 1 = cc in omega arith))
+    (λ t. let u : direct n j ≡ zone z = same-segment (rw t at e) in clash (cc))
     (λ t. zone-open (p + n) r q z (omega (arith, ltb-false ((q - p) * 4096) (n * 4096) t)) (ap (λ k. locate k r) (let g : (q - (p + n)) * 4096 ≡ (q - p) * 4096 - n * 4096 = omega (arith, ltb-false ((q - p) * 4096) (n * 4096) t) in g) ∙ rw t at e) f)
 zone-open p (zone y ∷ r) q z h e f = bool (ltb ((q - p) * 4096) 32768)
     (λ t. here (some-inj (rw t at e)))

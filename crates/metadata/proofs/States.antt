@@ -3,24 +3,24 @@
 use Prim.Native.Nat.{ℕ, zero, suc, _+_, _-_, _*_, _≤_, _<_}
 use mathlib.Core.Path.{_≡_, refl, sym, ap, _∙_, subst}
 use mathlib.Core.Logic.{_↔_}
-use mathlib.Core.List.{List, [], _∷_, _++_, List·Memᴰ}
-use mathlib.Core.Option.{Option, none, some, Option·none-ne-some}
-use mathlib.Core.Bool.{Bool, true, false, cond, _&&_}
+use mathlib.Core.List.{List, [], _∷_, _++_}
+use mathlib.Core.Option.{none, some}
+use mathlib.Core.Bool.{Bool, true, false, _&&_}
 use native.Mathlib.Omega.{arith}
-use lib.Dec.{ltb, leb, eqb}
-use lib.ListN.{length, getD, take, drop, length-append, length-drop, length-take}
-use lib.Seq.{getD-take, take-add, take-take, take-at, drop-at, take-all, length-take-le, drop-append-le}
+use lib.Dec.{ltb, leb}
+use lib.ListN.{length, getD, take, drop, length-append, length-take}
+use lib.Seq.{getD-take, take-add, take-take, take-at, drop-at, take-all, length-take-le}
 use borrow.Author.Tests.{leb-true, leb-false, le-leb, ltb-true, ltb-false}
 use Rattle.lemmas.specs.Parts.{mid}
 use Rattle.lemmas.specs.Zeros.{zeros}
 use Rattle.lemmas.specs.Times.{times}
-use Rattle.lemmas.proofs.Cases.{bool, refuted, true-false, and-left, and-right, and-both}
+use Rattle.lemmas.proofs.Cases.{bool, refuted, true-false, and-left, and-right, and-both, none-some}
 use Rattle.lemmas.proofs.Times.{times-nil}
 use Rattle.lemmas.proofs.Parts.{length-mid}
 use Rattle.lemmas.proofs.Zeros.{getD-zeros, is-zeros}
 use Rattle.model.specs.Numbers.{headerWords, pageWords}
 use Rattle.model.specs.Sizes.{chunks}
-use Rattle.model.specs.Arena.{Segment, run, direct, zone, pages, total, locate, Each}
+use Rattle.model.specs.Arena.{Segment, run, direct, zone, total, Each}
 use Rattle.model.specs.Zone.{Zone, touched, full, isNil}
 use Rattle.model.specs.State.{State, ZoneAt}
 use Rattle.model.specs.PageMap.{padded, idleZone}
@@ -28,7 +28,6 @@ use Rattle.model.specs.Valid.{Apart, ValidZone, ValidSegment, Valid, returnedAt
 use Rattle.model.proofs.Sizes.{chunks-least}
 use Rattle.model.proofs.Arena.{locate-past, each-locate}
 use Rattle.model.proofs.Blocks.{allZero-getD, padded-in}
-use Rattle.header.specs.Keys.{keysOf}
 use Rattle.header.specs.Encoding.{headerEncoding, Fits, pagesIn, spareIn, listsIn, Encodes, Header, isHeader}
 use Rattle.header.proofs.Encoded.{length-header}
 use Rattle.header.proofs.Exact.{check-header, encodes-check, pages-read, spare-read, lists-read}
@@ -42,7 +41,7 @@ use Rattle.pages.proofs.AllLegal.{legal-iff}
 use Rattle.metadata.specs.Encoding.{encode, BeginsWith}
 use Rattle.metadata.specs.Lists.{listsLegal}
 use Rattle.metadata.specs.Decoding.{headerPart, pagesPart, decode, isState, stateOf}
-use Rattle.metadata.proofs.Open.{sumOpen, few-open}
+use Rattle.metadata.proofs.Open.{few-open}
 use Rattle.metadata.proofs.Lists.{Listed, lists-pass, open-count, lists-told}
 
 -- An idle zone is not full: it has chunks, and none of them is live.
@@ -77,14 +76,14 @@ all-writable b (zone z ∷ r) a h = ((omega arith, h .0), all-writable false r a
 
 -- A zone begins inside the arena.
 zone-inside : (m : List (Segment Zone)) (p : ℕ) (z : Zone) → ZoneAt m p z → p < total m
-zone-inside m p z e = bool (ltb p (total m)) (λ t. ltb-true p (total m) t) (λ t. absurd (Option·none-ne-some (record { away = 0; segment = zone z }) (sym (locate-past m (p * 4096) (omega (arith, ltb-false p (total m) t))) ∙ e)))
+zone-inside m p z e = bool (ltb p (total m)) (λ t. ltb-true p (total m) t) (λ t. none-some (sym (locate-past m (p * 4096) (omega (arith, ltb-false p (total m) t))) ∙ e))
 
 -- The lists of a valid state.
 lists-of : (s : State) → Valid s → Listed (s .segments) (s .lists) (s .spare)
 lists-of s v = record { listed = v .listed; complete = v .complete; spared = v .spared; once = v .once; once-spare = v .once-spare; not-both = v .not-both }
 
 idle-open : (s : State) → Valid s → (z : Zone) → idleZone z ≡ true → (p : ℕ) → ZoneAt (s .segments) p z → full z ≡ false
-idle-open s v z t p e = idle-not-full z (each-locate ValidSegment (s .segments) (p * 4096) (record { away = 0; segment = zone z }) (v .sound) e) t
+idle-open s v z t p e = idle-not-full z (each-locate ValidSegment (s .segments) (p * 4096) (v .sound) e) t
 
 pub valid-fits : (s : State) → Valid s → Fits (total (s .segments)) (s .spare) (s .lists)
 valid-fits s v = record {
@@ -152,13 +151,10 @@ pub record Read (w : List ℕ) : Type 0 where
   pub segments : Holds (pagesPart w) (pagesIn (headerPart w))
   pub apart : Apart false (segmentsOf (pagesPart w))
 
-part-long : (w : List ℕ) (a k : ℕ) → a + k ≤ length w → length (mid a k w) ≡ k
-part-long w a k h = length-mid a k w h
-
 read-of : (w : List ℕ) → Passed w → Read w
 read-of w p =
     let H = check-header (headerPart w) (p .header) in
-    let S = legal-iff (pagesIn (headerPart w)) (pagesPart w) (part-long w headerWords (pageWords * pagesIn (headerPart w)) (p .long)) (H .fits .most) .0 (p .segments) in
+    let S = legal-iff (pagesIn (headerPart w)) (pagesPart w) (length-mid headerWords (pageWords * pagesIn (headerPart w)) w (p .long)) (H .fits .most) .0 (p .segments) in
     record { header = H; long = p .long; segments = S .0; apart = S .1 }
 
 pub state-read : (w : List ℕ) → isState w ≡ true → Read w
@@ -205,7 +201,7 @@ state-pages w t = state-read w t .segments .covers
 pub state-begins : (w : List ℕ) → isState w ≡ true → BeginsWith w (decode w)
 state-begins w t =
     let r = state-read w t in
-    subst (λ e. take (length e) w ≡ e) (sym (encoding-read w r)) (begins-both w (headerPart w) (pagesPart w) headerWords (pageWords * pagesIn (headerPart w)) (front-long w headerWords (pageWords * pagesIn (headerPart w)) (r .long)) (part-long w headerWords (pageWords * pagesIn (headerPart w)) (r .long)) refl refl)
+    subst (λ e. take (length e) w ≡ e) (sym (encoding-read w r)) (begins-both w (headerPart w) (pagesPart w) headerWords (pageWords * pagesIn (headerPart w)) (front-long w headerWords (pageWords * pagesIn (headerPart w)) (r .long)) (length-mid headerWords (pageWords * pagesIn (headerPart w)) w (r .long)) refl refl)
 
 -- The encoding of a valid state passes, and decodes to it -----------------------------------------------------------------------------
 

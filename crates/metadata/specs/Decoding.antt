@@ -1,10 +1,10 @@
 -- The state that words encode. `isState` tests any words, and `state-iff` says that it is exact; `decode` tests nothing. Assumes nothing.
-use Prim.Native.Nat.{ℕ, _+_, _*_}
-use mathlib.Core.Bool.{Bool, true, false, cond, _&&_}
+use Prim.Native.Nat.{ℕ, _*_}
+use mathlib.Core.Bool.{Bool, cond, _&&_}
 use mathlib.Core.List.{List}
 use mathlib.Core.Option.{Option, none, some}
 use lib.Dec.{leb}
-use lib.ListN.{length, getD, take}
+use lib.ListN.{length, take}
 use Rattle.lemmas.specs.Parts.{mid}
 use Rattle.model.specs.Numbers.{headerWords, pageWords}
 use Rattle.model.specs.State.{State}

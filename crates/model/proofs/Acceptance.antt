@@ -8,16 +8,15 @@ use mathlib.Core.Option.{Option, none, some}
 use mathlib.Core.Bool.{cond}
 use lib.Dec.{ltb}
 use Rattle.model.specs.Numbers.{largeSize}
-use Rattle.model.specs.declared.Call.{Call}
 use Rattle.model.specs.declared.Operation.the-variants.{Allocate, Free, Reset}
-use Rattle.model.specs.declared.Refusal.the-variants.{BadPages, FewWords, NoState, BadGroup, BadSize, NoRoom, NoBlock, OtherGroup, ShortBuffer}
+use Rattle.model.specs.declared.Refusal.the-variants.{NoRoom, OtherGroup}
 use Rattle.model.specs.declared.Answer.{Answer}
 use Rattle.model.specs.declared.Answer.the-variants.{Granted, Refused, Done, Counted, Block}
 use Rattle.model.specs.Sizes.{step, rounded, classOf, room, chunksOf, chunks, pagesFor}
 use Rattle.model.specs.State.{State, listOf}
 use Rattle.model.specs.PageMap.{pageMap}
 use Rattle.model.specs.Pages.{claim}
-use Rattle.model.specs.Calls.{Action, group, trim, query, listing, Command, init, act}
+use Rattle.model.specs.Calls.{group, trim, query, Command, init, act}
 use Rattle.model.specs.Ascii.{ascii}
 use Rattle.model.specs.Text.{digits, decimal, line, lines}
 use Rattle.model.specs.Listing.{section, listingText}

@@ -1,14 +1,14 @@
 -- Where blocks begin: at a multiple of every number that divides both a page's bytes and the block's room. So every offset that is
 -- granted is a multiple of 8, of the step of its size, and from 8,192 bytes up of a page's bytes. Assumes nothing.
-use Prim.Native.Nat.{ℕ, zero, suc, _+_, _-_, _*_, _/_, _%_, _≤_, _<_, _∣_}
-use mathlib.Core.Path.{_≡_, refl, sym, _∙_, ap, subst}
+use Prim.Native.Nat.{ℕ, zero, suc, _-_, _*_, _%_, _≤_, _<_, _∣_}
+use mathlib.Core.Path.{_≡_, refl}
 use mathlib.Core.List.{[], _∷_}
-use mathlib.Core.Option.{some, Option·none-ne-some}
+use mathlib.Core.Option.{some}
 use native.Mathlib.Omega.{arith}
 use native.Mathlib.Nat.{mul-mod-left, mod-self, dvd-zero, dvd-mul-left-of-dvd, dvd-sub-iff-left, mod-eq-zero-of-dvd, dvd-of-mod-eq-zero}
 use lib.Dec.{ltb}
 use borrow.Author.Tests.{ltb-false, lt-ltb, le-ltb}
-use Rattle.lemmas.proofs.Cases.{bool, either}
+use Rattle.lemmas.proofs.Cases.{bool, either, clash, none-some}
 use Rattle.model.specs.Numbers.{pageBytes, largeSize}
 use Rattle.model.specs.declared.Answer.the-variants.{Granted}
 use Rattle.model.specs.Sizes.{step, rounded, classOf, room, pagesFor, roomFor}
@@ -25,14 +25,14 @@ use Rattle.model.proofs.Allocated.{Allocated, gives, denies, allocated}
 
 module _ (d : ℕ) (page : d ∣ pageBytes) where
   segment-divides : (x : Segment Occupancy) (o : ℕ) (b : Block) → blockIn o x ≡ some b → d ∣ roomOf b → d ∣ o
-  segment-divides x o (whole n g) e h = subst (λ k. d ∣ k) (sym (whole-there n g o x e .1)) (dvd-zero d)
-  segment-divides x o (chunk c i g) e h = subst (λ k. d ∣ k) (sym (chunk-there c i g o x e .at)) (dvd-mul-left-of-dvd d h i)
+  segment-divides x o (whole n g) e h = rw (whole-there n g o x e .1) (dvd-zero d)
+  segment-divides x o (chunk c i g) e h = rw (chunk-there c i g o x e .at) (dvd-mul-left-of-dvd d h i)
 
   map-divides : (m : PageMap) (o : ℕ) (b : Block) → blockAt m o ≡ some b → d ∣ roomOf b → d ∣ o
-  map-divides [] o b e h = absurd (Option·none-ne-some b e)
+  map-divides [] o b e h = none-some e
   map-divides (x ∷ r) o b e h = bool (ltb o (bytes x))
       (λ t. segment-divides x o b (rw t at e) h)
-      (λ t. (dvd-sub-iff-left d (ltb-false o (bytes x) t) (dvd-mul-left-of-dvd d page (pages x))) .0 (map-divides r (o - bytes x) b (rw t at e) h))
+      (λ t. (dvd-sub-iff-left d (ltb-false o (bytes x) t) (dvd-mul-left-of-dvd d page (pages x))) .0 (map-divides r _ b (rw t at e) h))
 
 -- A live block begins at a multiple of every number that divides a page's bytes and the block's room.
 pub block-aligned : (m : PageMap) (o : ℕ) (b : Block) → blockAt m o ≡ some b → (d : ℕ) → pageBytes % d ≡ 0 → roomOf b % d ≡ 0 → o % d ≡ 0
@@ -54,7 +54,7 @@ pub record Aligned (n o : ℕ) : Type 0 where
 -- The room is a multiple of 8; of a chunk's step, too, and a page's bytes are of every step.
 room-eights : (n : ℕ) → roomFor n % 8 ≡ 0
 room-eights n = either (λ k. k % 8 ≡ 0) (ltb n largeSize) (room (classOf n)) (pagesFor n * pageBytes)
-    (λ t. room-rows (λ k. k % 8 ≡ 0) (classOf n) (λ l. omega arith) (λ l u. omega arith) (λ l u. omega arith) (λ l u. omega arith) (λ l u. omega arith) (λ l u. omega arith) (λ l. omega arith))
+    (λ t. room-rows (λ k. k % 8 ≡ 0) (classOf n) (omega arith))
     (λ t. omega arith)
 
 page-steps : (n : ℕ) → pageBytes % step n ≡ 0
@@ -62,12 +62,12 @@ page-steps n = step-rows (λ k. pageBytes % k ≡ 0) n refl refl refl refl refl 
 
 rounded-steps : (n : ℕ) → rounded n % step n ≡ 0
 unfolding rounded
-rounded-steps n = mul-mod-left ((n + (step n - 1)) / step n) (step n)
+rounded-steps n = mul-mod-left _ (step n)
 
 class-steps : (n : ℕ) → n < largeSize → room (classOf n) % step n ≡ 0
 unfolding step rounded classOf room
 class-steps zero h = refl
-class-steps (suc n) h = ap (λ k. k % step (suc n)) (classed (suc n) (omega arith) h .room-class) ∙ rounded-steps (suc n)
+class-steps (suc n) h = cc (classed (suc n) (omega arith) h .room-class, rounded-steps (suc n))
 
 room-steps : (n : ℕ) → n < largeSize → roomFor n % step n ≡ 0
 room-steps n h = rw (lt-ltb n largeSize h) (class-steps n h)
@@ -78,7 +78,7 @@ aligned n o f = record {
   by-room = λ h. f (roomFor n) h (mod-self (roomFor n));
   by-eight = f 8 refl (room-eights n);
   by-step = λ h. f (step n) (page-steps n) (room-steps n h);
-  by-page = λ h. f pageBytes refl (rw (le-ltb n largeSize h) (mul-mod-left (pagesFor n) pageBytes));
+  by-page = λ h. f pageBytes refl (rw (le-ltb n largeSize h) (mul-mod-left _ pageBytes));
 }
 
 -- A grant on a valid state is aligned: the block that it makes live begins there, with that room.
@@ -88,5 +88,5 @@ grant-aligned s v g n o e = aligned n o (go (allocated s v g n))
     go : Allocated s g (roomFor n) (allocate g n s) → (d : ℕ) → pageBytes % d ≡ 0 → roomFor n % d ≡ 0 → o % d ≡ 0
     go (gives q b a _ _ r only) d p h =
         let same : q ≡ o = cc in
-        block-aligned (pageMap ((allocate g n s) .after)) o b (ap (blockAt (pageMap ((allocate g n s) .after))) (sym same) ∙ only .0) d p (ap (λ k. k % d) r ∙ h)
-    go (denies k a _) d p h = absurd (let z : _≡_ {A = ℕ} 0 1 = cc in omega arith)
+        block-aligned (pageMap ((allocate g n s) .after)) o b (cc) d p (cc)
+    go (denies k a _) d p h = clash (cc)

@@ -1,36 +1,35 @@
 -- What an allocation does to the live blocks: it makes one block, of the group and with the room asked for, at the offset granted,
 -- where none was, and leaves all others; or it is refused and leaves the state. Assumes nothing.
-use Prim.Native.Nat.{ℕ, zero, suc, _+_, _-_, _*_, _≤_, _<_}
-use mathlib.Core.Path.{_≡_, refl, sym, _∙_, ap, subst}
-use mathlib.Core.List.{List, [], _∷_, map, List·Memᴰ, List·Memᴰ·head}
+use Prim.Native.Nat.{ℕ, zero, suc, _-_, _*_, _≤_, _<_}
+use mathlib.Core.Path.{_≡_, refl, _∙_, ap}
+use mathlib.Core.List.{List, [], _∷_, map, List·Memᴰ·head}
 use mathlib.Core.Option.{Option, none, some}
-use mathlib.Core.Bool.{Bool, true, false, cond, _&&_}
+use mathlib.Core.Bool.{true}
 use native.Mathlib.Omega.{arith}
 use native.Mathlib.Nat.{zero-mul}
-use lib.Dec.{ltb, leb, eqb}
-use lib.ListN.{length, getD, set}
+use lib.Dec.{ltb, leb}
+use lib.ListN.{getD}
 use borrow.Author.Tests.{ltb-true, ltb-false, leb-true, ne-eqb}
-use Rattle.lemmas.proofs.Cases.{bool, either, and-left, and-right}
-use Rattle.model.specs.Numbers.{mostGroup, classCount, mostBytes}
+use Rattle.lemmas.proofs.Cases.{bool, and-left, and-right}
+use Rattle.model.specs.Numbers.{mostGroup, classCount}
 use Rattle.model.specs.declared.Refusal.{Refusal}
 use Rattle.model.specs.declared.Refusal.the-variants.{BadGroup, BadSize, NoRoom}
-use Rattle.model.specs.declared.Answer.{Answer}
 use Rattle.model.specs.declared.Answer.the-variants.{Granted, Refused}
 use Rattle.model.specs.Sizes.{room, classOf, chunks, pagesFor, roomFor}
-use Rattle.model.specs.Arena.{Segment, run, direct, zone, pages, bytes, total, retold, Place, locate, edit, Each}
-use Rattle.model.specs.Zone.{Zone, newZone, full, nextChunk, granted}
-use Rattle.model.specs.State.{State, listOf, arranged, Begins, ZoneAt, zoneIn, zoneAt, putZone}
-use Rattle.model.specs.PageMap.{Occupancy, padded, occupancy, PageMap, pageMap, allZero, idleZone, Block, whole, chunk, groupOf, roomOf, chunkOf, blockIn, blockAt}
-use Rattle.model.specs.Valid.{ValidZone, ValidSegment, OpenAt, IdleAt, Valid}
-use Rattle.model.specs.Pages.{FreeRun, claim, carve}
-use Rattle.model.specs.Calls.{Outcome, answers, refuses, provided, groupOk, sizeOk}
-use Rattle.model.specs.Allocate.{directFrom, opened, zoneFrom, fromSpare, served, chunkFrom, supplied, allocate}
-use Rattle.model.proofs.Sizes.{room-pos, chunk-begins, chunks-least, Classed, classed}
-use Rattle.model.proofs.Arena.{locate-retold, retoldPlace, edit-retold, each-locate}
+use Rattle.model.specs.Arena.{Segment, direct, zone, retold}
+use Rattle.model.specs.Zone.{Zone, newZone, nextChunk, granted}
+use Rattle.model.specs.State.{State, listOf, Begins, ZoneAt}
+use Rattle.model.specs.PageMap.{padded, occupancy, pageMap, Block, whole, chunk, groupOf, roomOf, chunkOf, blockIn, blockAt}
+use Rattle.model.specs.Valid.{ValidZone, ValidSegment, Valid}
+use Rattle.model.specs.Pages.{FreeRun, claim}
+use Rattle.model.specs.Calls.{Outcome, groupOk, sizeOk}
+use Rattle.model.specs.Allocate.{directFrom, zoneFrom, fromSpare, served, chunkFrom, allocate}
+use Rattle.model.proofs.Sizes.{chunk-begins, chunks-least, classed}
+use Rattle.model.proofs.Arena.{locate-retold, edit-retold, each-locate}
 use Rattle.model.proofs.Claim.{claim-retold}
 use Rattle.model.proofs.Joins.{carve-retold}
 use Rattle.model.proofs.Zones.{Grants, grants}
-use Rattle.model.proofs.Blocks.{idle-blockIn, Only, put-only, carve-only, blockIn-at, blockIn-other, padded-in, padded-other, chunk-only}
+use Rattle.model.proofs.Blocks.{idle-blockIn, Only, put-only, carve-only, blockIn-at, blockIn-other, padded-in, padded-other, chunk-only, live-chunk, allZero-padded}
 use Rattle.model.proofs.Released.{put-fresh, carve-fresh, chunk-fresh}
 
 -- A block of the group and room at the offset granted, or a refusal that leaves the state.
@@ -40,86 +39,77 @@ pub data Allocated (s : State) (g r : ℕ) (R : Outcome State) : Type 0 where
 
 -- A group that may call.
 pub group-least : (g : ℕ) → groupOk g ≡ true → 0 < g
-group-least g t = leb-true 1 g (and-left (leb 1 g) (leb g mostGroup) t)
+group-least g t = leb-true 1 g (and-left (leb 1 g) _ t)
 
 pub group-most : (g : ℕ) → groupOk g ≡ true → g ≤ mostGroup
-group-most g t = leb-true g mostGroup (and-right (leb 1 g) (leb g mostGroup) t)
+group-most g t = leb-true g mostGroup (and-right (leb 1 g) _ t)
 
 pub size-least : (n : ℕ) → sizeOk n ≡ true → 0 < n
-size-least n t = leb-true 1 n (and-left (leb 1 n) (leb n mostBytes) t)
-
--- A chunk that has a group is a block.
-pub live-chunk : (c i g : ℕ) → 0 < g → chunkOf c i g ≡ some (chunk c i g)
-live-chunk c i zero h = absurd (omega arith)
-live-chunk c i (suc g) h = refl
-
-allZero-padded : (n : ℕ) → allZero (padded n []) ≡ true
-allZero-padded zero = refl
-allZero-padded (suc n) = allZero-padded n
+size-least n t = leb-true 1 n (and-left (leb 1 n) _ t)
 
 -- A zone just set up holds one block, its chunk 0.
 new-first : (c g : ℕ) → c < classCount → 0 < g → blockIn 0 (zone (occupancy (newZone c g))) ≡ some (chunk c 0 g)
-new-first c g h p = ap (λ k. blockIn k (zone (occupancy (newZone c g)))) (sym (zero-mul (room c))) ∙ blockIn-at c 0 (padded (chunks c) (g ∷ [])) ∙ ap (chunkOf c 0) (padded-in (chunks c) (g ∷ []) 0 (omega (arith, chunks-least c h))) ∙ live-chunk c 0 g p
+new-first c g h p = cc (zero-mul (room c), blockIn-at c 0 (padded (chunks c) (g ∷ [])), padded-in (chunks c) (g ∷ []) 0 (omega (arith, chunks-least c h)), live-chunk c 0 g p)
 
 one-owner : (g j : ℕ) → (j ≡ 0 → ⊥) → getD (g ∷ []) j 0 ≡ getD [] j 0
 one-owner g zero h = absurd (h refl)
 one-owner g (suc j) h = refl
 
 new-alone : (c g d : ℕ) → (d ≡ 0 → ⊥) → blockIn d (zone (occupancy (newZone c g))) ≡ none
-new-alone c g d h = blockIn-other c 0 (padded (chunks c) []) (padded (chunks c) (g ∷ [])) (padded-other (chunks c) [] (g ∷ []) 0 (one-owner g)) d (λ z. h (omega (arith, z, zero-mul (room c)))) ∙ idle-blockIn d (record { class = c; groups = padded (chunks c) [] }) (allZero-padded (chunks c))
+new-alone c g d h = blockIn-other c 0 (padded (chunks c) []) (padded (chunks c) (g ∷ [])) (padded-other (chunks c) [] (g ∷ []) 0 (one-owner g)) d (λ z. h (omega arith)) ∙ idle-blockIn d (record { class = c; groups = padded (chunks c) [] }) (allZero-padded (chunks c))
 
 direct-alone : (n g d : ℕ) → (d ≡ 0 → ⊥) → blockIn d (direct n g) ≡ none
 direct-alone n g d h = rw (ne-eqb d 0 h)
 
 -- What is listed or spared at a page stands there in the page map.
 shown-at : (m : List (Segment Zone)) (p : ℕ) (z : Zone) → ZoneAt m p z → Begins (p * 4096) (map (retold occupancy) m) (zone (occupancy z))
-shown-at m p z e = locate-retold occupancy (p * 4096) m ∙ ap (retoldPlace occupancy) e
+shown-at m p z e = cc (locate-retold occupancy (p * 4096) m)
 
 -- A zone of the class, shown by its owners.
 shown-zone : (c : ℕ) (z : Zone) → z .class ≡ c → occupancy z ≡ record { class = c; groups = padded (chunks c) (z .owners) }
-shown-zone c z e = ap (λ k. record { class = k; groups = padded (chunks k) (z .owners) }) e
+shown-zone c z e = cc
 
 module _ (s : State) where
   direct-law : (n g : ℕ) → 0 < n → (h : Option FreeRun) → claim n (s .segments) ≡ h → Allocated s g (n * 4096) (directFrom n g s h)
   direct-law n g p none e = denies NoRoom refl refl
   direct-law n g p (some h) e =
-      let found = claim-retold occupancy n (s .segments) ∙ e in
-      gives (h .page * 4096) (whole n g) refl (carve-fresh (pageMap s) h n p found) refl refl
-      (rw (carve-retold occupancy h n (direct n g) (s .segments)) (carve-only (pageMap s) h n (direct n g) p found refl (direct-alone n g)))
+      let found = claim-retold occupancy n _ ∙ e in
+      gives _ (whole n g) refl (carve-fresh (pageMap s) h n p found) refl refl
+      (rw (carve-retold occupancy h n _ _) (carve-only (pageMap s) h n _ p found refl (direct-alone n g)))
 
   module _ (c g : ℕ) (class : c < classCount) (least : 0 < g) where
     zone-law : (h : Option FreeRun) → claim 8 (s .segments) ≡ h → Allocated s g (room c) (zoneFrom c g s h)
     zone-law none e = denies NoRoom refl refl
     zone-law (some h) e =
-        let found = claim-retold occupancy 8 (s .segments) ∙ e in
-        gives (h .page * 4096) (chunk c 0 g) refl (carve-fresh (pageMap s) h 8 (omega arith) found) refl refl
-        (rw (carve-retold occupancy h 8 (zone (newZone c g)) (s .segments), ← new-first c g class least) (carve-only (pageMap s) h 8 (zone (occupancy (newZone c g))) (omega arith) found refl (new-alone c g)))
+        let found = claim-retold occupancy 8 _ ∙ e in
+        gives _ (chunk c 0 g) refl (carve-fresh (pageMap s) h 8 (omega arith) found) refl refl
+        (rw (carve-retold occupancy h 8 _ _, ← new-first c g class least) (carve-only (pageMap s) h 8 _ (omega arith) found refl (new-alone c g)))
 
     spare-law : Valid s → (l : List ℕ) → s .spare ≡ l → Allocated s g (room c) (fromSpare c g s l)
     spare-law v [] e = zone-law (claim 8 (s .segments)) refl
     spare-law v (q ∷ qs) e =
-        let f = v .spared q (subst (List·Memᴰ q) (sym e) (List·Memᴰ·head refl)) in
+        let f = v .spared q (rw e (List·Memᴰ·head refl)) in
         let there = shown-at (s .segments) q (f .0) (f .1) in
-        gives (q * 4096) (chunk c 0 g) refl (put-fresh (q * 4096) (pageMap s) (zone (occupancy (f .0))) there (λ d. idle-blockIn d (occupancy (f .0)) (f .2))) refl refl
-        (rw (edit-retold occupancy (q * 4096) (λ _. zone (newZone c g) ∷ []) (λ _. zone (occupancy (newZone c g)) ∷ []) (λ _. refl) (s .segments), ← new-first c g class least)
-        (put-only (q * 4096) (pageMap s) (zone (occupancy (f .0))) (zone (occupancy (newZone c g))) 0 there refl (omega arith) (λ d. idle-blockIn d (occupancy (f .0)) (f .2)) (new-alone c g)))
+        gives (q * 4096) (chunk c 0 g) refl (put-fresh (q * 4096) (pageMap s) _ there (λ d. idle-blockIn d (occupancy (f .0)) (f .2))) refl refl
+        (rw (edit-retold occupancy (q * 4096) (λ _. zone (newZone c g) ∷ []) (λ _. zone (occupancy (newZone c g)) ∷ []) (λ _. refl) _, ← new-first c g class least)
+        (put-only (q * 4096) (pageMap s) _ _ 0 there refl (omega arith) (λ d. idle-blockIn d (occupancy (f .0)) (f .2)) (new-alone c g)))
 
     served-law : (p : ℕ) (ps : List ℕ) (z : Zone) → ZoneAt (s .segments) p z → z .class ≡ c → Grants g (nextChunk z) z (granted g z) → Allocated s g (room c) (served c g p ps s z)
     served-law p ps z e k G =
         let i = nextChunk z in
         let z′ = granted g z in
-        let inside : i < chunks c = omega (arith, G .inside, ap chunks k) in
+        let inside : i < chunks c = omega (arith, ap chunks k) in
         let there : Begins (p * 4096) (pageMap s) (zone (record { class = c; groups = padded (chunks c) (z .owners) })) = shown-at (s .segments) p z e ∙ ap (λ y. some (record { away = 0; segment = zone y })) (shown-zone c z k) in
-        let new : chunkOf c i (getD (padded (chunks c) (z′ .owners)) i 0) ≡ some (chunk c i g) = ap (chunkOf c i) (padded-in (chunks c) (z′ .owners) i inside ∙ G .is-owned) ∙ live-chunk c i g least in
-        gives (p * 4096 + i * room c) (chunk c i g) refl (chunk-fresh (p * 4096) (pageMap s) c i (padded (chunks c) (z .owners)) there (chunk-begins c i inside) (padded-in (chunks c) (z .owners) i inside ∙ G .was-free)) refl refl
-        (rw (edit-retold occupancy (p * 4096) (λ _. zone z′ ∷ []) (λ _. zone (occupancy z′) ∷ []) (λ _. refl) (s .segments), ← new)
-        (chunk-only (p * 4096) (λ _. zone (occupancy z′) ∷ []) (pageMap s) 0 c i (padded (chunks c) (z .owners)) (padded (chunks c) (z′ .owners)) there (ap (λ y. zone y ∷ []) (shown-zone c z′ (G .same-class ∙ k))) (chunk-begins c i inside) (padded-other (chunks c) (z .owners) (z′ .owners) i (G .others)) (p * 4096) (omega arith)))
+        let new : chunkOf c i (getD (padded (chunks c) (z′ .owners)) i 0) ≡ some (chunk c i g) = cc (padded-in (chunks c) _ i inside, live-chunk c i g least) in
+        gives _ (chunk c i g) refl (chunk-fresh (p * 4096) (pageMap s) c i _ there (chunk-begins c i inside) (cc (padded-in (chunks c) (z .owners) i inside))) refl refl
+        (rw (edit-retold occupancy (p * 4096) (λ _. zone z′ ∷ []) (λ _. zone (occupancy z′) ∷ []) (λ _. refl) _, ← new)
+        (chunk-only (p * 4096) (λ _. zone (occupancy z′) ∷ []) (pageMap s) 0 c i _ _ there (ap (λ y. zone y ∷ []) (shown-zone c z′ (G .same-class ∙ k))) (chunk-begins c i inside) (padded-other (chunks c) (z .owners) _ i (G .others)) (p * 4096) (omega arith)))
 
     chunk-law : Valid s → g ≤ mostGroup → (l : List ℕ) → listOf s c ≡ l → Allocated s g (room c) (chunkFrom c g s l)
     chunk-law v most [] e = spare-law v (s .spare) refl
     chunk-law v most (p ∷ ps) e =
-        let f = v .listed c p (subst (List·Memᴰ p) (sym e) (List·Memᴰ·head refl)) in
-        let ok : ValidZone (f .0) = each-locate ValidSegment (s .segments) (p * 4096) (record { away = 0; segment = zone (f .0) }) (v .sound) (f .1) in
+        let f = v .listed c p (rw e (List·Memᴰ·head refl)) in
+        let ok : ValidZone (f .0) = each-locate ValidSegment (s .segments) (p * 4096) (v .sound) (f .1) in
         rw (f .1) (served-law p ps (f .0) (f .1) (f .2) (grants g least most (f .0) ok (f .3)))
 
   pub allocated : Valid s → (g n : ℕ) → Allocated s g (roomFor n) (allocate g n s)
@@ -127,6 +117,6 @@ module _ (s : State) where
       (λ t. rw t (bool (sizeOk n)
       (λ u. rw u (bool (ltb n 8192)
       (λ w. rw w (chunk-law (classOf n) g (classed n (size-least n u) (ltb-true n 8192 w) .below) (group-least g t) v (group-most g t) (listOf s (classOf n)) refl))
-      (λ w. rw w (direct-law (pagesFor n) g (omega (arith, ltb-false n 8192 w)) (claim (pagesFor n) (s .segments)) refl))))
+      (λ w. rw w (direct-law _ g (omega (arith, ltb-false)) (claim (pagesFor n) (s .segments)) refl))))
       (λ u. rw u (denies BadSize refl refl))))
       (λ t. rw t (denies BadGroup refl refl))

@@ -1,15 +1,15 @@
 -- Laws of segments in page order, over any kind of zone: where a byte lies, what an edit changes, and that neither depends on
 -- what is told of a zone. Assumes nothing.
-use Prim.Native.Nat.{ℕ, zero, suc, _+_, _-_, _*_, _≤_, _<_}
-use mathlib.Core.Path.{_≡_, refl, sym, _∙_, ap, subst}
+use Prim.Native.Nat.{ℕ, _+_, _-_, _*_, _≤_, _<_}
+use mathlib.Core.Path.{_≡_, refl, sym, _∙_, ap}
 use mathlib.Core.Logic.{_⊎_, inl, inr}
 use mathlib.Core.List.{List, [], _∷_, _++_, map, map-append}
-use mathlib.Core.Option.{Option, none, some, Option·none-ne-some}
-use mathlib.Core.Bool.{Bool, true, false, cond}
+use mathlib.Core.Option.{Option, none, some}
+use mathlib.Core.Bool.{true, false}
 use native.Mathlib.Omega.{arith}
 use lib.Dec.{ltb}
 use borrow.Author.Tests.{ltb-true, ltb-false, lt-ltb, le-ltb}
-use Rattle.lemmas.proofs.Cases.{bool, some-inj}
+use Rattle.lemmas.proofs.Cases.{bool, by-lt, some-inj, none-some}
 use Rattle.model.specs.Arena.{Segment, run, direct, zone, pages, bytes, total, retold, Place, locate, edit, Each}
 use Rattle.model.specs.State.{Begins}
 
@@ -20,7 +20,11 @@ pub data Part (A Y o : ℕ) : Type 0 where
   high : (d : ℕ) → o ≡ A + (Y + d) → Part A Y o
 
 pub part : (A Y o : ℕ) → Part A Y o
-part A Y o = bool (ltb o A) (λ t. low (ltb-true o A t)) (λ t. bool (ltb o (A + Y)) (λ u. middle (o - A) (omega (arith, ltb-false o A t)) (omega (arith, ltb-false o A t, ltb-true o (A + Y) u))) (λ u. high (o - (A + Y)) (omega (arith, ltb-false o (A + Y) u))))
+part A Y o = by-lt o A low λ h. by-lt o (A + Y) (λ k. middle (o - A) (omega arith) (omega arith)) (λ k. high (o - (A + Y)) (omega arith))
+
+-- Two places that are the same hold the same segment.
+pub same-segment : {Z : Type 0} {p q : Place Z} → some p ≡ some q → p .segment ≡ q .segment
+same-segment e = cc (some-inj e)
 
 module _ {Z : Type 0} where
   pub total-append : (a b : List (Segment Z)) → total (a ++ b) ≡ total a + total b
@@ -30,7 +34,7 @@ module _ {Z : Type 0} where
   -- Where a byte of an append lies.
   pub locate-left : (a b : List (Segment Z)) (o : ℕ) → o < total a * 4096 → locate o (a ++ b) ≡ locate o a
   locate-left [] b o h = absurd (omega arith)
-  locate-left (x ∷ a) b o h = bool (ltb o (bytes x)) (λ e. rw e) (λ e. rw e (locate-left a b (o - bytes x) (omega (arith, ltb-false o (bytes x) e))))
+  locate-left (x ∷ a) b o h = bool (ltb o (bytes x)) (λ e. rw e) (λ e. rw e (locate-left a b _ (omega (arith, ltb-false))))
 
   pub locate-right : (a b : List (Segment Z)) (o : ℕ) → locate (total a * 4096 + o) (a ++ b) ≡ locate o b
   locate-right [] b o = ap (λ k. locate k b) (omega arith)
@@ -39,7 +43,7 @@ module _ {Z : Type 0} where
 
   pub locate-past : (a : List (Segment Z)) (o : ℕ) → total a * 4096 ≤ o → locate o a ≡ none
   locate-past [] o h = refl
-  locate-past (x ∷ a) o h = rw (le-ltb o (bytes x) (omega arith)) (locate-past a (o - bytes x) (omega arith))
+  locate-past (x ∷ a) o h = rw (le-ltb o (bytes x) (omega arith)) (locate-past a _ (omega arith))
 
   -- What stands at a place, and an edit there.
   pub record Split (o : ℕ) (m : List (Segment Z)) (pl : Place Z) : Type 0 where
@@ -60,83 +64,85 @@ module _ {Z : Type 0} where
     edits = λ f. rw t;
   }
 
-  split-there : (o : ℕ) (x : Segment Z) (r : List (Segment Z)) (pl : Place Z) → ltb o (bytes x) ≡ false → Split (o - bytes x) r pl → Split o (x ∷ r) pl
-  split-there o x r pl t s = record {
+  split-there : (o : ℕ) (x : Segment Z) (r : List (Segment Z)) {pl : Place Z} → ltb o (bytes x) ≡ false → Split (o - bytes x) r pl → Split o (x ∷ r) pl
+  split-there o x r t s = record {
     before = x ∷ s .before;
     behind = s .behind;
-    whole = ap (λ l. x ∷ l) (s .whole);
-    at = omega (arith, ltb-false o (bytes x) t, s .at);
+    whole = cc;
+    at = omega (arith, ltb-false);
     inside = s .inside;
-    edits = λ f. rw t (ap (λ l. x ∷ l) (s .edits f));
+    edits = λ f. rw t (cc (s .edits f));
   }
 
   -- Every place can be split so.
-  pub split : (o : ℕ) (m : List (Segment Z)) (pl : Place Z) → locate o m ≡ some pl → Split o m pl
-  split o [] pl e = absurd (Option·none-ne-some pl e)
-  split o (x ∷ r) pl e = bool (ltb o (bytes x)) (λ t. subst (Split o (x ∷ r)) (some-inj (rw t at e)) (split-here o x r t)) (λ t. split-there o x r pl t (split (o - bytes x) r pl (rw t at e)))
+  pub split : (o : ℕ) (m : List (Segment Z)) {pl : Place Z} → locate o m ≡ some pl → Split o m pl
+  split o [] e = none-some e
+  split o (x ∷ r) e = bool (ltb o (bytes x)) (λ t. rw (some-inj (rw t at e)) at (split-here o x r t)) (λ t. split-there o x r t (split _ r (rw t at e)))
 
   pub locate-mid : (a y b : List (Segment Z)) (d : ℕ) → d < total y * 4096 → locate (total a * 4096 + d) (a ++ (y ++ b)) ≡ locate d y
   locate-mid a y b d h = locate-right a (y ++ b) d ∙ locate-left y b d h
 
   pub locate-high : (a y b : List (Segment Z)) (d : ℕ) → locate (total a * 4096 + (total y * 4096 + d)) (a ++ (y ++ b)) ≡ locate d b
-  locate-high a y b d = locate-right a (y ++ b) (total y * 4096 + d) ∙ locate-right y b d
+  locate-high a y b d = locate-right a (y ++ b) _ ∙ locate-right y b d
 
   -- The middle x gives way to y of the same length. Where a view of locate agrees on x and y, it agrees on the whole.
   pub swap : {B : Type 0} (see : Option (Place Z) → B) (K : ℕ → Type 0) (a x y b : List (Segment Z)) → total y ≡ total x →
       ((d : ℕ) → d < total y * 4096 → K (total a * 4096 + d) → see (locate d y) ≡ see (locate d x)) →
       (o : ℕ) → K o → see (locate o (a ++ (y ++ b))) ≡ see (locate o (a ++ (x ++ b)))
-  swap see K a x y b e h o k = go (part (total a * 4096) (total y * 4096) o)
+  swap see K a x y b e h o k = go (part _ _ o)
     where
       go : Part (total a * 4096) (total y * 4096) o → see (locate o (a ++ (y ++ b))) ≡ see (locate o (a ++ (x ++ b)))
       go (low l) = rw (locate-left a (y ++ b) o l, locate-left a (x ++ b) o l)
       go (middle d p l) = rw (p, locate-mid a y b d l, locate-mid a x b d (omega arith)) (h d l (rw p at k))
-      go (high d p) = rw (p, locate-high a y b d) (ap see (sym (ap (λ n. locate (total a * 4096 + (n * 4096 + d)) (a ++ (x ++ b))) e ∙ locate-high a x b d)))
+      go (high d p) = rw (p, locate-high a y b d) (ap see (sym (cc (locate-high a x b d))))
 
-  -- An edit by segments of as many pages keeps the pages.
-  pub total-edit : (o : ℕ) (f : Segment Z → List (Segment Z)) (m : List (Segment Z)) (pl : Place Z) → locate o m ≡ some pl → total (f (pl .segment)) ≡ pages (pl .segment) → total (edit o f m) ≡ total m
-  total-edit o f m pl e t = go (split o m pl e)
-    where
-      go : Split o m pl → total (edit o f m) ≡ total m
-      go s = rw (s .edits f, s .whole) (omega (arith, total-append (s .before) (f (pl .segment) ++ s .behind), total-append (f (pl .segment)) (s .behind), total-append (s .before) (pl .segment ∷ s .behind)))
+  -- The segment at a place gives way to others of as many pages: there are as many pages as before, ..
+  module _ (o : ℕ) (f : Segment Z → List (Segment Z)) (m : List (Segment Z)) {pl : Place Z} (e : locate o m ≡ some pl) where
+    S : Split o m pl
+    S = split o m e
 
-  -- An edit leaves what begins elsewhere.
-  pub begins-kept : (o : ℕ) (f : Segment Z → List (Segment Z)) (m : List (Segment Z)) (pl : Place Z) → locate o m ≡ some pl → total (f (pl .segment)) ≡ pages (pl .segment) → (q : ℕ) (y : Segment Z) → Begins q m y → (q + pl .away ≡ o → ⊥) → Begins q (edit o f m) y
-  begins-kept o f m pl e t q y h ne =
-      let S = split o m pl e in
-      ap (locate q) (S .edits f) ∙ swap (λ p. p) (λ k. k ≡ q) (S .before) (pl .segment ∷ []) (f (pl .segment)) (S .behind) (omega arith)
-      (λ d l k. absurd (
-      let at : locate q m ≡ some (record { away = d; segment = pl .segment }) = ap (locate q) (S .whole) ∙ ap (λ j. locate j (S .before ++ (pl .segment ∷ S .behind))) (sym k) ∙ locate-mid (S .before) (pl .segment ∷ []) (S .behind) d (omega arith) ∙ rw (lt-ltb d (bytes (pl .segment)) (omega arith)) in
-      let z : d ≡ 0 = ap (λ p. p .away) (some-inj (sym at ∙ h)) in
-      ne (omega (arith, S .at, k, z)))) q refl
-      ∙ ap (locate q) (sym (S .whole)) ∙ h
+    pub total-edit : total (f (pl .segment)) ≡ pages (pl .segment) → total (edit o f m) ≡ total m
+    total-edit t = go S
+      where
+        go : Split o m pl → total (edit o f m) ≡ total m
+        go s = rw (s .edits f, s .whole) (simp total-append (omega arith))
 
-  -- An edit puts its first segment where the old one began.
-  pub begins-new : (o : ℕ) (f : Segment Z → List (Segment Z)) (m : List (Segment Z)) (pl : Place Z) → locate o m ≡ some pl → (q : ℕ) (x : Segment Z) (r : List (Segment Z)) → q + pl .away ≡ o → f (pl .segment) ≡ x ∷ r → 0 < pages x → Begins q (edit o f m) x
-  begins-new o f m pl e q x r a fe pos =
-      let S = split o m pl e in
-      let at : q ≡ total (S .before) * 4096 + 0 = omega (arith, S .at) in
-      ap (λ k. locate k (edit o f m)) at ∙ ap (locate (total (S .before) * 4096 + 0)) (S .edits f ∙ ap (λ y. S .before ++ (y ++ S .behind)) fe) ∙ locate-mid (S .before) (x ∷ r) (S .behind) 0 (omega arith) ∙ rw (lt-ltb 0 (bytes x) (omega arith))
+    -- .. what begins elsewhere is left, ..
+    pub begins-kept : total (f (pl .segment)) ≡ pages (pl .segment) → (q : ℕ) (y : Segment Z) → Begins q m y → (q + pl .away ≡ o → ⊥) → Begins q (edit o f m) y
+    begins-kept t q y h ne =
+        ap (locate q) (S .edits f) ∙ swap (λ p. p) (λ k. k ≡ q) (S .before) (pl .segment ∷ []) (f (pl .segment)) (S .behind) (omega arith)
+        (λ d l k. absurd (
+        let at : locate q m ≡ some (record { away = d; segment = pl .segment }) = rw (S .whole, ← k) (locate-mid (S .before) (pl .segment ∷ []) (S .behind) d (omega arith) ∙ rw (lt-ltb d (bytes (pl .segment)) (omega arith))) in
+        let z : d ≡ 0 = ap (λ p. p .away) (some-inj (sym at ∙ h)) in
+        ne (omega (arith, S .at)))) q refl
+        ∙ ap (locate q) (sym (S .whole)) ∙ h
 
-  -- What begins after an edit began before it, or is part of what the edit put in.
-  pub begins-back : (o : ℕ) (f : Segment Z → List (Segment Z)) (m : List (Segment Z)) (pl : Place Z) → locate o m ≡ some pl → total (f (pl .segment)) ≡ pages (pl .segment) → (q : ℕ) (y : Segment Z) → Begins q (edit o f m) y → Begins q m y ⊎ ((d : ℕ) × (q + pl .away ≡ o + d) × (locate d (f (pl .segment)) ≡ some (record { away = 0; segment = y })))
-  begins-back o f m pl e t q y h = go (part (total (S .before) * 4096) (total (f (pl .segment)) * 4096) q)
-    where
-      S : Split o m pl
-      S = split o m pl e
+    -- .. the first of the others begins where the old one began, ..
+    pub begins-new : (q : ℕ) (x : Segment Z) (r : List (Segment Z)) → q + pl .away ≡ o → f (pl .segment) ≡ x ∷ r → 0 < pages x → Begins q (edit o f m) x
+    begins-new q x r a fe pos =
+        let at : q ≡ total (S .before) * 4096 + 0 = omega (arith, S .at) in
+        rw (at, S .edits f, fe) (locate-mid (S .before) (x ∷ r) (S .behind) 0 (omega arith) ∙ rw (lt-ltb 0 (bytes x) (omega arith)))
 
-      h′ : locate q (S .before ++ (f (pl .segment) ++ S .behind)) ≡ some (record { away = 0; segment = y })
-      h′ = ap (locate q) (sym (S .edits f)) ∙ h
-
-      go : Part (total (S .before) * 4096) (total (f (pl .segment)) * 4096) q → Begins q m y ⊎ ((d : ℕ) × (q + pl .away ≡ o + d) × (locate d (f (pl .segment)) ≡ some (record { away = 0; segment = y })))
-      go (low l) = inl (ap (locate q) (S .whole) ∙ locate-left (S .before) (pl .segment ∷ S .behind) q l ∙ sym (locate-left (S .before) (f (pl .segment) ++ S .behind) q l) ∙ h′)
-      go (middle d u l) = inr (d, omega (arith, S .at), sym (locate-mid (S .before) (f (pl .segment)) (S .behind) d l) ∙ ap (λ k. locate k (S .before ++ (f (pl .segment) ++ S .behind))) (sym u) ∙ h′)
-      go (high d u) = inl (ap (locate q) (S .whole) ∙ ap (λ k. locate k (S .before ++ (pl .segment ∷ S .behind))) (let w : q ≡ total (S .before) * 4096 + (total (pl .segment ∷ []) * 4096 + d) = omega arith in w) ∙ locate-high (S .before) (pl .segment ∷ []) (S .behind) d ∙ sym (locate-high (S .before) (f (pl .segment)) (S .behind) d) ∙ ap (λ k. locate k (S .before ++ (f (pl .segment) ++ S .behind))) (sym u) ∙ h′)
+    -- .. and what begins afterwards began before, or is part of the others.
+    pub begins-back : total (f (pl .segment)) ≡ pages (pl .segment) → (q : ℕ) (y : Segment Z) → Begins q (edit o f m) y
+        → Begins q m y ⊎ ((d : ℕ) × (q + pl .away ≡ o + d) × (locate d (f (pl .segment)) ≡ some (record { away = 0; segment = y })))
+    begins-back t q y h = go (part _ _ q) (rw (S .edits f) at h)
+      where
+        go : Part (total (S .before) * 4096) (total (f (pl .segment)) * 4096) q → Begins q (S .before ++ (f (pl .segment) ++ S .behind)) y
+            → Begins q m y ⊎ ((d : ℕ) × (q + pl .away ≡ o + d) × (locate d (f (pl .segment)) ≡ some (record { away = 0; segment = y })))
+        go (low l) k = inl (rw (S .whole, locate-left (S .before) _ q l, ← locate-left (S .before) (f (pl .segment) ++ S .behind) q l) k)
+        go (middle d u l) k = inr (d, omega (arith, S .at), rw (← locate-mid (S .before) _ (S .behind) d l, ← u) k)
+        go (high d u) k =
+            let w : q ≡ total (S .before) * 4096 + (total (pl .segment ∷ []) * 4096 + d) = omega arith in
+            inl (rw (S .whole, w, locate-high (S .before) (pl .segment ∷ []) (S .behind) d, ← locate-high (S .before) (f (pl .segment)) (S .behind) d, ← u) k)
 
   -- Where the segment begins that holds a byte: at a page.
-  pub start-of : (m : List (Segment Z)) (o : ℕ) (pl : Place Z) → locate o m ≡ some pl → (p : ℕ) × (p * 4096 + pl .away ≡ o) × (pl .away < bytes (pl .segment)) × Begins (p * 4096) m (pl .segment)
-  start-of m o pl e =
-      let S = split o m pl e in
-      (total (S .before), sym (S .at), S .inside, ap (λ k. locate k m) (let z : total (S .before) * 4096 ≡ total (S .before) * 4096 + 0 = omega arith in z) ∙ ap (locate (total (S .before) * 4096 + 0)) (S .whole) ∙ locate-mid (S .before) (pl .segment ∷ []) (S .behind) 0 (omega (arith, S .inside)) ∙ rw (lt-ltb 0 (bytes (pl .segment)) (omega (arith, S .inside))))
+  pub start-of : (m : List (Segment Z)) (o : ℕ) {pl : Place Z} → locate o m ≡ some pl → (p : ℕ) × (p * 4096 + pl .away ≡ o) × (pl .away < bytes (pl .segment)) × Begins (p * 4096) m (pl .segment)
+  start-of m o {pl} e =
+      let S = split o m e in
+      let z : total (S .before) * 4096 ≡ total (S .before) * 4096 + 0 = omega arith in
+      let l : 0 < bytes (pl .segment) = omega arith in
+      (total (S .before), sym (S .at), S .inside, ap (locate (total (S .before) * 4096)) (S .whole) ∙ rw z (locate-mid (S .before) (pl .segment ∷ []) (S .behind) 0 (omega arith) ∙ rw (lt-ltb 0 _ l)))
 
   -- What holds of every segment.
   pub each-append : (P : Segment Z → Type 0) (a b : List (Segment Z)) → Each P a → Each P b → Each P (a ++ b)
@@ -145,17 +151,11 @@ module _ {Z : Type 0} where
 
   pub each-edit : (P : Segment Z → Type 0) (o : ℕ) (f : Segment Z → List (Segment Z)) → ((x : Segment Z) → P x → Each P (f x)) → (m : List (Segment Z)) → Each P m → Each P (edit o f m)
   each-edit P o f h [] k = tt
-  each-edit P o f h (x ∷ r) k = bool (ltb o (bytes x)) (λ t. rw t (each-append P (f x) r (h x (k .0)) (k .1))) (λ t. rw t (k .0, each-edit P (o - bytes x) f h r (k .1)))
+  each-edit P o f h (x ∷ r) k = bool (ltb o (bytes x)) (λ t. rw t (each-append P (f x) r (h x (k .0)) (k .1))) (λ t. rw t (k .0, each-edit P _ f h r (k .1)))
 
-  pub each-locate : (P : Segment Z → Type 0) (m : List (Segment Z)) (o : ℕ) (pl : Place Z) → Each P m → locate o m ≡ some pl → P (pl .segment)
-  each-locate P [] o pl h e = absurd (Option·none-ne-some pl e)
-  each-locate P (x ∷ r) o pl h e = bool (ltb o (bytes x)) (λ t. subst P (ap (λ p. p .segment) (some-inj (rw t at e))) (h .0)) (λ t. each-locate P r (o - bytes x) pl (h .1) (rw t at e))
-
-  pub each-edit-at : (P : Segment Z → Type 0) (o : ℕ) (f : Segment Z → List (Segment Z)) (m : List (Segment Z)) (pl : Place Z) → locate o m ≡ some pl → Each P (f (pl .segment)) → Each P m → Each P (edit o f m)
-  each-edit-at P o f [] pl e k h = tt
-  each-edit-at P o f (x ∷ r) pl e k h = bool (ltb o (bytes x))
-      (λ t. rw t (each-append P (f x) r (subst (λ y. Each P (f y)) (sym (ap (λ p. p .segment) (some-inj (rw t at e)))) k) (h .1)))
-      (λ t. rw t (h .0, each-edit-at P (o - bytes x) f r pl (rw t at e) k (h .1)))
+  pub each-locate : (P : Segment Z → Type 0) (m : List (Segment Z)) (o : ℕ) {pl : Place Z} → Each P m → locate o m ≡ some pl → P (pl .segment)
+  each-locate P [] o h e = none-some e
+  each-locate P (x ∷ r) o h e = bool (ltb o (bytes x)) (λ t. rw (same-segment (rw t at e)) at (h .0)) (λ t. each-locate P r _ (h .1) (rw t at e))
 
 -- What is told of zones another way ------------------------------------------------------------------------
 
@@ -175,11 +175,11 @@ module _ {A B : Type 0} (f : A → B) where
 
   pub locate-retold : (o : ℕ) (m : List (Segment A)) → locate o (map (retold f) m) ≡ retoldPlace (locate o m)
   locate-retold o [] = refl
-  locate-retold o (x ∷ r) = rw (pages-retold x) (bool (ltb o (bytes x)) (λ t. rw t) (λ t. rw t (locate-retold (o - bytes x) r)))
+  locate-retold o (x ∷ r) = rw (pages-retold x) (bool (ltb o (bytes x)) (λ t. rw t) (λ t. rw t (locate-retold _ r)))
 
   pub edit-retold : (o : ℕ) (h : Segment A → List (Segment A)) (k : Segment B → List (Segment B)) → ((x : Segment A) → map (retold f) (h x) ≡ k (retold f x)) → (m : List (Segment A)) → map (retold f) (edit o h m) ≡ edit o k (map (retold f) m)
   edit-retold o h k e [] = refl
-  edit-retold o h k e (x ∷ r) = rw (pages-retold x) (bool (ltb o (bytes x)) (λ t. rw t (map-append (retold f) (h x) r ∙ ap (λ l. l ++ map (retold f) r) (e x))) (λ t. rw t (ap (λ l. retold f x ∷ l) (edit-retold (o - bytes x) h k e r))))
+  edit-retold o h k e (x ∷ r) = rw (pages-retold x) (bool (ltb o (bytes x)) (λ t. rw t (cc (map-append (retold f) (h x) r, e x))) (λ t. rw t (cc (edit-retold _ h k e r))))
 
 -- What stands under a retold place.
 pub record Under {A B : Type 0} (f : A → B) (m : List (Segment A)) (o : ℕ) (pl : Place B) : Type 0 where
@@ -187,9 +187,9 @@ pub record Under {A B : Type 0} (f : A → B) (m : List (Segment A)) (o : ℕ) (
   pub shows : retold f segment ≡ pl .segment
   pub there : locate o m ≡ some (record { away = pl .away; segment = segment })
 
-pub under : {A B : Type 0} (f : A → B) (m : List (Segment A)) (o : ℕ) (pl : Place B) → locate o (map (retold f) m) ≡ some pl → Under f m o pl
-under {A} f m o pl e = go (locate o m) refl (sym (locate-retold f o m) ∙ e)
+pub under : {A B : Type 0} (f : A → B) (m : List (Segment A)) (o : ℕ) {pl : Place B} → locate o (map (retold f) m) ≡ some pl → Under f m o pl
+under {A} f m o {pl} e = go (locate o m) refl (sym (locate-retold f o m) ∙ e)
   where
     go : (x : Option (Place A)) → locate o m ≡ x → retoldPlace f x ≡ some pl → Under f m o pl
-    go none q u = absurd (Option·none-ne-some pl u)
-    go (some a) q u = record { segment = a .segment; shows = ap (λ p. p .segment) (some-inj u); there = q ∙ (λ i. some (record { away = (some-inj u i) .away; segment = a .segment })) }
+    go none q u = none-some u
+    go (some a) q u = record { segment = a .segment; shows = same-segment u; there = q ∙ (λ i. some (record { away = (some-inj u i) .away; segment = a .segment })) }

@@ -1,27 +1,24 @@
 -- The live blocks of a page map: what stands where a block begins, and what joining, an edit of one segment, a carved run, a changed
 -- zone and released pages do to the blocks. Assumes nothing.
-use Prim.Native.Nat.{ℕ, zero, suc, _+_, _-_, _*_, _/_, _%_, _≤_, _<_}
-use mathlib.Core.Path.{_≡_, refl, sym, _∙_, ap, subst}
-use mathlib.Core.Logic.{_⊎_, inl, inr}
-use mathlib.Core.List.{List, [], _∷_, _++_, map}
-use mathlib.Core.Option.{Option, none, some, Option·none-ne-some}
-use mathlib.Core.Bool.{Bool, true, false, cond, not, _&&_}
+use Prim.Native.Nat.{ℕ, zero, suc, _+_, _-_, _*_, _/_, _%_, _<_}
+use mathlib.Core.Path.{_≡_, refl, sym, _∙_, ap}
+use mathlib.Core.List.{List, [], _∷_, _++_}
+use mathlib.Core.Option.{Option, none, some}
+use mathlib.Core.Bool.{true, false}
 use native.Mathlib.Omega.{arith}
-use native.Mathlib.Nat.{div-add-mod', mul-div-cancel, mul-mod-left, zero-mul, le-refl}
-use lib.Dec.{ltb, leb, eqb}
-use lib.ListN.{length, getD, set, List·getD-eq-default}
-use borrow.Author.Tests.{ltb-true, ltb-false, leb-true, leb-false, eqb-true, eqb-false, lt-ltb, le-ltb, eq-eqb, ne-eqb}
-use Rattle.lemmas.proofs.Cases.{bool, either, true-false, cond-same, some-inj}
+use native.Mathlib.Nat.{div-add-mod', mul-div-cancel, mul-mod-left}
+use lib.Dec.{ltb, eqb}
+use lib.ListN.{length, getD, List·getD-eq-default}
+use borrow.Author.Tests.{ltb-true, ltb-false, eqb-true, lt-ltb}
+use Rattle.lemmas.proofs.Cases.{bool, true-false, cond-same}
 use Rattle.model.specs.Sizes.{room, chunks}
-use Rattle.model.specs.Arena.{Segment, run, direct, zone, pages, bytes, total, retold, Place, locate, edit, Each}
-use Rattle.model.specs.Zone.{Zone}
-use Rattle.model.specs.State.{State, Begins}
-use Rattle.model.specs.PageMap.{Occupancy, padded, occupancy, PageMap, shown, pageMap, allZero, idle, idleZone, Block, whole, chunk, groupOf, roomOf, chunkOf, blockIn, blockThere, blockAt}
-use Rattle.model.specs.Pages.{FreeRun, claim, withRun, carve, joined, freePages, release}
-use Rattle.model.proofs.Sizes.{room-pos, chunk-begins}
+use Rattle.model.specs.Arena.{Segment, run, direct, zone, pages, bytes, total, Place, locate, edit}
+use Rattle.model.specs.PageMap.{Occupancy, padded, PageMap, allZero, idle, Block, chunk, chunkOf, blockIn, blockThere, blockAt}
+use Rattle.model.specs.Pages.{FreeRun, claim, withRun, carve, joined}
+use Rattle.model.proofs.Sizes.{room-pos}
 use Rattle.model.proofs.Arena.{total-append, locate-mid, Split, split, swap}
 use Rattle.model.proofs.Claim.{claim-found}
-use Rattle.model.proofs.Joins.{zero-run, joined-see, total-joined, total-withRun}
+use Rattle.model.proofs.Joins.{zero-run, joined-see, total-withRun}
 
 -- A segment of a page map that has the size it says: direct blocks have pages, zones an entry for each chunk.
 abbrev pub Sized : Segment Occupancy → Type 0
@@ -34,16 +31,25 @@ pub allZero-getD : (l : List ℕ) → allZero l ≡ true → (i : ℕ) → getD 
 allZero-getD [] e i = refl
 allZero-getD (zero ∷ r) e zero = refl
 allZero-getD (zero ∷ r) e (suc i) = allZero-getD r e i
-allZero-getD (suc g ∷ r) e i = absurd (true-false e refl)
+allZero-getD (suc g ∷ r) e i = true-false e refl
+
+pub allZero-padded : (n : ℕ) → allZero (padded n []) ≡ true
+allZero-padded zero = refl
+allZero-padded (suc n) = allZero-padded n
+
+-- A chunk with a group is live.
+pub live-chunk : (c i g : ℕ) → 0 < g → chunkOf c i g ≡ some (chunk c i g)
+live-chunk c i zero h = absurd (omega arith)
+live-chunk c i (suc g) h = refl
 
 pub idle-blockIn : (d : ℕ) (l : Occupancy) → idle l ≡ true → blockIn d (zone l) ≡ none
-idle-blockIn d l e = rw (allZero-getD (l .groups) e (d / room (l .class))) (cond-same (eqb (d % room (l .class)) 0) none)
+idle-blockIn d l e = rw (allZero-getD (l .groups) e _) (cond-same (eqb (d % room (l .class)) 0) none)
 
 pub joined-blocks : (m : PageMap) (o : ℕ) → blockAt (joined idle 0 m) o ≡ blockAt m o
 joined-blocks m o = joined-see blockThere none (λ d k. refl) idle idle-blockIn 0 m o ∙ zero-run blockThere none (λ d k. refl) m o
 
 pub rejoined-blocks : (m : PageMap) (o : ℕ) → blockAt (joined (λ _. false) 0 m) o ≡ blockAt m o
-rejoined-blocks m o = joined-see blockThere none (λ d k. refl) (λ _. false) (λ d z e. absurd (true-false e refl)) 0 m o ∙ zero-run blockThere none (λ d k. refl) m o
+rejoined-blocks m o = joined-see blockThere none (λ d k. refl) (λ _. false) (λ d z e. true-false e refl) 0 m o ∙ zero-run blockThere none (λ d k. refl) m o
 
 -- An edit of one segment.
 pub record Edited (o : ℕ) (f : Segment Occupancy → List (Segment Occupancy)) (m : PageMap) (pl : Place Occupancy) : Type 1 where
@@ -58,17 +64,17 @@ pub record Edited (o : ℕ) (f : Segment Occupancy → List (Segment Occupancy))
 pub one-block : (x : Segment Occupancy) (d : ℕ) → d < bytes x → blockAt (x ∷ []) d ≡ blockIn d x
 one-block x d h = rw (lt-ltb d (bytes x) h)
 
-pub edited : (o : ℕ) (f : Segment Occupancy → List (Segment Occupancy)) (m : PageMap) (pl : Place Occupancy) → locate o m ≡ some pl → total (f (pl .segment)) ≡ pages (pl .segment) → Edited o f m pl
-edited o f m pl e t = go (split o m pl e)
+pub edited : (o : ℕ) (f : Segment Occupancy → List (Segment Occupancy)) (m : PageMap) {pl : Place Occupancy} → locate o m ≡ some pl → total (f (pl .segment)) ≡ pages (pl .segment) → Edited o f m pl
+edited o f m {pl} e t = go (split o m e)
   where
     go : Split o m pl → Edited o f m pl
     go s = record {
       base = total (s .before) * 4096;
       at = s .at;
       inside = s .inside;
-      now = λ d h. rw (s .edits f) (ap blockThere (locate-mid (s .before) (f (pl .segment)) (s .behind) d (omega arith)));
-      was = λ d h. rw (s .whole) (ap blockThere (locate-mid (s .before) (pl .segment ∷ []) (s .behind) d (omega arith)) ∙ one-block (pl .segment) d h);
-      rest = λ K h q k. rw (s .edits f, s .whole) (swap blockThere K (s .before) (pl .segment ∷ []) (f (pl .segment)) (s .behind) (omega arith) (λ d u v. h d (omega arith) v ∙ sym (one-block (pl .segment) d (omega arith))) q k);
+      now = λ d h. rw (s .edits f) (ap blockThere (locate-mid (s .before) (f _) (s .behind) d (omega arith)));
+      was = λ d h. rw (s .whole) (cc (locate-mid (s .before) (pl .segment ∷ []) (s .behind) d (omega arith), one-block _ d h));
+      rest = λ K h q k. rw (s .edits f, s .whole) (swap blockThere K (s .before) (pl .segment ∷ []) (f _) (s .behind) (omega arith) (λ d u v. h d (omega arith) v ∙ sym (one-block (pl .segment) d (omega arith))) q k);
       size = rw (s .edits f, s .whole) (omega (arith, total-append (s .before) (f (pl .segment) ++ s .behind), total-append (f (pl .segment)) (s .behind), total-append (s .before) (pl .segment ∷ s .behind)));
     }
 
@@ -88,9 +94,9 @@ runs-none (suc k) d = bool (ltb d (suc k * 4096)) (λ t. rw t) (λ t. rw t)
 pub put-only : (o : ℕ) (m : PageMap) (x₀ x : Segment Occupancy) (k : ℕ) → locate o m ≡ some (record { away = 0; segment = x₀ }) → pages x + k ≡ pages x₀ → 0 < pages x → ((d : ℕ) → blockIn d x₀ ≡ none) → ((d : ℕ) → (d ≡ 0 → ⊥) → blockIn d x ≡ none) → Only m (edit o (λ _. x ∷ withRun k []) m) o (blockIn 0 x)
 put-only o m x₀ x k e p pos bare alone =
     let t : pages x + total (withRun {Z = Occupancy} k []) ≡ pages x₀ = omega (arith, total-withRun {Z = Occupancy} k []) in
-    let E = edited o (λ _. x ∷ withRun k []) m (record { away = 0; segment = x₀ }) e t in (
+    let E = edited o (λ _. x ∷ withRun k []) m e t in (
       ap (blockAt (edit o (λ _. x ∷ withRun k []) m)) (E .at) ∙ E .now 0 (E .inside) ∙ rw (lt-ltb 0 (bytes x) (omega arith)),
-      λ q ne. E .rest (λ j. j ≡ o → ⊥) (λ d l j. bool (ltb d (bytes x)) (λ u. rw u (alone d (λ z. j (omega (arith, z, E .at))))) (λ u. rw u (runs-none k (d - bytes x))) ∙ sym (bare d)) q ne,
+      λ q ne. E .rest (λ j. j ≡ o → ⊥) (λ d l j. bool (ltb d (bytes x)) (λ u. rw u (alone d (λ z. j (omega arith)))) (λ u. rw u (runs-none k _)) ∙ sym (bare d)) q ne,
       E .size,
     )
 
@@ -98,7 +104,7 @@ put-only o m x₀ x k e p pos bare alone =
 pub carve-only : (m : PageMap) (h : FreeRun) (n : ℕ) (x : Segment Occupancy) → 0 < n → claim n m ≡ some h → pages x ≡ n → ((d : ℕ) → (d ≡ 0 → ⊥) → blockIn d x ≡ none) → Only m (carve h n x m) (h .page * 4096) (blockIn 0 x)
 carve-only m h n x pos e p alone =
     let f = claim-found n m h pos e in
-    put-only (h .page * 4096) m (run (h .size)) x (h .size - n) (f .0) (omega (arith, f .1)) (omega arith) (λ d. refl) alone
+    put-only _ m _ x (h .size - n) (f .0) (omega arith) (omega arith) (λ d. refl) alone
 
 -- Chunks of a zone ---------------------------------------------------------------------------------------
 
@@ -108,7 +114,7 @@ blockIn-at c i l = rw (mul-mod-left i (room c), mul-div-cancel i (room-pos c))
 -- one entry changes, one chunk changes
 pub blockIn-other : (c i : ℕ) (l l′ : List ℕ) → ((j : ℕ) → (j ≡ i → ⊥) → getD l′ j 0 ≡ getD l j 0) → (d : ℕ) → (d ≡ i * room c → ⊥) → blockIn d (zone (record { class = c; groups = l′ })) ≡ blockIn d (zone (record { class = c; groups = l }))
 blockIn-other c i l l′ h d ne = bool (eqb (d % room c) 0)
-    (λ t. rw (h (d / room c) (λ z. ne (omega (arith, div-add-mod' d (room c), eqb-true (d % room c) 0 t, ap (λ k. k * room c) z)))))
+    (λ t. rw (h (d / room c) (λ z. ne (omega (arith, div-add-mod' d (room c), eqb-true, ap (λ k. k * room c) z)))))
     (λ t. rw t)
 
 pub padded-in : (n : ℕ) (l : List ℕ) (i : ℕ) → i < n → getD (padded n l) i 0 ≡ getD l i 0
@@ -127,7 +133,7 @@ padded-length (suc n) (x ∷ l) = ap suc (padded-length n l)
 pub padded-other : (n : ℕ) (l l′ : List ℕ) (i : ℕ) → ((j : ℕ) → (j ≡ i → ⊥) → getD l′ j 0 ≡ getD l j 0) → (j : ℕ) → (j ≡ i → ⊥) → getD (padded n l′) j 0 ≡ getD (padded n l) j 0
 padded-other n l l′ i h j ne = bool (ltb j n)
     (λ t. rw (padded-in n l′ j (ltb-true j n t), padded-in n l j (ltb-true j n t)) (h j ne))
-    (λ t. rw (List·getD-eq-default (padded n l′) 0 {n = j} (omega (arith, ltb-false j n t, padded-length n l′)), List·getD-eq-default (padded n l) 0 {n = j} (omega (arith, ltb-false j n t, padded-length n l))))
+    (λ t. rw (List·getD-eq-default (padded n l′) 0 {n = j} (omega (arith, ltb-false, padded-length n l′)), List·getD-eq-default (padded n l) 0 {n = j} (omega (arith, ltb-false, padded-length n l))))
 
 -- The zone at a place gives way to another of its class whose owners differ at chunk i only.
 pub chunk-only : (o : ℕ) (f : Segment Occupancy → List (Segment Occupancy)) (m : PageMap) (d c i : ℕ) (l l′ : List ℕ) → locate o m ≡ some (record { away = d; segment = zone (record { class = c; groups = l }) }) →
@@ -135,15 +141,15 @@ pub chunk-only : (o : ℕ) (f : Segment Occupancy → List (Segment Occupancy)) 
     i * room c < 32768 → ((j : ℕ) → (j ≡ i → ⊥) → getD l′ j 0 ≡ getD l j 0) →
     (b : ℕ) → o ≡ b + d → Only m (edit o f m) (b + i * room c) (chunkOf c i (getD l′ i 0))
 chunk-only o f m d c i l l′ e fe h other b at =
-    let E = edited o f m (record { away = d; segment = zone (record { class = c; groups = l }) }) e (ap total fe) in
-    let same : E .base ≡ b = omega (arith, E .at, at) in (
-      ap (λ k. blockAt (edit o f m) (k + i * room c)) (sym same) ∙ E .now (i * room c) h ∙ ap (λ y. blockAt y (i * room c)) fe ∙ one-block (zone (record { class = c; groups = l′ })) (i * room c) h ∙ blockIn-at c i l′,
-      λ q ne. E .rest (λ k. k ≡ b + i * room c → ⊥) (λ k u v. ap (λ y. blockAt y k) fe ∙ one-block (zone (record { class = c; groups = l′ })) k u ∙ blockIn-other c i l l′ other k (λ z. v (omega (arith, z, same)))) q ne,
+    let E = edited o f m e (ap total fe) in
+    let same : E .base ≡ b = omega arith in (
+      cc (E .now _ h, one-block _ _ h, blockIn-at c i l′),
+      λ q ne. E .rest (λ k. k ≡ b + i * room c → ⊥) (λ k u v. cc (one-block _ k u, blockIn-other c i l l′ other k (λ z. v (omega arith)))) q ne,
       E .size,
     )
 
 -- An idle zone gives way to any segment of 8 pages without a block, or is set up anew.
 pub idle-still : (o : ℕ) (f : Segment Occupancy → List (Segment Occupancy)) (m : PageMap) (d : ℕ) (l : Occupancy) → locate o m ≡ some (record { away = d; segment = zone l }) → idle l ≡ true → total (f (zone l)) ≡ 8 → ((k : ℕ) → k < 32768 → blockAt (f (zone l)) k ≡ none) → Still m (edit o f m)
 idle-still o f m d l e i t h =
-    let E = edited o f m (record { away = d; segment = zone l }) e t in
+    let E = edited o f m e t in
     (λ q. E .rest (λ _. Unit {0}) (λ k u v. h k u ∙ sym (idle-blockIn k l i)) q tt, E .size)

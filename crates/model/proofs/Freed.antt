@@ -1,49 +1,48 @@
 -- What freeing does to the live blocks: the block that comes back is gone, all others stay. Where a block begins, the segments
 -- say of it what the page map says. Assumes nothing.
-use Prim.Native.Nat.{ℕ, zero, suc, _+_, _-_, _*_, _/_, _%_, _≤_, _<_}
+use Prim.Native.Nat.{ℕ, _+_, _-_, _*_, _/_, _<_}
 use mathlib.Core.Path.{_≡_, refl, sym, _∙_, ap, subst}
-use mathlib.Core.List.{List, [], _∷_, _++_, map}
-use mathlib.Core.Option.{Option, none, some, Option·none-ne-some}
-use mathlib.Core.Bool.{Bool, true, false, cond, not, _&&_}
+use mathlib.Core.List.{List, [], _∷_}
+use mathlib.Core.Option.{Option, none, some}
+use mathlib.Core.Bool.{cond, _&&_}
 use native.Mathlib.Omega.{arith}
-use lib.Dec.{ltb, leb, eqb}
+use lib.Dec.{ltb}
 use lib.ListN.{length, getD, set, List·getD-eq-default}
 use lib.Seq.{getD-set-other}
-use borrow.Author.Tests.{ltb-true, ltb-false, eqb-true, eqb-false}
-use Rattle.lemmas.proofs.Cases.{bool, either, true-false, and-left, some-inj}
+use borrow.Author.Tests.{ltb-true, ltb-false}
+use Rattle.lemmas.proofs.Cases.{bool, either, and-left, clash}
 use Rattle.model.specs.Numbers.{mostSpare}
 use Rattle.model.specs.Sizes.{room, chunks}
-use Rattle.model.specs.Arena.{Segment, run, direct, zone, pages, bytes, total, retold, Place, locate, edit, Each}
+use Rattle.model.specs.Arena.{Segment, run, direct, zone, retold, locate, edit}
 use Rattle.model.specs.Zone.{Zone, full, putBack}
-use Rattle.model.specs.State.{State, listOf, arranged, Begins, ZoneAt, zoneIn, zoneAt, putZone}
-use Rattle.model.specs.PageMap.{Occupancy, padded, occupancy, PageMap, pageMap, idleZone, Block, whole, chunk, groupOf, chunkOf, blockIn, blockThere, blockAt}
-use Rattle.model.specs.Pages.{joined, freePages, release}
-use Rattle.model.specs.Free.{retired, settled, chunkBack, freed, freedIf}
+use Rattle.model.specs.State.{State, listOf, arranged, Begins, ZoneAt, zoneIn, putZone}
+use Rattle.model.specs.PageMap.{Occupancy, padded, occupancy, pageMap, idleZone, Block, whole, chunk, chunkOf, blockAt}
+use Rattle.model.specs.Free.{settled, chunkBack, freed, freedIf}
 use Rattle.model.proofs.Sizes.{chunk-begins}
-use Rattle.model.proofs.Arena.{locate-retold, retoldPlace, edit-retold, begins-new, start-of, Under, under}
+use Rattle.model.proofs.Arena.{locate-retold, retoldPlace, edit-retold, begins-new, start-of, under}
 use Rattle.model.proofs.Joins.{release-retold}
-use Rattle.model.proofs.Zones.{owned-touched, set-zero}
+use Rattle.model.proofs.Zones.{set-zero}
 use Rattle.model.proofs.Blocks.{padded-in, padded-length, padded-other, Only, Still, chunk-only}
-use Rattle.model.proofs.Released.{begins, whole-there, ChunkThere, chunk-there, still-only, release-only, release-still}
+use Rattle.model.proofs.Released.{begins, whole-there, chunk-there, still-only, release-only, release-still}
 
 -- What stands in the segments ---------------------------------------------------------------------------------
 
 zone-under : (x : Segment Zone) (l : Occupancy) → retold occupancy x ≡ zone l → (z : Zone) × (x ≡ zone z) × (occupancy z ≡ l)
-zone-under (run n) l e = absurd (let w : _≡_ {A = ℕ} 0 1 = cc in omega arith)
-zone-under (direct n g) l e = absurd (let w : _≡_ {A = ℕ} 0 1 = cc in omega arith)
+zone-under (run n) l e = clash (cc)
+zone-under (direct n g) l e = clash (cc)
 zone-under (zone z) l e = (z, refl, cc)
 
 direct-under : (x : Segment Zone) (n g : ℕ) → retold occupancy x ≡ direct n g → x ≡ direct n g
-direct-under (run k) n g e = absurd (let w : _≡_ {A = ℕ} 0 1 = cc in omega arith)
+direct-under (run k) n g e = clash (cc)
 direct-under (direct k h) n g e = let p : k ≡ n = cc in let q : h ≡ g = cc in cc
-direct-under (zone z) n g e = absurd (let w : _≡_ {A = ℕ} 0 1 = cc in omega arith)
+direct-under (zone z) n g e = clash (cc)
 
 -- A direct block begins at o.
 pub direct-at : (s : State) (o n g : ℕ) → blockAt (pageMap s) o ≡ some (whole n g) → Begins o (s .segments) (direct n g)
 direct-at s o n g e =
-    let B = begins (locate o (pageMap s)) (whole n g) e in
-    let W = whole-there n g (B .0 .away) (B .0 .segment) (B .2) in
-    let U = under occupancy (s .segments) o (B .0) (B .1) in
+    let B = begins _ (whole n g) e in
+    let W = whole-there n g _ _ (B .2) in
+    let U = under occupancy (s .segments) o (B .1) in
     U .there ∙ (λ i. some (record { away = W .1 i; segment = direct-under (U .segment) n g (U .shows ∙ W .0) i }))
 
 -- Chunk i of class c, live with group g, begins at o: it is in the zone at a page.
@@ -59,30 +58,30 @@ pub record ChunkAt (s : State) (o c i g : ℕ) : Type 0 where
   pub live : 0 < g
 
 padded-live : (n : ℕ) (l : List ℕ) (i : ℕ) → 0 < getD (padded n l) i 0 → i < n
-padded-live n l i p = bool (ltb i n) (λ t. ltb-true i n t) (λ t. absurd (omega (arith, List·getD-eq-default (padded n l) 0 {n = i} (omega (arith, ltb-false i n t, padded-length n l)))))
+padded-live n l i p = bool (ltb i n) (λ t. ltb-true i n t) (λ t. absurd (omega (arith, List·getD-eq-default (padded n l) 0 {n = i} (omega (arith, ltb-false, padded-length n l)))))
 
 pub chunk-at : (s : State) (o c i g : ℕ) → blockAt (pageMap s) o ≡ some (chunk c i g) → ChunkAt s o c i g
 chunk-at s o c i g e =
-    let B = begins (locate o (pageMap s)) (chunk c i g) e in
-    let C = chunk-there c i g (B .0 .away) (B .0 .segment) (B .2) in
-    let U = under occupancy (s .segments) o (B .0) (B .1) in
-    let Y = zone-under (U .segment) (record { class = c; groups = C .groups }) (U .shows ∙ C .is-zone) in
+    let B = begins _ _ e in
+    let C = chunk-there c i g _ _ (B .2) in
+    let U = under occupancy (s .segments) o (B .1) in
+    let Y = zone-under _ _ (U .shows ∙ C .is-zone) in
     let z = Y .0 in
     let loc : locate o (s .segments) ≡ some (record { away = B .0 .away; segment = zone z }) = U .there ∙ ap (λ x. some (record { away = B .0 .away; segment = x })) (Y .1) in
-    let S = start-of (s .segments) o (record { away = B .0 .away; segment = zone z }) loc in
+    let S = start-of (s .segments) o loc in
     let class : z .class ≡ c = ap (λ l. l .class) (Y .2) in
     let groups : padded (chunks (z .class)) (z .owners) ≡ C .groups = ap (λ l. l .groups) (Y .2) in
-    let shows : getD (padded (chunks (z .class)) (z .owners)) i 0 ≡ g = ap (λ l. getD l i 0) groups ∙ C .owner in
-    let inside : i < chunks (z .class) = padded-live (chunks (z .class)) (z .owners) i (omega (arith, shows, C .live)) in
+    let shows : getD (padded (chunks (z .class)) (z .owners)) i 0 ≡ g = cc in
+    let inside : i < chunks (z .class) = padded-live _ (z .owners) i (omega arith) in
     record {
       page = S .0;
       here = z;
       there = S .3;
-      at = omega (arith, S .1, C .at);
-      page-is = let q : o ≡ S .0 * 4096 + i * room c = omega (arith, S .1, C .at) in omega (arith, q);
+      at = omega arith;
+      page-is = let q : o ≡ S .0 * 4096 + i * room c = omega arith in omega arith;
       class = class;
-      inside = omega (arith, inside, ap chunks class);
-      owner = sym (padded-in (chunks (z .class)) (z .owners) i inside) ∙ shows;
+      inside = omega (arith, ap chunks class);
+      owner = sym (padded-in _ (z .owners) i inside) ∙ shows;
       live = C .live;
     }
 
@@ -92,7 +91,7 @@ chunk-at s o c i g e =
 settled-still : (c p : ℕ) (l : List ℕ) (z : Zone) (s : State) → ZoneAt (s .segments) p z → Still (pageMap s) (pageMap (settled c p l z s))
 settled-still c p l z s there = either P (idleZone z && ltb 1 (length l)) _ _
     (λ t. either P (ltb (length (s .spare)) mostSpare) _ _ (λ _. same)
-    (λ _. rw (release-retold occupancy (p * 4096) (s .segments)) (release-still (p * 4096) (pageMap s) 0 (occupancy z) (locate-retold occupancy (p * 4096) (s .segments) ∙ ap (retoldPlace occupancy) there) (and-left (idleZone z) (ltb 1 (length l)) t))))
+    (λ _. rw (release-retold occupancy (p * 4096) _) (release-still (p * 4096) (pageMap s) 0 (occupancy z) (cc (locate-retold occupancy (p * 4096) _)) (and-left _ _ t))))
     (λ _. same)
   where
     P : State → Type 0
@@ -103,7 +102,7 @@ settled-still c p l z s there = either P (idleZone z && ltb 1 (length l)) _ _
 
 -- The zone with the chunk put back stands at its page.
 pub put-back-at : (s : State) (p : ℕ) (z z′ : Zone) → ZoneAt (s .segments) p z → ZoneAt (putZone p z′ (s .segments)) p z′
-put-back-at s p z z′ there = begins-new (p * 4096) (λ _. zone z′ ∷ []) (s .segments) (record { away = 0; segment = zone z }) there (p * 4096) (zone z′) [] (omega arith) refl (omega arith)
+put-back-at s p z z′ there = begins-new (p * 4096) (λ _. zone z′ ∷ []) (s .segments) there (p * 4096) (zone z′) [] (omega arith) refl (omega arith)
 
 back-only : (s : State) (o c i g : ℕ) (C : ChunkAt s o c i g) → Only (pageMap s) (pageMap (chunkBack c i (C .page) (C .here) s)) o none
 back-only s o c i g C =
@@ -113,22 +112,22 @@ back-only s o c i g C =
     let t : State = arranged s (putZone p z′ (s .segments)) (s .lists) (s .spare) in
     let as-c : (y : Zone) → y .class ≡ c → occupancy y ≡ record { class = c; groups = padded (chunks c) (y .owners) } = λ y e. ap (λ k. record { class = k; groups = padded (chunks k) (y .owners) }) e in
     let there : Begins (p * 4096) (pageMap s) (zone (record { class = c; groups = padded (chunks c) (z .owners) })) = locate-retold occupancy (p * 4096) (s .segments) ∙ ap (retoldPlace occupancy) (C .there) ∙ ap (λ y. some (record { away = 0; segment = zone y })) (as-c z (C .class)) in
-    let gone : chunkOf c i (getD (padded (chunks c) (set (z .owners) i 0)) i 0) ≡ none = ap (chunkOf c i) (padded-in (chunks c) (set (z .owners) i 0) i (C .inside) ∙ set-zero (z .owners) i) in
-    let R = chunk-only (p * 4096) (λ _. zone (occupancy z′) ∷ []) (pageMap s) 0 c i (padded (chunks c) (z .owners)) (padded (chunks c) (set (z .owners) i 0)) there (ap (λ y. zone y ∷ []) (as-c z′ (C .class))) (chunk-begins c i (C .inside)) (padded-other (chunks c) (z .owners) (set (z .owners) i 0) i (λ j ne. getD-set-other (z .owners) i j 0 0 ne)) (p * 4096) (omega arith) in
-    let one : Only (pageMap s) (edit (p * 4096) (λ _. zone (occupancy z′) ∷ []) (pageMap s)) o none = subst (λ k. Only (pageMap s) (edit (p * 4096) (λ _. zone (occupancy z′) ∷ []) (pageMap s)) k none) (C .at) (subst (λ v. Only (pageMap s) (edit (p * 4096) (λ _. zone (occupancy z′) ∷ []) (pageMap s)) (p * 4096 + i * room c) v) gone R) in
+    let gone : chunkOf c i (getD (padded (chunks c) (set (z .owners) i 0)) i 0) ≡ none = ap (chunkOf c i) (padded-in (chunks c) _ i (C .inside) ∙ set-zero (z .owners) i) in
+    let R = chunk-only (p * 4096) (λ _. zone (occupancy z′) ∷ []) (pageMap s) 0 c i _ _ there (ap (λ y. zone y ∷ []) (as-c z′ (C .class))) (chunk-begins c i (C .inside)) (padded-other (chunks c) (z .owners) _ i (λ j ne. getD-set-other (z .owners) i j 0 0 ne)) (p * 4096) (omega arith) in
+    let one : Only (pageMap s) (edit (p * 4096) (λ _. zone (occupancy z′) ∷ []) (pageMap s)) o none = subst (λ k. Only (pageMap s) (edit (p * 4096) (λ _. zone (occupancy z′) ∷ []) (pageMap s)) k none) (C .at) (rw gone at R) in
     still-only (pageMap s) (pageMap t) (pageMap (chunkBack c i p z s)) o none
-    (rw (edit-retold occupancy (p * 4096) (λ _. zone z′ ∷ []) (λ _. zone (occupancy z′) ∷ []) (λ _. refl) (s .segments)) one)
+    (rw (edit-retold occupancy (p * 4096) (λ _. zone z′ ∷ []) (λ _. zone (occupancy z′) ∷ []) (λ _. refl) _) one)
     (settled-still c p (cond (full z) (p ∷ listOf s c) (listOf s c)) z′ t (put-back-at s p z z′ (C .there)))
 
 -- The state after a chunk came back, by its zone.
 pub freed-chunk : (s : State) (o c i g : ℕ) (C : ChunkAt s o c i g) → freed o (chunk c i g) s ≡ chunkBack c i (C .page) (C .here) s
-freed-chunk s o c i g C = ap (λ p. chunkBack c i p (zoneAt p (s .segments)) s) (C .page-is) ∙ ap (λ x. chunkBack c i (C .page) (zoneIn x) s) (C .there)
+freed-chunk s o c i g C = rw (C .page-is) (ap (λ x. chunkBack c i (C .page) (zoneIn x) s) (C .there))
 
 -- Any block comes back -----------------------------------------------------------------------------------------
 
 pub freed-only : (s : State) (o : ℕ) (b : Block) → blockAt (pageMap s) o ≡ some b → Only (pageMap s) (pageMap (freed o b s)) o none
-freed-only s o (whole n g) e = rw (release-retold occupancy o (s .segments)) (release-only o (pageMap s) n g (locate-retold occupancy o (s .segments) ∙ ap (retoldPlace occupancy) (direct-at s o n g e)))
-freed-only s o (chunk c i g) e = let C = chunk-at s o c i g e in subst (λ t. Only (pageMap s) (pageMap t) o none) (sym (freed-chunk s o c i g C)) (back-only s o c i g C)
+freed-only s o (whole n g) e = rw (release-retold occupancy o _) (release-only o (pageMap s) n g (cc (locate-retold occupancy o _, direct-at s o n g e)))
+freed-only s o (chunk c i g) e = let C = chunk-at s o c i g e in rw (freed-chunk s o c i g C) (back-only s o c i g C)
 
 pub freedIf-only : (s : State) (o : ℕ) (b : Option Block) → blockAt (pageMap s) o ≡ b → Only (pageMap s) (pageMap (freedIf o b s)) o none
 freedIf-only s o none e = (e, (λ q ne. refl), refl)

@@ -1,21 +1,20 @@
 -- Joining free pages, over any kind of zone: it keeps the pages, what is seen of anything but free pages, and where the zones
 -- stand that it does not free; afterwards no two runs touch. Assumes nothing.
-use Prim.Native.Nat.{ℕ, zero, suc, _+_, _-_, _*_, _≤_, _<_}
-use mathlib.Core.Path.{_≡_, refl, sym, _∙_, ap, subst}
-use mathlib.Core.Logic.{_⊎_, inl, inr}
-use mathlib.Core.List.{List, [], _∷_, _++_, map, append-assoc, append-nil, List·Memᴰ, List·Memᴰ·not-nil, List·Memᴰ·cases-cons}
-use mathlib.Core.Option.{Option, none, some, Option·none-ne-some}
+use Prim.Native.Nat.{ℕ, zero, suc, _+_, _-_, _*_}
+use mathlib.Core.Path.{_≡_, refl, sym, _∙_, ap}
+use mathlib.Core.List.{List, [], _∷_, _++_, map}
+use mathlib.Core.Option.{Option, none, some}
 use mathlib.Core.Bool.{Bool, true, false, cond}
 use native.Mathlib.Omega.{arith}
-use lib.Dec.{ltb, leb}
-use borrow.Author.Tests.{ltb-true, ltb-false, leb-true, leb-false, lt-ltb, le-ltb}
-use Rattle.lemmas.proofs.Cases.{bool, true-false, some-inj}
+use lib.Dec.{ltb}
+use borrow.Author.Tests.{ltb-true, ltb-false, lt-ltb, le-ltb}
+use Rattle.lemmas.proofs.Cases.{bool, some-inj, clash, none-some}
 use Rattle.model.specs.Numbers.{zonePages}
 use Rattle.model.specs.Arena.{Segment, run, direct, zone, pages, bytes, total, retold, Place, locate, edit, Each}
 use Rattle.model.specs.State.{Begins}
 use Rattle.model.specs.Valid.{Apart}
 use Rattle.model.specs.Pages.{FreeRun, withRun, carve, joined, freePages, release}
-use Rattle.model.proofs.Arena.{pages-retold, edit-retold, each-append}
+use Rattle.model.proofs.Arena.{pages-retold, edit-retold, same-segment}
 
 module _ {Z : Type 0} where
   -- A view `see` of places, which shows every run as v, ..
@@ -26,13 +25,13 @@ module _ {Z : Type 0} where
 
     -- a part that is seen as v joins the run before it
     pub absorb : (n : ℕ) (x : Segment Z) (r : List (Segment Z)) → ((d : ℕ) → see (some (record { away = d; segment = x })) ≡ v) → (o : ℕ) → see (locate o (run (n + pages x) ∷ r)) ≡ see (locate o (run n ∷ (x ∷ r)))
-    absorb n x r h o = bool (ltb o (n * 4096)) (λ t. rw (t, lt-ltb o ((n + pages x) * 4096) (omega (arith, ltb-true o (n * 4096) t))) (runs o (n + pages x) ∙ sym (runs o n)))
+    absorb n x r h o = bool (ltb o (n * 4096)) (λ t. rw (t, lt-ltb o ((n + pages x) * 4096) (omega (arith, ltb-true))) (runs o _ ∙ sym (runs o n)))
         (λ t. bool (ltb (o - n * 4096) (bytes x))
-        (λ u. rw (t, u, lt-ltb o ((n + pages x) * 4096) (omega (arith, ltb-true (o - n * 4096) (bytes x) u))) (runs o (n + pages x) ∙ sym (h (o - n * 4096))))
-        (λ u. rw (t, u, le-ltb o ((n + pages x) * 4096) (omega (arith, ltb-false o (n * 4096) t, ltb-false (o - n * 4096) (bytes x) u))) (ap (λ k. see (locate k r)) (omega arith))))
+        (λ u. rw (t, u, lt-ltb o ((n + pages x) * 4096) (omega (arith, ltb-true))) (runs o _ ∙ sym (h _)))
+        (λ u. rw (t, u, le-ltb o ((n + pages x) * 4096) (omega (arith, ltb-false))) (ap (λ k. see (locate k r)) (omega arith))))
 
     cons-see : (x : Segment Z) (r r′ : List (Segment Z)) → ((o : ℕ) → see (locate o r) ≡ see (locate o r′)) → (o : ℕ) → see (locate o (x ∷ r)) ≡ see (locate o (x ∷ r′))
-    cons-see x r r′ h o = bool (ltb o (bytes x)) (λ t. rw t) (λ t. rw t (h (o - bytes x)))
+    cons-see x r r′ h o = bool (ltb o (bytes x)) (λ t. rw t) (λ t. rw t (h _))
 
     pub zero-run : (r : List (Segment Z)) (o : ℕ) → see (locate o (run 0 ∷ r)) ≡ see (locate o r)
     zero-run r o = sym (withRun-see 0 r o)
@@ -45,10 +44,10 @@ module _ {Z : Type 0} where
       pub joined-see : (n : ℕ) (m : List (Segment Z)) (o : ℕ) → see (locate o (joined idle n m)) ≡ see (locate o (run n ∷ m))
       joined-see n [] o = withRun-see n [] o
       joined-see n (run k ∷ r) o = joined-see (n + k) r o ∙ absorb n (run k) r (λ d. runs d k) o
-      joined-see n (direct k g ∷ r) o = withRun-see n (direct k g ∷ joined idle 0 r) o ∙ past n (direct k g) (joined idle 0 r) r (joined-see 0 r) o
+      joined-see n (direct k g ∷ r) o = withRun-see n _ o ∙ past n (direct k g) (joined idle 0 r) r (joined-see 0 r) o
       joined-see n (zone z ∷ r) o = bool (idle z)
-          (λ t. rw t (joined-see (n + zonePages) r o ∙ absorb n (zone z) r (λ d. idles d z t) o))
-          (λ t. rw t (withRun-see n (zone z ∷ joined idle 0 r) o ∙ past n (zone z) (joined idle 0 r) r (joined-see 0 r) o))
+          (λ t. rw t (joined-see _ r o ∙ absorb n (zone z) r (λ d. idles d z t) o))
+          (λ t. rw t (withRun-see n _ o ∙ past n (zone z) (joined idle 0 r) r (joined-see 0 r) o))
 
   pub total-withRun : (n : ℕ) (r : List (Segment Z)) → total (withRun n r) ≡ n + total r
   total-withRun zero r = omega arith
@@ -64,13 +63,13 @@ module _ {Z : Type 0} where
   pub cut-zone : (x : Segment Z) (k d : ℕ) (z : Z) → locate d (x ∷ withRun k []) ≡ some (record { away = 0; segment = zone z }) → (d ≡ 0) × (x ≡ zone z)
   cut-zone x k d z e = bool (ltb d (bytes x))
       (λ t. let q = some-inj (rw t at e) in (ap (λ p. p .away) q, ap (λ p. p .segment) q))
-      (λ t. absurd (no-zone k (d - bytes x) (rw t at e)))
+      (λ t. absurd (no-zone k _ (rw t at e)))
     where
       no-zone : (k d : ℕ) → locate d (withRun k []) ≡ some (record { away = 0; segment = zone z }) → ⊥
-      no-zone zero d u = Option·none-ne-some (record { away = 0; segment = zone z }) u
+      no-zone zero d u = none-some u
       no-zone (suc k) d u = bool (ltb d (suc k * 4096))
-          (λ t. let q : run (suc k) ≡ zone z = ap (λ p. p .segment) (some-inj (rw t at u)) in let w : _≡_ {A = ℕ} 0 1 = cc in omega arith)
-          (λ t. Option·none-ne-some (record { away = 0; segment = zone z }) (rw t at u))
+          (λ t. let q : run (suc k) ≡ zone z = same-segment (rw t at u) in clash (cc))
+          (λ t. none-some (rw t at u))
 
   -- where a zone that is not freed stands
   seeZone : (Z → Bool) → Option (Place Z) → Option (Place Z)
@@ -80,21 +79,21 @@ module _ {Z : Type 0} where
   see-back : (f : Z → Bool) (x : Option (Place Z)) (pl : Place Z) → seeZone f x ≡ some pl → x ≡ some pl
   unfolding seeZone
   see-back f none pl e = e
-  see-back f (some a) pl e = go (a .away) (a .segment) e
+  see-back f (some a) pl e = go (a .away) _ e
     where
       go : (d : ℕ) (x : Segment Z) → seeZone f (some (record { away = d; segment = x })) ≡ some pl → some (record { away = d; segment = x }) ≡ some pl
-      go d (run n) u = absurd (Option·none-ne-some pl u)
-      go d (direct n g) u = absurd (Option·none-ne-some pl u)
-      go d (zone z) u = bool (f z) (λ t. absurd (Option·none-ne-some pl (rw t at u))) (λ t. rw t at u)
+      go d (run n) u = none-some u
+      go d (direct n g) u = none-some u
+      go d (zone z) u = bool (f z) (λ t. none-some (rw t at u)) (λ t. rw t at u)
 
   pub joined-begins : (f : Z → Bool) (m : List (Segment Z)) (q : ℕ) (z : Z) → f z ≡ false → Begins q m (zone z) → Begins q (joined f 0 m) (zone z)
   unfolding seeZone
-  joined-begins f m q z n h = see-back f (locate q (joined f 0 m)) (record { away = 0; segment = zone z })
+  joined-begins f m q z n h = see-back f _ _
       (joined-see (seeZone f) none (λ d k. refl) f (λ d y e. rw e) 0 m q ∙ zero-run (seeZone f) none (λ d k. refl) m q ∙ ap (seeZone f) h ∙ rw n)
 
   pub joined-back : (f : Z → Bool) (m : List (Segment Z)) (q : ℕ) (z : Z) → f z ≡ false → Begins q (joined f 0 m) (zone z) → Begins q m (zone z)
   unfolding seeZone
-  joined-back f m q z n h = see-back f (locate q m) (record { away = 0; segment = zone z })
+  joined-back f m q z n h = see-back f _ _
       (sym (joined-see (seeZone f) none (λ d k. refl) f (λ d y e. rw e) 0 m q ∙ zero-run (seeZone f) none (λ d k. refl) m q) ∙ ap (seeZone f) h ∙ rw n)
 
   abbrev pub NotFreed : (Z → Bool) → Segment Z → Type 0
@@ -109,8 +108,8 @@ module _ {Z : Type 0} where
   pub not-freed : (f : Z → Bool) (n : ℕ) (m : List (Segment Z)) → Each (NotFreed f) (joined f n m)
   not-freed f n [] = not-freed-run f n [] tt
   not-freed f n (run k ∷ r) = not-freed f (n + k) r
-  not-freed f n (direct k g ∷ r) = not-freed-run f n (direct k g ∷ joined f 0 r) (tt, not-freed f 0 r)
-  not-freed f n (zone z ∷ r) = bool (f z) (λ t. rw t (not-freed f (n + zonePages) r)) (λ t. rw t (not-freed-run f n (zone z ∷ joined f 0 r) (t, not-freed f 0 r)))
+  not-freed f n (direct k g ∷ r) = not-freed-run f n _ (tt, not-freed f 0 r)
+  not-freed f n (zone z ∷ r) = bool (f z) (λ t. rw t (not-freed f _ r)) (λ t. rw t (not-freed-run f n _ (t, not-freed f 0 r)))
 
   apart-weaken : (m : List (Segment Z)) → Apart true m → Apart false m
   apart-weaken [] h = tt
@@ -125,14 +124,14 @@ module _ {Z : Type 0} where
   pub joined-apart : (f : Z → Bool) (n : ℕ) (m : List (Segment Z)) → Apart false (joined f n m)
   joined-apart f n [] = apart-run n [] tt
   joined-apart f n (run k ∷ r) = joined-apart f (n + k) r
-  joined-apart f n (direct k g ∷ r) = apart-run n (direct k g ∷ joined f 0 r) (joined-apart f 0 r)
-  joined-apart f n (zone z ∷ r) = bool (f z) (λ t. rw t (joined-apart f (n + zonePages) r)) (λ t. rw t (apart-run n (zone z ∷ joined f 0 r) (joined-apart f 0 r)))
+  joined-apart f n (direct k g ∷ r) = apart-run n _ (joined-apart f 0 r)
+  joined-apart f n (zone z ∷ r) = bool (f z) (λ t. rw t (joined-apart f _ r)) (λ t. rw t (apart-run n _ (joined-apart f 0 r)))
 
-  pub edit-apart : (b : Bool) (o : ℕ) (f : Segment Z → List (Segment Z)) (m : List (Segment Z)) (pl : Place Z) → locate o m ≡ some pl → ((c : Bool) (r : List (Segment Z)) → Apart c (pl .segment ∷ r) → Apart c (f (pl .segment) ++ r)) → Apart b m → Apart b (edit o f m)
-  edit-apart b o f [] pl e k h = tt
-  edit-apart b o f (x ∷ r) pl e k h = bool (ltb o (bytes x))
-      (λ t. rw t (let q : pl .segment ≡ x = sym (ap (λ p. p .segment) (some-inj (rw t at e))) in subst (λ y. Apart b (y ∷ r) → Apart b (f y ++ r)) q (k b r) h))
-      (λ t. rw t (go x h (λ c u. edit-apart c (o - bytes x) f r pl (rw t at e) k u)))
+  pub edit-apart : (b : Bool) (o : ℕ) (f : Segment Z → List (Segment Z)) (m : List (Segment Z)) {pl : Place Z} → locate o m ≡ some pl → ((c : Bool) (r : List (Segment Z)) → Apart c (pl .segment ∷ r) → Apart c (f (pl .segment) ++ r)) → Apart b m → Apart b (edit o f m)
+  edit-apart b o f [] e k h = tt
+  edit-apart b o f (x ∷ r) {pl} e k h = bool (ltb o (bytes x))
+      (λ t. rw t (let q : pl .segment ≡ x = sym (same-segment (rw t at e)) in rw q at (k b r) h))
+      (λ t. rw t (go x h (λ c u. edit-apart c _ f r (rw t at e) k u)))
     where
       go : (x : Segment Z) → Apart b (x ∷ r) → ((c : Bool) → Apart c r → Apart c (edit (o - bytes x) f r)) → Apart b (x ∷ edit (o - bytes x) f r)
       go (run j) u v = (u .0, u .1, v true (u .2))
@@ -150,8 +149,8 @@ module _ {Z : Type 0} where
   pub each-joined : (P : Segment Z → Type 0) → ((n : ℕ) → P (run n)) → (f : Z → Bool) (n : ℕ) (m : List (Segment Z)) → Each P m → Each P (joined f n m)
   each-joined P h f n [] k = each-run P h n [] tt
   each-joined P h f n (run j ∷ r) k = each-joined P h f (n + j) r (k .1)
-  each-joined P h f n (direct j g ∷ r) k = each-run P h n (direct j g ∷ joined f 0 r) (k .0, each-joined P h f 0 r (k .1))
-  each-joined P h f n (zone z ∷ r) k = bool (f z) (λ t. rw t (each-joined P h f (n + zonePages) r (k .1))) (λ t. rw t (each-run P h n (zone z ∷ joined f 0 r) (k .0, each-joined P h f 0 r (k .1))))
+  each-joined P h f n (direct j g ∷ r) k = each-run P h n _ (k .0, each-joined P h f 0 r (k .1))
+  each-joined P h f n (zone z ∷ r) k = bool (f z) (λ t. rw t (each-joined P h f _ r (k .1))) (λ t. rw t (each-run P h n _ (k .0, each-joined P h f 0 r (k .1))))
 
 module _ {A B : Type 0} (f : A → B) where
   pub withRun-retold : (n : ℕ) (m : List (Segment A)) → map (retold f) (withRun n m) ≡ withRun n (map (retold f) m)
@@ -161,11 +160,11 @@ module _ {A B : Type 0} (f : A → B) where
   pub joined-retold : (ia : A → Bool) (ib : B → Bool) → ((z : A) → ib (f z) ≡ ia z) → (n : ℕ) (m : List (Segment A)) → map (retold f) (joined ia n m) ≡ joined ib n (map (retold f) m)
   joined-retold ia ib e n [] = withRun-retold n []
   joined-retold ia ib e n (run k ∷ r) = joined-retold ia ib e (n + k) r
-  joined-retold ia ib e n (direct k g ∷ r) = withRun-retold n (direct k g ∷ joined ia 0 r) ∙ ap (λ l. withRun n (direct k g ∷ l)) (joined-retold ia ib e 0 r)
-  joined-retold ia ib e n (zone z ∷ r) = rw (e z) (bool (ia z) (λ t. rw t (joined-retold ia ib e (n + zonePages) r)) (λ t. rw t (withRun-retold n (zone z ∷ joined ia 0 r) ∙ ap (λ l. withRun n (zone (f z) ∷ l)) (joined-retold ia ib e 0 r))))
+  joined-retold ia ib e n (direct k g ∷ r) = cc (withRun-retold n _, joined-retold ia ib e 0 r)
+  joined-retold ia ib e n (zone z ∷ r) = rw (e z) (bool (ia z) (λ t. rw t (joined-retold ia ib e _ r)) (λ t. rw t (cc (withRun-retold n _, joined-retold ia ib e 0 r))))
 
   pub carve-retold : (h : FreeRun) (n : ℕ) (x : Segment A) (m : List (Segment A)) → map (retold f) (carve h n x m) ≡ carve h n (retold f x) (map (retold f) m)
-  carve-retold h n x m = edit-retold f (h .page * 4096) (λ _. x ∷ withRun (h .size - n) []) (λ _. retold f x ∷ withRun (h .size - n) []) (λ _. ap (λ l. retold f x ∷ l) (withRun-retold (h .size - n) [])) m
+  carve-retold h n x m = edit-retold f _ (λ _. x ∷ withRun (h .size - n) []) (λ _. retold f x ∷ withRun (h .size - n) []) (λ _. cc (withRun-retold _ [])) m
 
   pub release-retold : (o : ℕ) (m : List (Segment A)) → map (retold f) (release o m) ≡ release o (map (retold f) m)
-  release-retold o m = joined-retold (λ _. false) (λ _. false) (λ _. refl) 0 (edit o freePages m) ∙ ap (joined (λ _. false) 0) (edit-retold f o freePages freePages (λ x. ap (λ k. run k ∷ []) (sym (pages-retold f x))) m)
+  release-retold o m = cc (joined-retold (λ _. false) (λ _. false) (λ _. refl) 0 _, edit-retold f o freePages freePages (λ x. cc (pages-retold f x)) m)

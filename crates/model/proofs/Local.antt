@@ -1,17 +1,12 @@
 -- The join as document 01 says it: pages that come back are joined with a free run that ends where they begin and with one that
 -- begins where they end, both if both exist. That is the join of all that touches. Assumes nothing.
-use Prim.Native.Nat.{ℕ, zero, suc, _+_, _-_, _*_, _≤_, _<_}
-use mathlib.Core.Path.{_≡_, refl, sym, _∙_, ap, subst}
-use mathlib.Core.Logic.{_⊎_, inl, inr}
-use mathlib.Core.List.{List, [], _∷_, _++_, map, append-assoc, append-nil, List·Memᴰ, List·Memᴰ·not-nil, List·Memᴰ·cases-cons}
-use mathlib.Core.Option.{Option, none, some, Option·none-ne-some}
-use mathlib.Core.Bool.{Bool, true, false, cond}
+use Prim.Native.Nat.{ℕ, zero, suc, _+_, _-_, _<_}
+use mathlib.Core.Path.{_≡_, refl, _∙_, ap}
+use mathlib.Core.List.{List, [], _∷_, _++_}
+use mathlib.Core.Bool.{Bool, true, false}
 use native.Mathlib.Omega.{arith}
-use lib.Dec.{ltb, leb}
-use borrow.Author.Tests.{ltb-true, ltb-false, leb-true, leb-false, lt-ltb, le-ltb}
-use Rattle.lemmas.proofs.Cases.{bool, true-false, some-inj}
-use Rattle.model.specs.Arena.{Segment, run, direct, zone, pages, bytes, total, retold, Place, locate, edit, Each}
-use Rattle.model.specs.State.{Begins}
+use Rattle.lemmas.proofs.Cases.{true-false}
+use Rattle.model.specs.Arena.{Segment, run, direct, zone}
 use Rattle.model.specs.Valid.{Apart}
 use Rattle.model.specs.Pages.{withRun, joined}
 
@@ -33,17 +28,17 @@ module _ {Z : Type 0} where
 
   -- What stands before a segment that is no run is left as it is; n free pages stand before, or none.
   prefix : (a y : List (Segment Z)) → (Apart false a → endsRun false a ≡ false → rejoined 0 (a ++ y) ≡ a ++ rejoined 0 y) × ((n : ℕ) → 0 < n → Apart true a → endsRun true a ≡ false → rejoined n (a ++ y) ≡ run n ∷ (a ++ rejoined 0 y))
-  prefix [] y = (λ _ _. refl, λ n p h e. absurd (true-false refl e))
-  prefix (run k ∷ r) y = (λ h e. ap (λ n. rejoined n (r ++ y)) (let q : 0 + k ≡ k = omega arith in q) ∙ prefix r y .1 k (h .1) (h .2) e, λ n p h e. absurd (true-false refl (h .0)))
-  prefix (direct k g ∷ r) y = (λ h e. ap (λ l. direct k g ∷ l) (prefix r y .0 h e), λ n p h e. some-run n (direct k g ∷ rejoined 0 (r ++ y)) p ∙ ap (λ l. run n ∷ (direct k g ∷ l)) (prefix r y .0 h e))
-  prefix (zone z ∷ r) y = (λ h e. ap (λ l. zone z ∷ l) (prefix r y .0 h e), λ n p h e. some-run n (zone z ∷ rejoined 0 (r ++ y)) p ∙ ap (λ l. run n ∷ (zone z ∷ l)) (prefix r y .0 h e))
+  prefix [] y = (λ _ _. refl, λ n p h e. true-false refl e)
+  prefix (run k ∷ r) y = (λ h e. ap (λ n. rejoined n (r ++ y)) (let q : 0 + k ≡ k = omega arith in q) ∙ prefix r y .1 k (h .1) (h .2) e, λ n p h e. true-false refl (h .0))
+  prefix (direct k g ∷ r) y = (λ h e. cc (prefix r y .0 h e), λ n p h e. cc (some-run n _ p, prefix r y .0 h e))
+  prefix (zone z ∷ r) y = (λ h e. cc (prefix r y .0 h e), λ n p h e. cc (some-run n _ p, prefix r y .0 h e))
 
   -- Runs that stand apart stay.
   suffix : (b : List (Segment Z)) → (Apart false b → rejoined 0 b ≡ b) × ((n : ℕ) → 0 < n → Apart true b → rejoined n b ≡ run n ∷ b)
   suffix [] = (λ _. refl, λ n p _. some-run n [] p)
-  suffix (run k ∷ r) = (λ h. ap (λ n. rejoined n r) (let q : 0 + k ≡ k = omega arith in q) ∙ suffix r .1 k (h .1) (h .2), λ n p h. absurd (true-false refl (h .0)))
-  suffix (direct k g ∷ r) = (λ h. ap (λ l. direct k g ∷ l) (suffix r .0 h), λ n p h. some-run n (direct k g ∷ rejoined 0 r) p ∙ ap (λ l. run n ∷ (direct k g ∷ l)) (suffix r .0 h))
-  suffix (zone z ∷ r) = (λ h. ap (λ l. zone z ∷ l) (suffix r .0 h), λ n p h. some-run n (zone z ∷ rejoined 0 r) p ∙ ap (λ l. run n ∷ (zone z ∷ l)) (suffix r .0 h))
+  suffix (run k ∷ r) = (λ h. ap (λ n. rejoined n r) (let q : 0 + k ≡ k = omega arith in q) ∙ suffix r .1 k (h .1) (h .2), λ n p h. true-false refl (h .0))
+  suffix (direct k g ∷ r) = (λ h. cc (suffix r .0 h), λ n p h. cc (some-run n _ p, suffix r .0 h))
+  suffix (zone z ∷ r) = (λ h. cc (suffix r .0 h), λ n p h. cc (some-run n _ p, suffix r .0 h))
 
   run-in : (n x : ℕ) (r : List (Segment Z)) → rejoined n (withRun x r) ≡ rejoined (n + x) r
   run-in n zero r = ap (λ k. rejoined k r) (omega arith)
@@ -52,4 +47,4 @@ module _ {Z : Type 0} where
   -- n pages come back between a, b and the runs of x pages before them and y pages behind them, 0 where there is none.
   pub joined-local : (a b : List (Segment Z)) (x n y : ℕ) → 0 < n → Apart false a → endsRun false a ≡ false → Apart true b → rejoined 0 (a ++ withRun x (run n ∷ withRun y b)) ≡ a ++ (run (x + n + y) ∷ b)
   joined-local a b x n y p ha e hb =
-      prefix a (withRun x (run n ∷ withRun y b)) .0 ha e ∙ ap (λ l. a ++ l) (run-in 0 x (run n ∷ withRun y b) ∙ run-in (0 + x + n) y b ∙ suffix b .1 (0 + x + n + y) (omega arith) hb ∙ ap (λ k. run k ∷ b) (let q : 0 + x + n + y ≡ x + n + y = omega arith in q))
+      prefix a (withRun x (run n ∷ withRun y b)) .0 ha e ∙ ap (λ l. a ++ l) (run-in 0 x _ ∙ run-in (0 + x + n) y b ∙ suffix b .1 _ (omega arith) hb ∙ ap (λ k. run k ∷ b) (let q : 0 + x + n + y ≡ x + n + y = omega arith in q))

@@ -1,28 +1,25 @@
 -- Validity is kept where segments change and the lists do not, and where one zone, its class's list and the empty list change
 -- together. Assumes nothing.
-use Prim.Native.Nat.{ℕ, zero, suc, _+_, _-_, _*_, _/_, _≤_, _<_}
-use mathlib.Core.Path.{_≡_, refl, sym, _∙_, ap, subst}
+use Prim.Native.Nat.{ℕ, _+_, _-_, _*_, _≤_, _<_}
+use mathlib.Core.Path.{_≡_, refl, sym, _∙_, subst}
 use mathlib.Core.Logic.{_⊎_, inl, inr}
-use mathlib.Core.List.{List, [], _∷_, _++_, map, List·Memᴰ, List·Memᴰ·not-nil, List·Memᴰ·cases-cons, List·Memᴰ·head, List·Memᴰ·tail, List·Memᴰ·eq-of-singleton}
-use mathlib.Core.Option.{Option, none, some}
-use mathlib.Core.Bool.{Bool, true, false, cond, not, _&&_}
+use mathlib.Core.List.{List, [], _∷_, List·Memᴰ, List·Memᴰ·not-nil}
+use mathlib.Core.Option.{some}
+use mathlib.Core.Bool.{false}
 use native.Mathlib.Omega.{arith}
-use lib.Dec.{ltb, leb, eqb}
+use lib.Dec.{ltb, eqb}
 use lib.ListN.{length, getD, set, length-set, List·getD-eq-default}
 use lib.Seq.{getD-set-same, getD-set-other}
-use borrow.Author.Tests.{ltb-true, ltb-false, leb-true, eqb-true, eqb-false}
+use borrow.Author.Tests.{ltb-true, ltb-false, eqb-true, eqb-false}
 use Rattle.lemmas.specs.Times.{Distinct}
-use Rattle.lemmas.proofs.Cases.{bool, either, true-false, and-left, and-right, some-inj}
+use Rattle.lemmas.proofs.Cases.{bool, clash, by-eq}
 use Rattle.model.specs.Numbers.{classCount}
-use Rattle.model.specs.Sizes.{room, classOf, chunks, pagesFor}
-use Rattle.model.specs.Arena.{Segment, run, direct, zone, pages, total, Place, locate, edit, Each}
-use Rattle.model.specs.Zone.{Zone, full, newZone, nextChunk, granted, putBack}
-use Rattle.model.specs.State.{State, listOf, arranged, Begins, ZoneAt, zoneIn, zoneAt, putZone}
-use Rattle.model.specs.PageMap.{idleZone}
+use Rattle.model.specs.Arena.{Segment, run, zone, total, locate, Each}
+use Rattle.model.specs.Zone.{Zone, full}
+use Rattle.model.specs.State.{State, listOf, arranged, Begins, ZoneAt, putZone}
 use Rattle.model.specs.Valid.{Apart, ValidZone, ValidSegment, OpenAt, IdleAt, Valid}
-use Rattle.model.proofs.Arena.{total-edit, begins-kept, begins-new, begins-back, each-append, each-edit, each-locate}
-use Rattle.model.proofs.Joins.{cut-zone, run-append, apart-run, edit-apart, each-run}
-use Rattle.model.proofs.Zones.{by-eq}
+use Rattle.model.proofs.Arena.{total-edit, begins-kept, begins-new, begins-back, each-edit, each-locate, same-segment}
+use Rattle.model.proofs.Joins.{cut-zone, edit-apart}
 
 -- What stands on a list after one list was set.
 in-set : (ls : List (List ℕ)) (c k p : ℕ) (l : List ℕ) → List·Memᴰ p (getD (set ls c l) k []) → ((k ≡ c) × List·Memᴰ p l) ⊎ ((k ≡ c → ⊥) × List·Memᴰ p (getD ls k []))
@@ -30,30 +27,30 @@ in-set ls c k p l i = bool (eqb k c)
     (λ t. inl (
       eqb-true k c t,
       bool (ltb c (length ls))
-          (λ u. subst (List·Memᴰ p) (getD-set-same ls c l [] (ltb-true c (length ls) u)) (subst (λ j. List·Memᴰ p (getD (set ls c l) j [])) (eqb-true k c t) i))
-          (λ u. absurd (List·Memᴰ·not-nil (subst (List·Memᴰ p) (List·getD-eq-default (set ls c l) [] {n = k} (omega (arith, ltb-false c (length ls) u, length-set ls c l, eqb-true k c t))) i))),
+          (λ u. rw (getD-set-same ls c l [] (ltb-true c (length ls) u)) at (rw (eqb-true k c t) at i))
+          (λ u. absurd (List·Memᴰ·not-nil (rw (List·getD-eq-default (set ls c l) [] {n = k} (omega (arith, ltb-false, length-set ls c l, eqb-true))) at i))),
     ))
-    (λ t. inr (eqb-false k c t, subst (List·Memᴰ p) (getD-set-other ls c k l [] (eqb-false k c t)) i))
+    (λ t. inr (eqb-false k c t, rw (getD-set-other ls c k l [] (eqb-false k c t)) at i))
 
 once-set : (ls : List (List ℕ)) (c k : ℕ) (l : List ℕ) → Distinct l → Distinct (getD ls k []) → Distinct (getD (set ls c l) k [])
 once-set ls c k l a b = bool (eqb k c)
     (λ t. bool (ltb c (length ls))
-    (λ u. subst (λ j. Distinct (getD (set ls c l) j [])) (sym (eqb-true k c t)) (subst Distinct (sym (getD-set-same ls c l [] (ltb-true c (length ls) u))) a))
-    (λ u. subst Distinct (sym (List·getD-eq-default (set ls c l) [] {n = k} (omega (arith, ltb-false c (length ls) u, length-set ls c l, eqb-true k c t)))) tt))
-    (λ t. subst Distinct (sym (getD-set-other ls c k l [] (eqb-false k c t))) b)
+    (λ u. rw (eqb-true k c t) (rw (getD-set-same ls c l [] (ltb-true c (length ls) u)) a))
+    (λ u. rw (List·getD-eq-default (set ls c l) [] {n = k} (omega (arith, ltb-false, length-set ls c l, eqb-true))) tt))
+    (λ t. rw (getD-set-other ls c k l [] (eqb-false k c t)) b)
 
 in-here : (ls : List (List ℕ)) (c p : ℕ) (l : List ℕ) → c < length ls → List·Memᴰ p l → List·Memᴰ p (getD (set ls c l) c [])
-in-here ls c p l h i = subst (List·Memᴰ p) (sym (getD-set-same ls c l [] h)) i
+in-here ls c p l h i = rw (getD-set-same ls c l [] h) i
 
 in-other : (ls : List (List ℕ)) (c k p : ℕ) (l : List ℕ) → (k ≡ c → ⊥) → List·Memᴰ p (getD ls k []) → List·Memᴰ p (getD (set ls c l) k [])
-in-other ls c k p l ne i = subst (List·Memᴰ p) (sym (getD-set-other ls c k l [] ne)) i
+in-other ls c k p l ne i = rw (getD-set-other ls c k l [] ne) i
 
 zone-inj : (z y : Zone) → _≡_ {A = Segment Zone} (zone z) (zone y) → z ≡ y
 zone-inj z y e = cc
 
 -- At most one zone begins at a byte.
 pub one-zone : (m : List (Segment Zone)) (q : ℕ) (z y : Zone) → Begins q m (zone z) → Begins q m (zone y) → z ≡ y
-one-zone m q z y a b = zone-inj z y (ap (λ p. p .segment) (some-inj (sym a ∙ b)))
+one-zone m q z y a b = zone-inj z y (same-segment (sym a ∙ b))
 
 -- Segments change, lists do not ---------------------------------------------------------------------------------
 
@@ -67,8 +64,8 @@ pub record SameZones (s : State) (m : List (Segment Zone)) : Type 0 where
 
 pub same-zones : (s : State) (m : List (Segment Zone)) → Valid s → SameZones s m → Valid (arranged s m (s .lists) (s .spare))
 same-zones s m h v = record {
-  least = omega (arith, v .size, h .least);
-  most = omega (arith, v .size, h .most);
+  least = omega arith;
+  most = omega arith;
   apart = v .apart;
   sound = v .sound;
   classes = h .classes;
@@ -108,18 +105,18 @@ pub record Move (s : State) (m : List (Segment Zone)) (c p : ℕ) (l sp : List �
 
 pub rearranged : (s : State) (m : List (Segment Zone)) (c p : ℕ) (l sp : List ℕ) → Valid s → Move s m c p l sp → Valid (arranged s m (set (s .lists) c l) sp)
 rearranged s m c p l sp h v = record {
-  least = omega (arith, v .size, h .least);
-  most = omega (arith, v .size, h .most);
+  least = omega arith;
+  most = omega arith;
   apart = v .apart;
   sound = v .sound;
-  classes = length-set (s .lists) c l ∙ h .classes;
+  classes = cc (length-set (s .lists) c l);
   listed = λ k q i. list-case k q (in-set (s .lists) c k q l i);
   complete = λ q y b f. by-eq q p
-      (λ e. subst (λ j. List·Memᴰ j (getD (set (s .lists) c l) (y .class) []) ⊎ List·Memᴰ j sp) (sym e) (comp-here y (class-of q y b) (v .here-complete y (subst (λ j. ZoneAt m j y) e b) f)))
+      (λ e. rw e (comp-here y (class-of q y b) (v .here-complete y (rw e at b) f)))
       (λ ne. comp-old q y ne (class-of q y b) (h .complete q y (v .back q y b ne) f));
   few = v .few;
   spared = λ q i. by-eq q p
-      (λ e. subst (IdleAt m) (sym e) (v .here-spared (subst (λ j. List·Memᴰ j sp) e i)))
+      (λ e. rw e (v .here-spared (rw e at i)))
       (λ ne. let f = h .spared q (v .spare-old q ne i) in (f .0, v .kept q (f .0) (f .1) ne, f .2));
   once = λ k. once-set (s .lists) c k l (v .once) (h .once k);
   once-spare = v .once-spare;
@@ -127,15 +124,15 @@ rearranged s m c p l sp h v = record {
 }
   where
     class-of : (q : ℕ) (y : Zone) → ZoneAt m q y → y .class < classCount
-    class-of q y b = let k : ValidZone y = each-locate ValidSegment m (q * 4096) (record { away = 0; segment = zone y }) (v .sound) b in k .class
+    class-of q y b = let k : ValidZone y = each-locate ValidSegment m (q * 4096) (v .sound) b in k .class
 
     comp-here : (y : Zone) → y .class < classCount → ((y .class ≡ c) × List·Memᴰ p l) ⊎ List·Memᴰ p sp → List·Memᴰ p (getD (set (s .lists) c l) (y .class) []) ⊎ List·Memᴰ p sp
-    comp-here y u (inl a) = inl (subst (λ k. List·Memᴰ p (getD (set (s .lists) c l) k [])) (sym (a .0)) (in-here (s .lists) c p l (omega (arith, h .classes, a .0)) (a .1)))
+    comp-here y u (inl a) = inl (subst (λ k. List·Memᴰ p (getD (set (s .lists) c l) k [])) (sym (a .0)) (in-here (s .lists) c p l (omega arith) (a .1)))
     comp-here y u (inr a) = inr a
 
     comp-old : (q : ℕ) (y : Zone) → (q ≡ p → ⊥) → y .class < classCount → List·Memᴰ q (listOf s (y .class)) ⊎ List·Memᴰ q (s .spare) → List·Memᴰ q (getD (set (s .lists) c l) (y .class) []) ⊎ List·Memᴰ q sp
     comp-old q y ne u (inl a) = inl (by-eq (y .class) c
-        (λ e. subst (λ k. List·Memᴰ q (getD (set (s .lists) c l) k [])) (sym e) (in-here (s .lists) c q l (omega (arith, h .classes, e)) (v .list-kept q ne (subst (λ k. List·Memᴰ q (listOf s k)) e a))))
+        (λ e. rw e (in-here (s .lists) c q l (omega arith) (v .list-kept q ne (rw e at a))))
         (λ nc. in-other (s .lists) c (y .class) q l nc a))
     comp-old q y ne u (inr a) = inr (v .spare-kept q ne a)
 
@@ -144,48 +141,48 @@ rearranged s m c p l sp h v = record {
 
     list-case : (k q : ℕ) → ((k ≡ c) × List·Memᴰ q l) ⊎ ((k ≡ c → ⊥) × List·Memᴰ q (listOf s k)) → OpenAt m k q
     list-case k q (inl a) = by-eq q p
-        (λ e. subst (λ j. OpenAt m j q) (sym (a .0)) (subst (OpenAt m c) (sym e) (v .here-listed (subst (λ j. List·Memᴰ j l) e (a .1)))))
+        (λ e. subst (λ j. OpenAt m j q) (sym (a .0)) (rw e (v .here-listed (rw e at (a .1)))))
         (λ ne. subst (λ j. OpenAt m j q) (sym (a .0)) (old c q ne (v .list-old q ne (a .1))))
     list-case k q (inr a) = by-eq q p
-        (λ e. absurd (v .alone k (a .0) (subst (λ j. List·Memᴰ j (listOf s k)) e (a .1))))
+        (λ e. absurd (v .alone k (a .0) (rw e at (a .1))))
         (λ ne. old k q ne (a .1))
 
     apart-case : (k q : ℕ) → List·Memᴰ q sp → ((k ≡ c) × List·Memᴰ q l) ⊎ ((k ≡ c → ⊥) × List·Memᴰ q (listOf s k)) → ⊥
     apart-case k q j (inl a) = by-eq q p
-        (λ e. v .here-once (subst (λ x. List·Memᴰ x l) e (a .1)) (subst (λ x. List·Memᴰ x sp) e j))
+        (λ e. v .here-once (rw e at (a .1)) (rw e at j))
         (λ ne. h .not-both c q (v .list-old q ne (a .1)) (v .spare-old q ne j))
     apart-case k q j (inr a) = by-eq q p
-        (λ e. v .alone k (a .0) (subst (λ x. List·Memᴰ x (listOf s k)) e (a .1)))
+        (λ e. v .alone k (a .0) (rw e at (a .1)))
         (λ ne. h .not-both k q (a .1) (v .spare-old q ne j))
 
 -- A zone gives way to another --------------------------------------------------------------------------------------
 
 module _ (m : List (Segment Zone)) (p : ℕ) (z z′ : Zone) (b : ZoneAt m p z) where
   pub put-size : total (putZone p z′ m) ≡ total m
-  put-size = total-edit (p * 4096) (λ _. zone z′ ∷ []) m (record { away = 0; segment = zone z }) b refl
+  put-size = total-edit (p * 4096) (λ _. zone z′ ∷ []) m b refl
 
   pub put-kept : (q : ℕ) (y : Zone) → ZoneAt m q y → (q ≡ p → ⊥) → ZoneAt (putZone p z′ m) q y
-  put-kept q y a ne = begins-kept (p * 4096) (λ _. zone z′ ∷ []) m (record { away = 0; segment = zone z }) b refl (q * 4096) (zone y) a (λ e. ne (omega arith))
+  put-kept q y a ne = begins-kept (p * 4096) (λ _. zone z′ ∷ []) m b refl (q * 4096) (zone y) a (λ e. ne (omega arith))
 
   pub put-new : ZoneAt (putZone p z′ m) p z′
-  put-new = begins-new (p * 4096) (λ _. zone z′ ∷ []) m (record { away = 0; segment = zone z }) b (p * 4096) (zone z′) [] (omega arith) refl (omega arith)
+  put-new = begins-new (p * 4096) (λ _. zone z′ ∷ []) m b (p * 4096) (zone z′) [] (omega arith) refl (omega arith)
 
   pub put-sound : ValidZone z′ → Each ValidSegment m → Each ValidSegment (putZone p z′ m)
   put-sound k h = each-edit ValidSegment (p * 4096) (λ _. zone z′ ∷ []) (λ _ _. (k, tt)) m h
 
   pub put-back : (q : ℕ) (y : Zone) → ZoneAt (putZone p z′ m) q y → (q ≡ p → ⊥) → ZoneAt m q y
-  put-back q y a ne = go (begins-back (p * 4096) (λ _. zone z′ ∷ []) m (record { away = 0; segment = zone z }) b refl (q * 4096) (zone y) a)
+  put-back q y a ne = go (begins-back (p * 4096) (λ _. zone z′ ∷ []) m b refl (q * 4096) (zone y) a)
     where
       go : ZoneAt m q y ⊎ ((d : ℕ) × (q * 4096 + 0 ≡ p * 4096 + d) × (locate d (zone z′ ∷ []) ≡ some (record { away = 0; segment = zone y }))) → ZoneAt m q y
       go (inl x) = x
-      go (inr x) = absurd (ne (omega (arith, x .1, cut-zone (zone z′) 0 (x .0) y (x .2) .0)))
+      go (inr x) = absurd (ne (omega (arith, cut-zone (zone z′) 0 (x .0) y (x .2) .0)))
 
   pub put-apart : Apart false m → Apart false (putZone p z′ m)
-  put-apart h = edit-apart false (p * 4096) (λ _. zone z′ ∷ []) m (record { away = 0; segment = zone z }) b (λ c r k. k) h
+  put-apart h = edit-apart false (p * 4096) (λ _. zone z′ ∷ []) m b (λ c r k. k) h
 
   pub put-is : (y : Zone) → ZoneAt (putZone p z′ m) p y → y ≡ z′
   put-is y a = one-zone (putZone p z′ m) (p * 4096) y z′ a put-new
 
 -- No run begins where a zone does.
 pub not-run : (m : List (Segment Zone)) (q k : ℕ) (z : Zone) → Begins q m (run k) → Begins q m (zone z) → ⊥
-not-run m q k z a b = let e : run k ≡ zone z = ap (λ p. p .segment) (some-inj (sym a ∙ b)) in let w : _≡_ {A = ℕ} 0 1 = cc in omega arith
+not-run m q k z a b = let e : run k ≡ zone z = same-segment (sym a ∙ b) in clash (cc)

@@ -1,6 +1,6 @@
 -- Every call keeps the arena's pages: it covers as many after as before. Assumes nothing.
 use Prim.Native.Nat.{ℕ}
-use mathlib.Core.Path.{_≡_, refl, sym, _∙_, ap}
+use mathlib.Core.Path.{_≡_, refl, sym, _∙_}
 use mathlib.Core.Option.{Option, none, some}
 use mathlib.Core.Bool.{Bool, true, false}
 use native.Mathlib.Omega.{arith}
@@ -41,10 +41,10 @@ allocate-total s h g n = go (allocated s h g n)
   where
     go : {r : ℕ} → Allocated s g r (allocate g n s) → Same s ((allocate g n s) .after)
     go (gives o b ans fresh grp rm only) = map-same s ((allocate g n s) .after) (only .2)
-    go (denies k ans st) = ap (λ t. total (t .segments)) st
+    go (denies k ans st) = cc
 
 free-total : (s : State) (g o : ℕ) → Same s ((free g o s) .after)
-free-total s g o = guarded (groupOk g) _ s (freeBlock g o s (blockAt (pageMap s) o)) (go (blockAt (pageMap s) o) refl)
+free-total s g o = guarded (groupOk g) _ s _ (go (blockAt (pageMap s) o) refl)
   where
     go : (b : Option Block) → blockAt (pageMap s) o ≡ b → Same s ((freeBlock g o s b) .after)
     go none e = refl

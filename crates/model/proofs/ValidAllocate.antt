@@ -1,32 +1,32 @@
 -- Allocation keeps validity. Assumes nothing.
-use Prim.Native.Nat.{ℕ, zero, suc, _+_, _-_, _*_, _/_, _≤_, _<_}
+use Prim.Native.Nat.{ℕ, _+_, _-_, _*_, _≤_, _<_}
 use mathlib.Core.Path.{_≡_, refl, sym, _∙_, ap, subst}
 use mathlib.Core.Logic.{_⊎_, inl, inr}
-use mathlib.Core.List.{List, [], _∷_, _++_, map, List·Memᴰ, List·Memᴰ·not-nil, List·Memᴰ·cases-cons, List·Memᴰ·head, List·Memᴰ·tail, List·Memᴰ·eq-of-singleton}
+use mathlib.Core.List.{List, [], _∷_, _++_, List·Memᴰ, List·Memᴰ·not-nil, List·Memᴰ·cases-cons, List·Memᴰ·head, List·Memᴰ·tail, List·Memᴰ·eq-of-singleton}
 use mathlib.Core.Option.{Option, none, some}
-use mathlib.Core.Bool.{Bool, true, false, cond, not, _&&_}
+use mathlib.Core.Bool.{Bool, false, cond}
 use native.Mathlib.Omega.{arith}
-use lib.Dec.{ltb, leb, eqb}
-use lib.ListN.{length, getD, set}
-use borrow.Author.Tests.{ltb-true, ltb-false, leb-true}
+use lib.Dec.{ltb}
+use lib.ListN.{length}
+use borrow.Author.Tests.{ltb-true, ltb-false}
 use Rattle.lemmas.specs.Times.{Distinct}
-use Rattle.lemmas.proofs.Cases.{bool, either}
+use Rattle.lemmas.proofs.Cases.{bool, either, clash}
 use Rattle.model.specs.Numbers.{mostGroup, classCount}
 use Rattle.model.specs.Sizes.{classOf, pagesFor}
-use Rattle.model.specs.Arena.{Segment, run, direct, zone, pages, total, locate, edit, Each}
+use Rattle.model.specs.Arena.{Segment, run, direct, zone, pages, total, locate, Each}
 use Rattle.model.specs.Zone.{Zone, full, newZone, nextChunk, granted}
-use Rattle.model.specs.State.{State, listOf, arranged, Begins, ZoneAt, zoneAt, putZone}
-use Rattle.model.specs.Valid.{Apart, ValidZone, ValidSegment, OpenAt, Valid}
+use Rattle.model.specs.State.{State, listOf, Begins, ZoneAt}
+use Rattle.model.specs.Valid.{Apart, ValidZone, ValidSegment, Valid}
 use Rattle.model.specs.Pages.{FreeRun, claim, withRun, carve}
-use Rattle.model.specs.Calls.{Outcome, groupOk, sizeOk}
-use Rattle.model.specs.Allocate.{directFrom, zoneFrom, fromSpare, served, chunkFrom, supplied, allocate}
-use Rattle.model.proofs.Sizes.{Classed, classed}
+use Rattle.model.specs.Calls.{groupOk, sizeOk}
+use Rattle.model.specs.Allocate.{directFrom, zoneFrom, fromSpare, served, chunkFrom, allocate}
+use Rattle.model.proofs.Sizes.{classed}
 use Rattle.model.proofs.Arena.{total-edit, begins-kept, begins-new, begins-back, each-edit, each-locate}
 use Rattle.model.proofs.Claim.{claim-found}
 use Rattle.model.proofs.Joins.{cut-zone, run-append, apart-run, edit-apart, each-run, total-withRun}
 use Rattle.model.proofs.Zones.{new-valid, new-open, Grants, grants}
 use Rattle.model.proofs.Allocated.{group-least, group-most, size-least}
-use Rattle.model.proofs.Moves.{one-zone, not-run, SameZones, same-zones, Move, rearranged, put-size, put-kept, put-new, put-sound, put-back, put-apart, put-is}
+use Rattle.model.proofs.Moves.{one-zone, not-run, same-zones, rearranged, put-size, put-kept, put-new, put-sound, put-back, put-apart, put-is}
 
 -- A member of a list other than its first stands behind it.
 behind : (q p : ℕ) (ps : List ℕ) → (q ≡ p → ⊥) → List·Memᴰ q (p ∷ ps) → List·Memᴰ q ps
@@ -49,44 +49,44 @@ module _ (m : List (Segment Zone)) (n : ℕ) (x : Segment Zone) (h : FreeRun) (p
   fills = omega (arith, total-withRun {Z = Zone} (h .size - n) [], claim-found n m h pos e .1)
 
   carved-size : total carved ≡ total m
-  carved-size = total-edit (h .page * 4096) (λ _. x ∷ withRun (h .size - n) []) m (record { away = 0; segment = run (h .size) }) there fills
+  carved-size = total-edit _ (λ _. x ∷ withRun (h .size - n) []) m there fills
 
   carved-sound : ValidSegment x → Each ValidSegment m → Each ValidSegment carved
-  carved-sound k ok = each-edit ValidSegment (h .page * 4096) (λ _. x ∷ withRun (h .size - n) []) (λ _ _. (k, each-run ValidSegment (λ _. tt) (h .size - n) [] tt)) m ok
+  carved-sound k ok = each-edit ValidSegment _ (λ _. x ∷ withRun (h .size - n) []) (λ _ _. (k, each-run ValidSegment (λ _. tt) (h .size - n) [] tt)) m ok
 
   carved-kept : (q : ℕ) (y : Zone) → ZoneAt m q y → ZoneAt carved q y
-  carved-kept q y b = begins-kept (h .page * 4096) (λ _. x ∷ withRun (h .size - n) []) m (record { away = 0; segment = run (h .size) }) there fills (q * 4096) (zone y) b
-      (λ z. not-run m (q * 4096) (h .size) y (subst (λ k. Begins k m (run (h .size))) (let w : h .page * 4096 ≡ q * 4096 = omega arith in w) there) b)
+  carved-kept q y b = begins-kept _ (λ _. x ∷ withRun (h .size - n) []) m there fills (q * 4096) (zone y) b
+      (λ z. not-run m (q * 4096) (h .size) y (rw (let w : h .page * 4096 ≡ q * 4096 = omega arith in w) at there) b)
 
   carved-new : Begins (h .page * 4096) carved x
-  carved-new = begins-new (h .page * 4096) (λ _. x ∷ withRun (h .size - n) []) m (record { away = 0; segment = run (h .size) }) there (h .page * 4096) x (withRun (h .size - n) []) (omega arith) refl (omega arith)
+  carved-new = begins-new _ (λ _. x ∷ withRun (h .size - n) []) m there _ x _ (omega arith) refl (omega arith)
 
   -- A zone that begins after the carving began before it, or is what was put in.
   carved-back : (q : ℕ) (y : Zone) → ZoneAt carved q y → ZoneAt m q y ⊎ ((q ≡ h .page) × (x ≡ zone y))
-  carved-back q y b = go (begins-back (h .page * 4096) (λ _. x ∷ withRun (h .size - n) []) m (record { away = 0; segment = run (h .size) }) there fills (q * 4096) (zone y) b)
+  carved-back q y b = go (begins-back _ (λ _. x ∷ withRun (h .size - n) []) m there fills (q * 4096) (zone y) b)
     where
       go : ZoneAt m q y ⊎ ((d : ℕ) × (q * 4096 + 0 ≡ h .page * 4096 + d) × (locate d (x ∷ withRun (h .size - n) []) ≡ some (record { away = 0; segment = zone y }))) → ZoneAt m q y ⊎ ((q ≡ h .page) × (x ≡ zone y))
       go (inl a) = inl a
-      go (inr a) = let c = cut-zone x (h .size - n) (a .0) y (a .2) in inr (omega (arith, a .1, c .0), c .1)
+      go (inr a) = let c = cut-zone x (h .size - n) (a .0) y (a .2) in inr (omega arith, c .1)
 
   carved-apart : ((c : Bool) (r : List (Segment Zone)) → Apart false r → Apart c (x ∷ r)) → Apart false m → Apart false carved
-  carved-apart k ok = edit-apart false (h .page * 4096) (λ _. x ∷ withRun (h .size - n) []) m (record { away = 0; segment = run (h .size) }) there
-      (λ c r a. k c (withRun (h .size - n) [] ++ r) (rw (run-append (h .size - n) r) (apart-run (h .size - n) r (a .2)))) ok
+  carved-apart k ok = edit-apart false _ (λ _. x ∷ withRun (h .size - n) []) m there
+      (λ c r a. k c (withRun (h .size - n) [] ++ r) (rw (run-append _ r) (apart-run (h .size - n) r (a .2)))) ok
 
 module _ (s : State) (h : Valid s) (g : ℕ) (least : 0 < g) (most : g ≤ mostGroup) where
   direct-valid : (n : ℕ) → 0 < n → (o : Option FreeRun) → claim n (s .segments) ≡ o → Valid ((directFrom n g s o) .after)
   direct-valid n pos none e = h
-  direct-valid n pos (some o) e = same-zones s (carve o n (direct n g) (s .segments)) h (record {
-    size = carved-size (s .segments) n (direct n g) o pos refl e;
-    apart = carved-apart (s .segments) n (direct n g) o pos refl e (λ c r k. k) (h .apart);
-    sound = carved-sound (s .segments) n (direct n g) o pos refl e (pos, least, most) (h .sound);
-    kept = carved-kept (s .segments) n (direct n g) o pos refl e;
-    back = λ q y b. go q y (carved-back (s .segments) n (direct n g) o pos refl e q y b);
+  direct-valid n pos (some o) e = same-zones s _ h (record {
+    size = carved-size _ n _ o pos refl e;
+    apart = carved-apart _ n _ o pos refl e (λ c r k. k) (h .apart);
+    sound = carved-sound _ n _ o pos refl e (pos, least, most) (h .sound);
+    kept = carved-kept _ n _ o pos refl e;
+    back = λ q y b. go q y (carved-back _ n _ o pos refl e q y b);
   })
     where
       go : (q : ℕ) (y : Zone) → ZoneAt (s .segments) q y ⊎ ((q ≡ o .page) × (_≡_ {A = Segment Zone} (direct n g) (zone y))) → ZoneAt (s .segments) q y
       go q y (inl a) = a
-      go q y (inr a) = absurd (let u = a .1 in let w : _≡_ {A = ℕ} 0 1 = cc in omega arith)
+      go q y (inr a) = let u = a .1 in clash (cc)
 
   module _ (c : ℕ) (class : c < classCount) where
     -- A new zone at page p, where no zone was or an idle one, is the only one on its class's list.
@@ -96,22 +96,22 @@ module _ (s : State) (h : Valid s) (g : ℕ) (least : 0 < g) (most : g ≤ mostG
         let p = o .page in
         let new = zone (newZone c g) in
         let m = carve o 8 new (s .segments) in
-        let run-there = claim-found 8 (s .segments) o (omega arith) e .0 in
-        let begun : ZoneAt m p (newZone c g) = carved-new (s .segments) 8 new o (omega arith) refl e in
+        let run-there = claim-found 8 _ o (omega arith) e .0 in
+        let begun : ZoneAt m p (newZone c g) = carved-new _ 8 new o (omega arith) refl e in
         let no-zone : (z : Zone) → ZoneAt (s .segments) p z → ⊥ = λ z. not-run (s .segments) (p * 4096) (o .size) z run-there in
         rearranged s m c p (p ∷ []) (s .spare) h (record {
-          size = carved-size (s .segments) 8 new o (omega arith) refl e;
-          apart = carved-apart (s .segments) 8 new o (omega arith) refl e (λ k r a. a) (h .apart);
-          sound = carved-sound (s .segments) 8 new o (omega arith) refl e (new-valid c g class least most) (h .sound);
-          kept = λ q y b ne. carved-kept (s .segments) 8 new o (omega arith) refl e q y b;
-          back = λ q y b ne. go q y ne (carved-back (s .segments) 8 new o (omega arith) refl e q y b);
+          size = carved-size _ 8 new o (omega arith) refl e;
+          apart = carved-apart _ 8 new o (omega arith) refl e (λ k r a. a) (h .apart);
+          sound = carved-sound _ 8 new o (omega arith) refl e (new-valid c g class least most) (h .sound);
+          kept = λ q y b ne. carved-kept _ 8 new o (omega arith) refl e q y b;
+          back = λ q y b ne. go q y ne (carved-back _ 8 new o (omega arith) refl e q y b);
           alone = λ k ne i. let w = h .listed k p i in no-zone (w .0) (w .1);
           here-listed = λ _. (newZone c g, begun, refl, new-open c g class);
           here-spared = λ i. absurd (let w = h .spared p i in no-zone (w .0) (w .1));
-          here-complete = λ y b _. inl (ap (λ k. k .class) (one-zone m (p * 4096) y (newZone c g) b begun), List·Memᴰ·head refl);
+          here-complete = λ y b _. inl (cc (one-zone m (p * 4096) y _ b begun), List·Memᴰ·head refl);
           here-once = λ _ i. let w = h .spared p i in no-zone (w .0) (w .1);
           list-old = λ q ne i. absurd (ne (List·Memᴰ·eq-of-singleton i));
-          list-kept = λ q ne i. absurd (List·Memᴰ·not-nil (subst (List·Memᴰ q) el i));
+          list-kept = λ q ne i. absurd (List·Memᴰ·not-nil (rw el at i));
           spare-old = λ q ne i. i;
           spare-kept = λ q ne i. i;
           once = (λ i. List·Memᴰ·not-nil i, tt);
@@ -126,13 +126,13 @@ module _ (s : State) (h : Valid s) (g : ℕ) (least : 0 < g) (most : g ≤ mostG
     spare-valid : listOf s c ≡ [] → (l : List ℕ) → s .spare ≡ l → Valid ((fromSpare c g s l) .after)
     spare-valid el [] e = zone-valid el (claim 8 (s .segments)) refl
     spare-valid el (p ∷ ps) e =
-        let inn : List·Memᴰ p (s .spare) = subst (List·Memᴰ p) (sym e) (List·Memᴰ·head refl) in
+        let inn : List·Memᴰ p (s .spare) = rw e (List·Memᴰ·head refl) in
         let w = h .spared p inn in
-        let nd : Distinct (p ∷ ps) = subst (λ l. Distinct l) e (h .once-spare) in
+        let nd : Distinct (p ∷ ps) = rw e at (h .once-spare) in
         let m = s .segments in
         let z = w .0 in
         let z′ = newZone c g in
-        rearranged s (putZone p z′ m) c p (p ∷ []) ps h (record {
+        rearranged s _ c p (p ∷ []) ps h (record {
           size = put-size m p z z′ (w .1);
           apart = put-apart m p z z′ (w .1) (h .apart);
           sound = put-sound m p z z′ (w .1) (new-valid c g class least most) (h .sound);
@@ -141,38 +141,38 @@ module _ (s : State) (h : Valid s) (g : ℕ) (least : 0 < g) (most : g ≤ mostG
           alone = λ k ne i. h .not-both k p i inn;
           here-listed = λ _. (z′, put-new m p z z′ (w .1), refl, new-open c g class);
           here-spared = λ i. absurd (nd .0 i);
-          here-complete = λ y b _. inl (ap (λ k. k .class) (put-is m p z z′ (w .1) y b), List·Memᴰ·head refl);
+          here-complete = λ y b _. inl (cc (put-is m p z z′ (w .1) y b), List·Memᴰ·head refl);
           here-once = λ _ i. nd .0 i;
           list-old = λ q ne i. absurd (ne (List·Memᴰ·eq-of-singleton i));
-          list-kept = λ q ne i. absurd (List·Memᴰ·not-nil (subst (List·Memᴰ q) el i));
-          spare-old = λ q ne i. subst (List·Memᴰ q) (sym e) (List·Memᴰ·tail i);
-          spare-kept = λ q ne i. behind q p ps ne (subst (List·Memᴰ q) e i);
+          list-kept = λ q ne i. absurd (List·Memᴰ·not-nil (rw el at i));
+          spare-old = λ q ne i. rw e (List·Memᴰ·tail i);
+          spare-kept = λ q ne i. behind q p ps ne (rw e at i);
           once = (λ i. List·Memᴰ·not-nil i, tt);
           once-spare = nd .1;
-          few = omega (arith, ap length e, h .few);
+          few = omega (arith, ap length e);
         })
 
     -- The first zone of its class's list serves.
     served-valid : (p : ℕ) (ps : List ℕ) (z : Zone) → listOf s c ≡ p ∷ ps → ZoneAt (s .segments) p z → z .class ≡ c → Grants g (nextChunk z) z (granted g z) → Valid ((served c g p ps s z) .after)
     served-valid p ps z e b k G =
         let z′ = granted g z in
-        let inn : List·Memᴰ p (listOf s c) = subst (List·Memᴰ p) (sym e) (List·Memᴰ·head refl) in
-        let nd : Distinct (p ∷ ps) = subst (λ l. Distinct l) e (h .once c) in
+        let inn : List·Memᴰ p (listOf s c) = rw e (List·Memᴰ·head refl) in
+        let nd : Distinct (p ∷ ps) = rw e at (h .once c) in
         let m = s .segments in
-        rearranged s (putZone p z′ m) c p (cond (full z′) ps (p ∷ ps)) (s .spare) h (record {
+        rearranged s _ c p _ (s .spare) h (record {
           size = put-size m p z z′ b;
           apart = put-apart m p z z′ b (h .apart);
           sound = put-sound m p z z′ b (G .stays-valid) (h .sound);
           kept = put-kept m p z z′ b;
           back = put-back m p z z′ b;
-          alone = λ n ne j. let w = h .listed n p j in ne (sym (w .2) ∙ ap (λ y. y .class) (one-zone m (p * 4096) (w .0) z (w .1) b) ∙ k);
+          alone = λ n ne j. let w = h .listed n p j in ne (cc (one-zone m (p * 4096) (w .0) z (w .1) b));
           here-listed = bool (full z′) (λ t. rw t (λ j. absurd (nd .0 j))) (λ t _. (z′, put-new m p z z′ b, G .same-class ∙ k, t));
           here-spared = λ j. absurd (h .not-both c p inn j);
           here-complete = λ y a f. let y-is = put-is m p z z′ b y a in
-              inl (ap (λ x. x .class) y-is ∙ G .same-class ∙ k, subst (λ t. List·Memᴰ p (cond t ps (p ∷ ps))) (sym f ∙ ap full y-is) (List·Memᴰ·head refl));
+              inl (cc, subst (λ t. List·Memᴰ p (cond t ps (p ∷ ps))) (sym f ∙ ap full y-is) (List·Memᴰ·head refl));
           here-once = λ _ j. h .not-both c p inn j;
-          list-old = λ q ne j. subst (List·Memᴰ q) (sym e) (bool (full z′) (λ t. List·Memᴰ·tail (rw t at j)) (λ t. rw t at j));
-          list-kept = λ q ne j. bool (full z′) (λ t. rw t (behind q p ps ne (subst (List·Memᴰ q) e j))) (λ t. rw t (subst (List·Memᴰ q) e j));
+          list-old = λ q ne j. rw e (bool (full z′) (λ t. List·Memᴰ·tail (rw t at j)) (λ t. rw t at j));
+          list-kept = λ q ne j. bool (full z′) (λ t. rw t (behind q p ps ne (rw e at j))) (λ t. rw t (rw e at j));
           spare-old = λ q ne j. j;
           spare-kept = λ q ne j. j;
           once = either (λ l. Distinct l) (full z′) ps (p ∷ ps) (λ _. nd .1) (λ _. nd);
@@ -183,8 +183,8 @@ module _ (s : State) (h : Valid s) (g : ℕ) (least : 0 < g) (most : g ≤ mostG
     pub chunk-valid : (l : List ℕ) → listOf s c ≡ l → Valid ((chunkFrom c g s l) .after)
     chunk-valid [] e = spare-valid e (s .spare) refl
     chunk-valid (p ∷ ps) e =
-        let w = h .listed c p (subst (List·Memᴰ p) (sym e) (List·Memᴰ·head refl)) in
-        let ok : ValidZone (w .0) = each-locate ValidSegment (s .segments) (p * 4096) (record { away = 0; segment = zone (w .0) }) (h .sound) (w .1) in
+        let w = h .listed c p (rw e (List·Memᴰ·head refl)) in
+        let ok : ValidZone (w .0) = each-locate ValidSegment (s .segments) (p * 4096) (h .sound) (w .1) in
         rw (w .1) (served-valid p ps (w .0) e (w .1) (w .2) (grants g least most (w .0) ok (w .3)))
 
 pub allocate-valid : (s : State) → Valid s → (g n : ℕ) → Valid ((allocate g n s) .after)
@@ -192,6 +192,6 @@ allocate-valid s h g n = bool (groupOk g)
     (λ t. rw t (bool (sizeOk n)
     (λ u. rw u (bool (ltb n 8192)
     (λ v. rw v (chunk-valid s h g (group-least g t) (group-most g t) (classOf n) (classed n (size-least n u) (ltb-true n 8192 v) .below) (listOf s (classOf n)) refl))
-    (λ v. rw v (direct-valid s h g (group-least g t) (group-most g t) (pagesFor n) (omega (arith, ltb-false n 8192 v)) (claim (pagesFor n) (s .segments)) refl))))
+    (λ v. rw v (direct-valid s h g (group-least g t) (group-most g t) _ (omega (arith, ltb-false)) (claim (pagesFor n) (s .segments)) refl))))
     (λ u. rw u h)))
     (λ t. rw t h)

@@ -1,33 +1,33 @@
 -- Freeing and reset keep validity. Assumes nothing.
-use Prim.Native.Nat.{ℕ, zero, suc, _+_, _-_, _*_, _/_, _≤_, _<_}
+use Prim.Native.Nat.{ℕ, _+_, _-_, _*_, _<_}
 use mathlib.Core.Path.{_≡_, refl, sym, _∙_, ap, subst}
 use mathlib.Core.Logic.{_⊎_, inl, inr}
-use mathlib.Core.List.{List, [], _∷_, _++_, map, List·Memᴰ, List·Memᴰ·not-nil, List·Memᴰ·cases-cons, List·Memᴰ·head, List·Memᴰ·tail}
+use mathlib.Core.List.{List, [], _∷_, List·Memᴰ, List·Memᴰ·cases-cons, List·Memᴰ·head, List·Memᴰ·tail}
 use mathlib.Core.Option.{Option, none, some}
-use mathlib.Core.Bool.{Bool, true, false, cond, not, _&&_}
+use mathlib.Core.Bool.{true, false, cond, _&&_}
 use native.Mathlib.Omega.{arith}
-use lib.Dec.{ltb, leb, eqb}
-use lib.ListN.{length, getD, set}
-use borrow.Author.Tests.{ltb-true, ltb-false}
+use lib.Dec.{ltb, eqb}
+use lib.ListN.{length, set}
+use borrow.Author.Tests.{ltb-true}
 use Rattle.lemmas.specs.Times.{Distinct, remove}
-use Rattle.lemmas.proofs.Cases.{bool, either, true-false, and-left, some-inj}
+use Rattle.lemmas.proofs.Cases.{bool, either, true-false, and-left, clash}
 use Rattle.lemmas.proofs.Distinct.{remove-in, remove-keeps, remove-gone, remove-distinct}
 use Rattle.model.specs.Numbers.{mostSpare}
-use Rattle.model.specs.Sizes.{room, chunks}
+use Rattle.model.specs.Sizes.{chunks}
 use Rattle.model.specs.Arena.{Segment, run, direct, zone, pages, total, locate, edit, Each}
 use Rattle.model.specs.Zone.{Zone, full, putBack}
-use Rattle.model.specs.State.{State, listOf, arranged, Begins, ZoneAt, zoneAt, putZone}
-use Rattle.model.specs.PageMap.{padded, occupancy, pageMap, idleZone, Block, whole, chunk, groupOf, blockAt}
-use Rattle.model.specs.Valid.{Apart, ValidZone, ValidSegment, OpenAt, Valid}
-use Rattle.model.specs.Pages.{joined, freePages, release}
-use Rattle.model.specs.Calls.{Outcome, groupOk}
-use Rattle.model.specs.Free.{retired, settled, chunkBack, freed, freeBlock, free, freedIf, freedAll, offsetsOf, reset}
-use Rattle.model.proofs.Arena.{total-edit, begins-kept, begins-new, begins-back, each-edit, each-locate}
+use Rattle.model.specs.State.{State, listOf, arranged, Begins, ZoneAt, putZone}
+use Rattle.model.specs.PageMap.{padded, pageMap, idleZone, Block, whole, chunk, groupOf, blockAt}
+use Rattle.model.specs.Valid.{Apart, ValidZone, ValidSegment, Valid}
+use Rattle.model.specs.Pages.{freePages, release}
+use Rattle.model.specs.Calls.{groupOk}
+use Rattle.model.specs.Free.{chunkBack, freed, freeBlock, free, freedIf, freedAll, offsetsOf, reset}
+use Rattle.model.proofs.Arena.{total-edit, begins-kept, begins-new, begins-back, each-edit, each-locate, same-segment}
 use Rattle.model.proofs.Joins.{cut-zone, joined-begins, joined-back, joined-apart, each-joined, total-joined}
 use Rattle.model.proofs.Zones.{putBack-valid, putBack-open}
 use Rattle.model.proofs.Blocks.{allZero-getD, padded-in}
 use Rattle.model.proofs.Freed.{direct-at, ChunkAt, chunk-at, freed-chunk}
-use Rattle.model.proofs.Moves.{one-zone, not-run, SameZones, same-zones, Move, rearranged, put-size, put-kept, put-new, put-sound, put-back, put-apart, put-is}
+use Rattle.model.proofs.Moves.{one-zone, not-run, same-zones, Move, rearranged, put-size, put-kept, put-new, put-sound, put-back, put-apart, put-is}
 
 -- Pages come back: the segment x that begins at o is released --------------------------------------------------------
 
@@ -36,7 +36,7 @@ module _ (m : List (Segment Zone)) (o : ℕ) (x : Segment Zone) (b : Begins o m 
   opened = edit o freePages m
 
   released-size : total (release o m) ≡ total m
-  released-size = total-joined (λ _. false) 0 opened ∙ omega (arith, total-edit o freePages m (record { away = 0; segment = x }) b (omega arith))
+  released-size = total-joined (λ _. false) 0 opened ∙ omega (arith, total-edit o freePages m b (omega arith))
 
   released-sound : Each ValidSegment m → Each ValidSegment (release o m)
   released-sound h = each-joined ValidSegment (λ _. tt) (λ _. false) 0 opened (each-edit ValidSegment o freePages (λ _ _. (tt, tt)) m h)
@@ -45,18 +45,18 @@ module _ (m : List (Segment Zone)) (o : ℕ) (x : Segment Zone) (b : Begins o m 
   released-apart = joined-apart (λ _. false) 0 opened
 
   released-kept : (q : ℕ) (y : Zone) → ZoneAt m q y → (q * 4096 ≡ o → ⊥) → ZoneAt (release o m) q y
-  released-kept q y a ne = joined-begins (λ _. false) opened (q * 4096) y refl (begins-kept o freePages m (record { away = 0; segment = x }) b (omega arith) (q * 4096) (zone y) a (λ e. ne (omega arith)))
+  released-kept q y a ne = joined-begins (λ _. false) opened (q * 4096) y refl (begins-kept o freePages m b (omega arith) (q * 4096) (zone y) a (λ e. ne (omega arith)))
 
   released-back : (q : ℕ) (y : Zone) → ZoneAt (release o m) q y → ZoneAt m q y
-  released-back q y a = go (begins-back o freePages m (record { away = 0; segment = x }) b (omega arith) (q * 4096) (zone y) (joined-back (λ _. false) opened (q * 4096) y refl a))
+  released-back q y a = go (begins-back o freePages m b (omega arith) (q * 4096) (zone y) (joined-back (λ _. false) opened (q * 4096) y refl a))
     where
       go : ZoneAt m q y ⊎ ((d : ℕ) × (q * 4096 + 0 ≡ o + d) × (locate d (run (pages x) ∷ []) ≡ some (record { away = 0; segment = zone y }))) → ZoneAt m q y
       go (inl a) = a
-      go (inr a) = absurd (let u : run (pages x) ≡ zone y = cut-zone (run (pages x)) 0 (a .0) y (a .2) .1 in let w : _≡_ {A = ℕ} 0 1 = cc in omega arith)
+      go (inr a) = let u : run (pages x) ≡ zone y = cut-zone _ 0 (a .0) y (a .2) .1 in clash (cc)
 
   -- No zone is left there.
   released-gone : 0 < pages x → (q : ℕ) → q * 4096 ≡ o → (y : Zone) → ZoneAt (release o m) q y → ⊥
-  released-gone pos q e y a = not-run opened (q * 4096) (pages x) y (begins-new o freePages m (record { away = 0; segment = x }) b (q * 4096) (run (pages x)) [] (omega arith) refl pos) (joined-back (λ _. false) opened (q * 4096) y refl a)
+  released-gone pos q e y a = not-run opened (q * 4096) (pages x) y (begins-new o freePages m b (q * 4096) _ [] (omega arith) refl pos) (joined-back (λ _. false) opened (q * 4096) y refl a)
 
 -- A chunk comes back -------------------------------------------------------------------------------------------------
 
@@ -78,25 +78,25 @@ module _ (s : State) (h : Valid s) (o c i g : ℕ) (C : ChunkAt s o c i g) where
   relisted = cond (full z) (p ∷ listOf s c) (listOf s c)
 
   z-valid : ValidZone z
-  z-valid = each-locate ValidSegment (s .segments) (p * 4096) (record { away = 0; segment = zone z }) (h .sound) (C .there)
+  z-valid = each-locate ValidSegment (s .segments) (p * 4096) (h .sound) (C .there)
 
   z′-valid : ValidZone z′
-  z′-valid = putBack-valid i z z-valid (omega (arith, C .owner, C .live))
+  z′-valid = putBack-valid i z z-valid (omega arith)
 
   -- The zone has a live chunk, so it is not on the empty list.
   not-spare : List·Memᴰ p (s .spare) → ⊥
   not-spare j =
       let w = h .spared p j in
       let e = one-zone (s .segments) (p * 4096) (w .0) z (w .1) (C .there) in
-      let inside : i < chunks (z .class) = omega (arith, C .inside, ap chunks (C .class)) in
-      omega (arith, allZero-getD (padded (chunks (z .class)) (z .owners)) (ap idleZone (sym e) ∙ w .2) i, padded-in (chunks (z .class)) (z .owners) i inside, C .owner, C .live)
+      let inside : i < chunks (z .class) = omega (arith, ap chunks (C .class)) in
+      omega (arith, allZero-getD (padded (chunks (z .class)) (z .owners)) (cc) i, padded-in _ (z .owners) i inside)
 
   -- It stands on no other class's list, nor on its own if it was full.
   own-class : (k : ℕ) → List·Memᴰ p (listOf s k) → (k ≡ c) × (full z ≡ false)
   own-class k j =
       let w = h .listed k p j in
       let e = one-zone (s .segments) (p * 4096) (w .0) z (w .1) (C .there) in
-      (sym (w .2) ∙ ap (λ y. y .class) e ∙ C .class, ap full (sym e) ∙ w .3)
+      (cc, cc)
 
   relisted-once : Distinct relisted
   relisted-once = either (λ l. Distinct l) (full z) (p ∷ listOf s c) (listOf s c) (λ t. (λ j. true-false t (own-class c j .1), h .once c)) (λ _. h .once c)
@@ -129,7 +129,7 @@ module _ (s : State) (h : Valid s) (o c i g : ℕ) (C : ChunkAt s o c i g) where
     alone = λ k ne j. ne (own-class k j .0);
     here-listed = λ _. (z′, put-new (s .segments) p z z′ (C .there), C .class, putBack-open i z);
     here-spared = λ j. absurd (not-spare j);
-    here-complete = λ y a _. inl (ap (λ k. k .class) (put-is (s .segments) p z z′ (C .there) y a) ∙ C .class, relisted-here);
+    here-complete = λ y a _. inl (cc (put-is (s .segments) p z z′ (C .there) y a), relisted-here);
     here-once = λ _ j. not-spare j;
     list-old = relisted-old;
     list-kept = λ q ne j. relisted-kept q j;
@@ -194,8 +194,8 @@ module _ (s : State) (h : Valid s) (o c i g : ℕ) (C : ChunkAt s o c i g) where
   pub chunkBack-valid : Valid (chunkBack c i p z s)
   chunkBack-valid = either Valid (idleZone z′ && ltb 1 (length relisted)) _ _
       (λ t. either Valid (ltb (length (s .spare)) mostSpare) _ _
-      (λ u. rearranged s chained c p (remove p relisted) (p ∷ s .spare) h (retires (and-left (idleZone z′) (ltb 1 (length relisted)) t) (ltb-true (length (s .spare)) 2 u)))
-      (λ _. rearranged s (release (p * 4096) chained) c p (remove p relisted) (s .spare) h returns))
+      (λ u. rearranged s chained c p _ _ h (retires (and-left _ _ t) (ltb-true _ 2 u)))
+      (λ _. rearranged s _ c p _ (s .spare) h returns))
       (λ _. stays-valid)
 
 -- Any block comes back -----------------------------------------------------------------------------------------------
@@ -203,17 +203,17 @@ module _ (s : State) (h : Valid s) (o c i g : ℕ) (C : ChunkAt s o c i g) where
 pub freed-valid : (s : State) → Valid s → (o : ℕ) (b : Block) → blockAt (pageMap s) o ≡ some b → Valid (freed o b s)
 freed-valid s h o (whole n g) e =
     let b = direct-at s o n g e in
-    same-zones s (release o (s .segments)) h (record {
-      size = released-size (s .segments) o (direct n g) b;
-      apart = released-apart (s .segments) o (direct n g) b;
-      sound = released-sound (s .segments) o (direct n g) b (h .sound);
-      kept = λ q y a. released-kept (s .segments) o (direct n g) b q y a (λ z. not-zone y (ap (λ p. p .segment) (some-inj (sym b ∙ ap (λ k. locate k (s .segments)) (sym z) ∙ a))));
-      back = released-back (s .segments) o (direct n g) b;
+    same-zones s _ h (record {
+      size = released-size (s .segments) o _ b;
+      apart = released-apart (s .segments) o _ b;
+      sound = released-sound (s .segments) o _ b (h .sound);
+      kept = λ q y a. released-kept (s .segments) o _ b q y a (λ z. not-zone y (same-segment (sym b ∙ ap (λ k. locate k (s .segments)) (sym z) ∙ a)));
+      back = released-back (s .segments) o _ b;
     })
   where
     not-zone : (y : Zone) → _≡_ {A = Segment Zone} (direct n g) (zone y) → ⊥
-    not-zone y u = let w : _≡_ {A = ℕ} 0 1 = cc in omega arith
-freed-valid s h o (chunk c i g) e = let C = chunk-at s o c i g e in subst Valid (sym (freed-chunk s o c i g C)) (chunkBack-valid s h o c i g C)
+    not-zone y u = clash (cc)
+freed-valid s h o (chunk c i g) e = let C = chunk-at s o c i g e in rw (freed-chunk s o c i g C) (chunkBack-valid s h o c i g C)
 
 freedIf-valid : (s : State) → Valid s → (o : ℕ) (b : Option Block) → blockAt (pageMap s) o ≡ b → Valid (freedIf o b s)
 freedIf-valid s h o none e = h
@@ -221,7 +221,7 @@ freedIf-valid s h o (some b) e = freed-valid s h o b e
 
 pub freedAll-valid : (l : List ℕ) (s : State) → Valid s → Valid (freedAll l s)
 freedAll-valid [] s h = h
-freedAll-valid (o ∷ r) s h = freedAll-valid r (freedIf o (blockAt (pageMap s) o) s) (freedIf-valid s h o (blockAt (pageMap s) o) refl)
+freedAll-valid (o ∷ r) s h = freedAll-valid r _ (freedIf-valid s h o (blockAt (pageMap s) o) refl)
 
 pub free-valid : (s : State) → Valid s → (g o : ℕ) → Valid ((free g o s) .after)
 free-valid s h g o = bool (groupOk g) (λ t. rw t (go (blockAt (pageMap s) o) refl)) (λ t. rw t h)

@@ -1,31 +1,28 @@
 -- Every call keeps validity, and a refused call leaves everything as it was. Assumes nothing.
-use Prim.Native.Nat.{ℕ, zero, suc, _*_, _≤_, _<_}
-use mathlib.Core.Path.{_≡_, refl, sym, _∙_, ap, subst}
-use mathlib.Core.List.{List, [], _∷_, List·Memᴰ, List·Memᴰ·not-nil}
+use Prim.Native.Nat.{ℕ, _*_, _≤_, _<_}
+use mathlib.Core.Path.{_≡_, refl, sym, _∙_, ap}
+use mathlib.Core.List.{List, [], List·Memᴰ·not-nil}
 use mathlib.Core.Option.{Option, none, some}
-use mathlib.Core.Bool.{Bool, true, false, cond, _&&_}
+use mathlib.Core.Bool.{Bool, true, false, _&&_}
 use native.Mathlib.Omega.{arith}
 use lib.Dec.{ltb, leb, eqb}
 use lib.ListN.{length, getD, replicate, length-replicate, getD-replicate, List·getD-eq-default}
 use borrow.Author.Tests.{ltb-true, ltb-false, leb-true}
-use Rattle.lemmas.specs.Times.{Distinct}
-use Rattle.lemmas.proofs.Cases.{bool, true-false, and-left, and-right, some-inj}
+use Rattle.lemmas.proofs.Cases.{bool, true-false, and-left, and-right, clash}
 use Rattle.model.specs.Numbers.{classCount, mostPages}
 use Rattle.model.specs.declared.Refusal.{Refusal}
 use Rattle.model.specs.declared.Operation.{Operation}
 use Rattle.model.specs.declared.Operation.the-variants.{Allocate, Free, Reset}
-use Rattle.model.specs.declared.Answer.{Answer}
-use Rattle.model.specs.Arena.{Segment, run, zone, total, locate, Each}
+use Rattle.model.specs.Arena.{Segment, run, zone, total, Each}
 use Rattle.model.specs.Zone.{Zone}
-use Rattle.model.specs.State.{State, listOf, freshState, ZoneAt}
+use Rattle.model.specs.State.{State, freshState, ZoneAt}
 use Rattle.model.specs.PageMap.{pageMap, Block, groupOf, blockAt}
 use Rattle.model.specs.Valid.{Apart, ValidSegment, Valid}
-use Rattle.model.specs.Pages.{FreeRun, claim}
-use Rattle.model.specs.Calls.{Action, group, trim, query, listing, Command, init, act, Outcome, isRefused, provided, groupOk, sizeOk}
-use Rattle.model.specs.Allocate.{directFrom, zoneFrom, fromSpare, chunkFrom, supplied, allocate}
-use Rattle.model.specs.Free.{freeBlock, free, reset}
+use Rattle.model.specs.Calls.{Action, group, trim, query, listing, Command, init, act, Outcome, isRefused, provided, groupOk}
+use Rattle.model.specs.Allocate.{allocate}
+use Rattle.model.specs.Free.{freeBlock, free}
 use Rattle.model.specs.Listing.{listingText, listInto}
-use Rattle.model.specs.Perform.{asked, serve, Metadata, wordsFor, holding, initialise, onState, perform}
+use Rattle.model.specs.Perform.{asked, serve, Metadata, wordsFor, initialise, onState, perform}
 use Rattle.model.proofs.Joins.{cut-zone}
 use Rattle.model.proofs.Allocated.{Allocated, gives, denies, allocated}
 use Rattle.model.proofs.ValidAllocate.{allocate-valid}
@@ -35,7 +32,7 @@ use Rattle.model.proofs.ValidTrim.{trimmed-valid}
 -- The fresh state -----------------------------------------------------------------------------------------------------
 
 fresh-list : (n c : ℕ) → getD {A = List ℕ} (replicate n []) c [] ≡ []
-fresh-list n c = bool (ltb c n) (λ t. getD-replicate n c [] [] (ltb-true c n t)) (λ t. List·getD-eq-default (replicate n []) [] {n = c} (omega (arith, ltb-false c n t, length-replicate {A = List ℕ} n [])))
+fresh-list n c = bool (ltb c n) (λ t. getD-replicate n c [] [] (ltb-true c n t)) (λ t. List·getD-eq-default (replicate n []) [] {n = c} (omega (arith, ltb-false, length-replicate {A = List ℕ} n [])))
 
 -- A state of valid segments with no zone among them and nothing on its lists is valid.
 pub bare-valid : (m : List (Segment Zone)) → 0 < total m → total m ≤ mostPages → Apart false m → Each ValidSegment m
@@ -46,18 +43,18 @@ bare-valid m least most apart sound bare = record {
   apart = apart;
   sound = sound;
   classes = length-replicate {A = List ℕ} classCount [];
-  listed = λ c p i. absurd (List·Memᴰ·not-nil (subst (List·Memᴰ p) (fresh-list classCount c) i));
+  listed = λ c p i. absurd (List·Memᴰ·not-nil (rw (fresh-list classCount c) at i));
   complete = λ p z b f. absurd (bare p z b);
   few = omega arith;
   spared = λ p i. absurd (List·Memᴰ·not-nil i);
-  once = λ c. subst (λ l. Distinct l) (sym (fresh-list classCount c)) tt;
+  once = λ c. rw (fresh-list classCount c) tt;
   once-spare = tt;
   not-both = λ c p i j. List·Memᴰ·not-nil j;
 }
 
 pub fresh-valid : (n : ℕ) → 0 < n → n ≤ mostPages → Valid (freshState n)
-fresh-valid n least most = bare-valid (run n ∷ []) (omega arith) (omega arith) (refl, least, tt) (tt, tt)
-    (λ p z b. let u : run n ≡ zone z = cut-zone (run n) 0 (p * 4096) z b .1 in let v : _≡_ {A = ℕ} 0 1 = cc in omega arith)
+fresh-valid n least most = bare-valid _ (omega arith) (omega arith) (refl, least, tt) (tt, tt)
+    (λ p z b. let u : run n ≡ zone z = cut-zone (run n) 0 (p * 4096) z b .1 in clash (cc))
 
 -- Calls on a valid state ------------------------------------------------------------------------------------------------
 
@@ -73,7 +70,7 @@ pub serve-valid : (s : State) → Valid s → (a : Action) → Valid ((serve s a
 serve-valid s h (group c) = asked-valid s h (c .group) (c .operation)
 serve-valid s h trim = trimmed-valid s h
 serve-valid s h (query o) = h
-serve-valid s h (listing n) = subst Valid (sym (listing-same n s)) h
+serve-valid s h (listing n) = rw (listing-same n s) h
 
 -- A call on lent words: whatever they held before, a state that they hold after is valid if the state before was.
 abbrev pub Holds : Option State → Type 0
@@ -82,7 +79,7 @@ Holds (some s) = Valid s
 
 init-valid : (m : Metadata) (n : ℕ) → Holds (m .state) → Holds ((initialise m n) .after .state)
 init-valid m n h = bool (leb 1 n && leb n mostPages)
-    (λ t. rw t (bool (leb (wordsFor n) (m .words)) (λ u. rw u (fresh-valid n (leb-true 1 n (and-left (leb 1 n) (leb n mostPages) t)) (leb-true n mostPages (and-right (leb 1 n) (leb n mostPages) t)))) (λ u. rw u h)))
+    (λ t. rw t (bool (leb (wordsFor n) (m .words)) (λ u. rw u (fresh-valid n (leb-true 1 n (and-left (leb 1 n) _ t)) (leb-true n mostPages (and-right (leb 1 n) _ t)))) (λ u. rw u h)))
     (λ t. rw t h)
 
 pub perform-valid : (m : Metadata) (c : Command) → Holds (m .state) → Holds ((perform m c) .after .state)
@@ -90,7 +87,7 @@ perform-valid m (init n) h = init-valid m n h
 perform-valid m (act a) h = go (m .state) refl h
   where
     go : (x : Option State) → m .state ≡ x → Holds x → Holds ((onState m a x) .after .state)
-    go none e k = subst Holds (sym e) k
+    go none e k = rw e k
     go (some s) e k = serve-valid s k a
 
 -- Refusals --------------------------------------------------------------------------------------------------------------
@@ -107,30 +104,30 @@ allocate-leaves : (s : State) → Valid s → (g n : ℕ) → Leaves s (allocate
 allocate-leaves s h g n = go (allocated s h g n)
   where
     go : {r : ℕ} → Allocated s g r (allocate g n s) → Leaves s (allocate g n s)
-    go (gives o b ans fresh grp rm only) = λ t. absurd (true-false t (ap isRefused ans))
+    go (gives o b ans fresh grp rm only) = λ t. true-false t (ap isRefused ans)
     go (denies k ans st) = λ _. st
 
 free-leaves : (s : State) (g o : ℕ) → Leaves s (free g o s)
-free-leaves s g o = guarded (groupOk g) _ s (freeBlock g o s (blockAt (pageMap s) o)) (go (blockAt (pageMap s) o))
+free-leaves s g o = guarded (groupOk g) _ s _ (go (blockAt (pageMap s) o))
   where
     go : (b : Option Block) → Leaves s (freeBlock g o s b)
     go none = λ _. refl
-    go (some b) = guarded (eqb (groupOf b) g) _ s _ (λ t. absurd (true-false t refl))
+    go (some b) = guarded (eqb (groupOf b) g) _ s _ (λ t. true-false t refl)
 
 asked-leaves : (s : State) → Valid s → (g : ℕ) (q : Operation) → Leaves s (asked g q s)
 asked-leaves s h g (Allocate n) = allocate-leaves s h g n
 asked-leaves s h g (Free o) = free-leaves s g o
-asked-leaves s h g Reset = guarded (groupOk g) _ s _ (λ t. absurd (true-false t refl))
+asked-leaves s h g Reset = guarded (groupOk g) _ s _ (λ t. true-false t refl)
 
 pub serve-leaves : (s : State) → Valid s → (a : Action) → Leaves s (serve s a)
 serve-leaves s h (group c) = asked-leaves s h (c .group) (c .operation)
-serve-leaves s h trim = λ t. absurd (true-false t refl)
+serve-leaves s h trim = λ t. true-false t refl
 serve-leaves s h (query o) = λ _. refl
 serve-leaves s h (listing n) = λ _. listing-same n s
 
 -- A refused call leaves the lent words' number and state.
 pub perform-leaves : (m : Metadata) (c : Command) → Holds (m .state) → isRefused ((perform m c) .answer) ≡ true → (perform m c) .after ≡ m
-perform-leaves m (init n) h = guarded (leb 1 n && leb n mostPages) _ m _ (guarded (leb (wordsFor n) (m .words)) _ m _ (λ t. absurd (true-false t refl)))
+perform-leaves m (init n) h = guarded (leb 1 n && leb n mostPages) _ m _ (guarded (leb (wordsFor n) (m .words)) _ m _ (λ t. true-false t refl))
 perform-leaves m (act a) h = go (m .state) refl h
   where
     go : (x : Option State) → m .state ≡ x → Holds x → Leaves m (onState m a x)

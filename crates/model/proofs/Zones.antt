@@ -1,28 +1,23 @@
 -- The steps of one zone: what they do to its chunks, and that a valid zone stays valid. Facts that the 64 classes share are
 -- proved over the class. Assumes nothing.
-use Prim.Native.Nat.{ℕ, zero, suc, _+_, _-_, _*_, _≤_, _<_}
-use mathlib.Core.Path.{_≡_, refl, sym, _∙_, ap, subst}
-use mathlib.Core.Logic.{_⊎_, inl, inr}
+use Prim.Native.Nat.{ℕ, zero, suc, _+_, _-_, _≤_, _<_}
+use mathlib.Core.Path.{_≡_, refl, sym, _∙_, ap}
 use mathlib.Core.List.{List, [], _∷_, _++_}
-use mathlib.Core.Bool.{Bool, true, false, cond, _&&_}
+use mathlib.Core.Bool.{false}
 use native.Mathlib.Omega.{arith}
 use native.Mathlib.Nat.{le-refl}
-use lib.Dec.{ltb, leb, eqb}
+use lib.Dec.{ltb, leb}
 use lib.ListN.{length, getD, set, length-append, length-set, List·getD-eq-default}
 use lib.Seq.{getD-set-same, getD-set-other, set-out, getD-append-seam}
-use borrow.Author.Tests.{ltb-true, ltb-false, le-leb, lt-leb, eqb-true, eqb-false}
+use borrow.Author.Tests.{ltb-true, ltb-false, le-leb, lt-leb}
 use Rattle.lemmas.specs.Times.{times}
-use Rattle.lemmas.proofs.Cases.{bool, true-false, and-false}
+use Rattle.lemmas.proofs.Cases.{bool, true-false, and-false, by-eq}
 use Rattle.lemmas.proofs.Times.{times-nil, times-here, times-there}
 use Rattle.model.specs.Numbers.{mostGroup, classCount}
 use Rattle.model.specs.Sizes.{chunks}
 use Rattle.model.specs.Zone.{Zone, touched, hasUntouched, isNil, full, newZone, firstOf, nextChunk, unchained, granted, putBack}
 use Rattle.model.specs.Valid.{returnedAt, ValidZone}
 use Rattle.model.proofs.Sizes.{chunks-least}
-
--- A number is another, or it is not.
-pub by-eq {ℓ} : {P : Type ℓ} (q p : ℕ) → (q ≡ p → P) → ((q ≡ p → ⊥) → P) → P
-by-eq q p f g = bool (eqb q p) (λ t. f (eqb-true q p t)) (λ t. g (eqb-false q p t))
 
 -- Lists of owners ---------------------------------------------------------------------------------------------
 
@@ -45,7 +40,7 @@ pub returned-is : (l : List ℕ) (i : ℕ) → 0 < returnedAt l i → (i < lengt
 returned-is [] i h = absurd (omega arith)
 returned-is (zero ∷ r) zero h = (omega arith, refl)
 returned-is (suc g ∷ r) zero h = absurd (omega arith)
-returned-is (x ∷ r) (suc i) h = let f = returned-is r i h in (omega (arith, f .0), f .1)
+returned-is (x ∷ r) (suc i) h = let f = returned-is r i h in (omega arith, f .1)
 
 returned-live : (l : List ℕ) (i : ℕ) → 0 < getD l i 0 → returnedAt l i ≡ 0
 returned-live [] i h = refl
@@ -109,7 +104,7 @@ module _ (g : ℕ) (g-least : 0 < g) (g-most : g ≤ mostGroup) (z : Zone) (v : 
   grants-untouched h = record {
     same-class = refl;
     inside = h;
-    was-free = List·getD-eq-default (z .owners) 0 (le-refl (length (z .owners)));
+    was-free = List·getD-eq-default (z .owners) 0 (le-refl _);
     is-owned = getD-append-seam (z .owners) g [] 0;
     others = snoc-other g (z .owners);
     stays-valid = record {
@@ -123,34 +118,34 @@ module _ (g : ℕ) (g-least : 0 < g) (g-most : g ≤ mostGroup) (z : Zone) (v : 
   -- The chain's first.
   grants-chained : (i : ℕ) (r : List ℕ) → z .chain ≡ i ∷ r → Grants g i z (record { class = z .class; owners = set (z .owners) i g; chain = r })
   grants-chained i r e =
-      let here : times i (z .chain) ≡ suc (times i r) = ap (times i) e ∙ times-here i r refl in
-      let f = returned-is (z .owners) i (omega (arith, here, v .chained i)) in
+      let here : times i (z .chain) ≡ suc (times i r) = cc (times-here i r refl) in
+      let f = returned-is (z .owners) i (omega (arith, v .chained i)) in
       let one : returnedAt (z .owners) i ≡ 1 = returned-zero (z .owners) i (f .0) (f .1) in
       let owned : getD (set (z .owners) i g) i 0 ≡ g = getD-set-same (z .owners) i g 0 (f .0) in
       record {
         same-class = refl;
-        inside = omega (arith, f .0, v .fits);
+        inside = omega arith;
         was-free = f .1;
         is-owned = owned;
         others = λ j ne. getD-set-other (z .owners) i j g 0 ne;
         stays-valid = record {
           class = v .class;
-          fits = omega (arith, length-set (z .owners) i g, v .fits);
-          groups = λ j. by-eq j i (λ x. omega (arith, ap (λ n. getD (set (z .owners) i g) n 0) x, owned)) (λ ne. omega (arith, getD-set-other (z .owners) i j g 0 ne, v .groups j));
+          fits = omega (arith, length-set (z .owners) i g);
+          groups = λ j. by-eq j i (λ x. omega (arith, ap (λ n. getD (set (z .owners) i g) n 0) x)) (λ ne. omega (arith, getD-set-other (z .owners) i j g 0 ne, v .groups j));
           chained = λ j. by-eq j i
-              (λ x. rw x (omega (arith, here, one, v .chained i, returned-live (set (z .owners) i g) i (omega (arith, owned)))))
-              (λ ne. sym (times-there j r ne) ∙ ap (times j) (sym e) ∙ v .chained j ∙ sym (returned-set-other (z .owners) i j g ne));
+              (λ x. rw x (omega (arith, v .chained i, returned-live (set (z .owners) i g) i (omega arith))))
+              (λ ne. cc (times-there j r ne, v .chained j, returned-set-other (z .owners) i j g ne));
         };
       }
 
   -- A zone that is not full grants its next chunk.
   pub grants : full z ≡ false → Grants g (nextChunk z) z (granted g z)
   grants h = bool (hasUntouched z)
-      (λ t. rw t (grants-untouched (ltb-true (touched z) (chunks (z .class)) t)))
-      (λ t. rw t (go (z .chain) refl (rw (le-leb (chunks (z .class)) (touched z) (ltb-false (touched z) (chunks (z .class)) t)) at h)))
+      (λ t. rw t (grants-untouched (ltb-true (touched z) _ t)))
+      (λ t. rw t (go (z .chain) refl (rw (le-leb _ (touched z) (ltb-false (touched z) _ t)) at h)))
     where
       go : (l : List ℕ) → z .chain ≡ l → isNil l ≡ false → Grants g (firstOf l) z (unchained g z l)
-      go [] e u = absurd (true-false refl u)
+      go [] e u = true-false refl u
       go (i ∷ r) e u = grants-chained i r e
 
 -- A chunk is put back ------------------------------------------------------------------------------------------
@@ -158,7 +153,7 @@ module _ (g : ℕ) (g-least : 0 < g) (g-most : g ≤ mostGroup) (z : Zone) (v : 
 pub putBack-valid : (i : ℕ) (z : Zone) → ValidZone z → 0 < getD (z .owners) i 0 → ValidZone (putBack i z)
 putBack-valid i z v p = record {
   class = v .class;
-  fits = omega (arith, length-set (z .owners) i 0, v .fits);
+  fits = omega (arith, length-set (z .owners) i 0);
   groups = λ j. by-eq j i (λ x. omega (arith, ap (λ n. getD (set (z .owners) i 0) n 0) x, set-zero (z .owners) i)) (λ ne. omega (arith, getD-set-other (z .owners) i j 0 0 ne, v .groups j));
   chained = λ j. by-eq j i
       (λ x. rw x (times-here i (z .chain) refl ∙ omega (arith, v .chained i, returned-live (z .owners) i p, returned-zero (set (z .owners) i 0) i (omega (arith, length-set (z .owners) i 0, owned-touched (z .owners) i p)) (set-zero (z .owners) i))))

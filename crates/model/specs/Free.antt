@@ -2,9 +2,10 @@
 use Prim.Native.Nat.{ℕ, _+_, _-_, _*_, _/_}
 use mathlib.Core.List.{List, [], _∷_, _++_}
 use mathlib.Core.Option.{Option, none, some}
-use mathlib.Core.Bool.{Bool, true, false, cond, _&&_}
+use mathlib.Core.Bool.{cond, _&&_}
 use lib.Dec.{ltb, eqb}
 use lib.ListN.{length, set}
+use Rattle.lemmas.specs.Keep.{putIf}
 use Rattle.lemmas.specs.Times.{remove}
 use Rattle.model.specs.Numbers.{pageBytes, mostSpare}
 use Rattle.model.specs.declared.Refusal.the-variants.{BadGroup, NoBlock, OtherGroup}
@@ -50,10 +51,6 @@ free g o s = provided (groupOk g) BadGroup s (freeBlock g o s (blockAt (pageMap 
 
 -- The offsets, ascending, at which a block of the group begins: in a zone's groups from o on, every r bytes; in a segment at
 -- o; in segments from o on.
-abbrev pub putIf : Bool → ℕ → List ℕ → List ℕ
-putIf true o l = o ∷ l
-putIf false o l = l
-
 abbrev pub chunkOffsets : ℕ → ℕ → ℕ → List ℕ → List ℕ
 chunkOffsets g o r [] = []
 chunkOffsets g o r (x ∷ l) = putIf (eqb x g) o (chunkOffsets g (o + r) r l)

@@ -8,7 +8,7 @@ use lib.ListN.{length}
 use Rattle.model.specs.Numbers.{zonePages}
 use Rattle.model.specs.declared.Refusal.the-variants.{ShortBuffer}
 use Rattle.model.specs.declared.Answer.the-variants.{Counted}
-use Rattle.model.specs.Arena.{Segment, run, direct, zone, pages}
+use Rattle.model.specs.Arena.{run, direct, zone}
 use Rattle.model.specs.State.{State}
 use Rattle.model.specs.PageMap.{PageMap, pageMap}
 use Rattle.model.specs.Ascii.{ascii}

@@ -4,7 +4,6 @@ use Prim.Native.Nat.{ℕ, _*_}
 use mathlib.Core.Path.{_≡_}
 use mathlib.Core.List.{List, [], _∷_}
 use mathlib.Core.Option.{Option, none, some}
-use mathlib.Core.Bool.{Bool, true, false}
 use lib.ListN.{getD, replicate}
 use Rattle.model.specs.Numbers.{pageBytes, classCount}
 use Rattle.model.specs.Arena.{Segment, run, direct, zone, Place, locate, edit}

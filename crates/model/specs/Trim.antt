@@ -1,8 +1,8 @@
 -- Trim (document 01: tidy) and query (ask). Assumes nothing.
-use Prim.Native.Nat.{ℕ, zero, suc, _*_}
+use Prim.Native.Nat.{ℕ, suc}
 use mathlib.Core.List.{List, [], _∷_, map}
 use mathlib.Core.Option.{Option, none, some}
-use mathlib.Core.Bool.{Bool, true, false, cond, not}
+use mathlib.Core.Bool.{cond, not}
 use Rattle.lemmas.specs.Keep.{keep}
 use Rattle.model.specs.declared.Refusal.the-variants.{NoBlock}
 use Rattle.model.specs.declared.Answer.{Answer}

@@ -1,7 +1,7 @@
 -- Valid states (document 01: a legal state is ..), clause by clause. Valid is not the same as reachable: a direct block of one
 -- page, a zone that was set up and never granted, or several idle zones on one list are valid, though no call makes them.
 -- Assumes nothing.
-use Prim.Native.Nat.{ℕ, zero, suc, _*_, _≤_, _<_}
+use Prim.Native.Nat.{ℕ, zero, suc, _≤_, _<_}
 use mathlib.Core.Path.{_≡_}
 use mathlib.Core.Logic.{_⊎_}
 use mathlib.Core.List.{List, [], _∷_, List·Memᴰ}

@@ -1,6 +1,6 @@
 -- One zone (document 01, "Zones"): what it knows of its chunks, and its steps. Which list it is on is the state's affair.
 -- Assumes nothing.
-use Prim.Native.Nat.{ℕ, zero, suc}
+use Prim.Native.Nat.{ℕ}
 use mathlib.Core.List.{List, [], _∷_, _++_}
 use mathlib.Core.Bool.{Bool, true, false, cond, _&&_}
 use lib.Dec.{ltb, leb}

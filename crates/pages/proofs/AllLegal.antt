@@ -1,14 +1,14 @@
 -- The test of all segments' words is exact. Assumes nothing.
 use Prim.Native.Nat.{ℕ, zero, suc, _+_, _-_, _*_, _≤_, _<_}
 use mathlib.Core.Path.{_≡_, refl, sym, ap, _∙_, subst}
-use mathlib.Core.List.{List, [], _∷_, _++_}
+use mathlib.Core.List.{List, [], _∷_, _++_, append-nil}
 use mathlib.Core.Logic.{_↔_}
-use mathlib.Core.Bool.{Bool, true, false, cond, _&&_, not}
+use mathlib.Core.Bool.{Bool, true, false, _&&_, not}
 use native.Mathlib.Omega.{arith}
 use lib.Dec.{leb, eqb}
-use lib.ListN.{length, getD, take, drop, length-append, length-drop}
+use lib.ListN.{length, getD, take, drop, length-drop}
 use lib.Seq.{take-add, take-at, drop-at, take-all, getD-take, take-take}
-use borrow.Author.Tests.{leb-true, le-leb, lt-leb, eqb-true, eqb-false, eq-eqb, ne-eqb, not-true}
+use borrow.Author.Tests.{leb-true, le-leb, eqb-true, eq-eqb, ne-eqb}
 use Rattle.lemmas.proofs.Cases.{bool, true-false, and-left, and-right, and-both}
 use Rattle.model.specs.Numbers.{mostPages, pageWords}
 use Rattle.model.specs.Arena.{Segment, run, direct, zone, pages, total, Each}
@@ -17,15 +17,9 @@ use Rattle.model.specs.Valid.{Apart}
 use Rattle.pages.specs.Encoding.{kindOf, segmentEncoding, segmentsEncoding, Writable}
 use Rattle.pages.specs.Decoding.{segmentsOf, Encodes, Holds}
 use Rattle.pages.specs.Legal.{sizeAt, legalFrom, legalSegments}
-use Rattle.pages.proofs.Laws.{length-segment, kind-is}
+use Rattle.pages.proofs.Laws.{length-segment, kind-is, isRun}
 use Rattle.pages.proofs.Decoded.{decodes-to, holds}
-use Rattle.pages.proofs.Walk.{encodes-length}
 use Rattle.pages.proofs.Legal.{Long, Leads, size-leads, leads-size}
-
-abbrev pub isRun : Segment Zone → Bool
-isRun (run n) = true
-isRun (direct n g) = false
-isRun (zone z) = false
 
 run-kind : (x : Segment Zone) → eqb (kindOf x) 1 ≡ isRun x
 run-kind (run n) = refl
@@ -34,7 +28,7 @@ run-kind (zone z) = refl
 
 -- A segment in front of segments that stand apart.
 apart-cons : (b : Bool) (x : Segment Zone) (m : List (Segment Zone)) → 0 < pages x → not (b && isRun x) ≡ true → Apart (isRun x) m → Apart b (x ∷ m)
-apart-cons true (run n) m p h a = absurd (true-false h refl)
+apart-cons true (run n) m p h a = true-false h refl
 apart-cons false (run n) m p h a = (refl, p, a)
 apart-cons b (direct n g) m p h a = a
 apart-cons b (zone z) m p h a = a
@@ -48,11 +42,7 @@ cons-apart false (zone z) m h = (refl, h)
 
 -- The first word of words that begin with a segment.
 leads-kind : {n : ℕ} {w : List ℕ} {x : Segment Zone} → Leads n w x → eqb (getD w 0 0) 1 ≡ isRun x
-leads-kind {n} {w} {x} l = ap (λ k. eqb k 1) (sym (getD-take (pageWords * pages x) w 0 0 (omega (arith, l .ok .0))) ∙ ap (λ v. getD v 0 0) (l .words ∙ sym (nil (segmentEncoding x))) ∙ kind-is x []) ∙ run-kind x
-  where
-    nil : (v : List ℕ) → v ++ [] ≡ v
-    nil [] = refl
-    nil (y ∷ v) = ap (λ u. y ∷ u) (nil v)
+leads-kind {n} {w} {x} l = ap (λ k. eqb k 1) (sym (getD-take (pageWords * pages x) w 0 0 (omega (arith, l .ok .0))) ∙ ap (λ v. getD v 0 0) (l .words ∙ sym (append-nil (segmentEncoding x))) ∙ kind-is x []) ∙ run-kind x
 
 long-drop : (n k : ℕ) (w : List ℕ) → Long n w → k ≤ n → Long (n - k) (drop (pageWords * k) w)
 long-drop n k w l h = (omega (arith, l .0, length-drop (pageWords * k) w), omega (arith, l .1))

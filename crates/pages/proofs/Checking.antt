@@ -1,17 +1,17 @@
 -- The walk of the check over the segments' words. Assumes nothing.
 use Prim.Native.Nat.{ℕ, zero, suc, _+_, _-_, _*_, _≤_, _<_}
-use mathlib.Core.Path.{_≡_, refl, sym, ap, _∙_, subst}
+use mathlib.Core.Path.{_≡_, refl, sym, ap, _∙_}
 use mathlib.Core.List.{List}
-use mathlib.Core.Bool.{Bool, true, false, cond, _&&_, not}
+use mathlib.Core.Bool.{Bool, true, false, _&&_, not}
 use native.Mathlib.Omega.{arith}
 use lib.Dec.{leb, eqb}
 use lib.ListN.{length, getD, take, drop, length-drop}
 use lib.Seq.{take-all, drop-drop, getD-drop}
 use borrow.Author.Tests.{le-leb, lt-leb, eq-eqb, ne-eqb, eqb-true}
-use Rattle.lemmas.proofs.Cases.{bool, true-false}
 use Rattle.model.specs.Numbers.{mostPages, pageWords}
 use Rattle.pages.specs.Legal.{sizeAt, legalFrom, legalSegments}
-use Rattle.pages.proofs.Legal.{Long, Leads, size-leads}
+use Rattle.pages.specs.Encoding.{kindRun}
+use Rattle.pages.proofs.Legal.{Long, size-leads}
 
 -- What is left of the words passes just if all of them do.
 pub record Checking (w : List ℕ) (n p : ℕ) (b : Bool) : Type 0 where
@@ -58,13 +58,13 @@ module _ {w : List ℕ} {n p : ℕ} {b : Bool} (i : Checking w n p b) (h : p < n
   pub size-within : (len ≡ 0 → ⊥) → len ≤ n - p
   size-within e = let X = size-leads (n - p) (drop (pageWords * p) w) long (omega (arith, e, size)) in omega (arith, X .2, X .1 .within, size)
 
-  pub check-touch : (len ≡ 0 → ⊥) → b ≡ true → getD w (pageWords * p) 0 ≡ 1 → false ≡ legalSegments n w
+  pub check-touch : (len ≡ 0 → ⊥) → b ≡ true → getD w (pageWords * p) 0 ≡ kindRun → false ≡ legalSegments n w
   check-touch e t k = sym (ap (λ y. leb 1 len && not (y && eqb (getD w (pageWords * p) 0) 1) && legalFrom (it .0) (n - p - len) (eqb (getD w (pageWords * p) 0) 1) (drop (pageWords * len) (drop (pageWords * p) w))) t ∙ touching (legalFrom (it .0) (n - p - len) (eqb (getD w (pageWords * p) 0) 1) (drop (pageWords * len) (drop (pageWords * p) w)))) ∙ it .2
     where
       touching : (z : Bool) → (leb 1 len && not (true && eqb (getD w (pageWords * p) 0) 1) && z) ≡ false
       touching z = rw (eq-eqb (getD w (pageWords * p) 0) 1 k, le-leb 1 len (omega (arith, e)))
 
-  pub check-more : (len ≡ 0 → ⊥) → (b ≡ true → getD w (pageWords * p) 0 ≡ 1 → ⊥) → (r : Bool) → r ≡ eqb (getD w (pageWords * p) 0) 1 → Checking w n (p + len) r
+  pub check-more : (len ≡ 0 → ⊥) → (b ≡ true → getD w (pageWords * p) 0 ≡ kindRun → ⊥) → (r : Bool) → r ≡ eqb (getD w (pageWords * p) 0) 1 → Checking w n (p + len) r
   check-more e t r q =
       let k = size-within e in
       record {

@@ -6,9 +6,8 @@ use native.Mathlib.Omega.{arith}
 use lib.ListN.{length, take, drop, length-append, length-drop}
 use Rattle.lemmas.specs.Zeros.{zeros}
 use Rattle.lemmas.specs.Parts.{putMid}
-use Rattle.lemmas.proofs.Zeros.{length-zeros}
 use Rattle.model.specs.Numbers.{mostPages, pageWords}
-use Rattle.model.specs.Arena.{Segment, run, direct, zone, pages}
+use Rattle.model.specs.Arena.{Segment, run, zone, pages}
 use Rattle.model.specs.Zone.{Zone}
 use Rattle.model.specs.Pages.{withRun}
 use Rattle.zone.specs.Encoding.{zoneEncoding}

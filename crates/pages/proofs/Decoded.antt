@@ -1,5 +1,5 @@
 -- The decoder gives back the segments that were encoded. Assumes nothing.
-use Prim.Native.Nat.{ℕ, zero, suc, _+_, _*_, _≤_, _<_}
+use Prim.Native.Nat.{ℕ, zero, suc, _+_, _*_, _≤_}
 use mathlib.Core.Path.{_≡_, refl, sym, ap, _∙_, subst}
 use mathlib.Core.List.{List, [], _∷_, _++_}
 use native.Mathlib.Omega.{arith}
@@ -7,7 +7,7 @@ use native.Mathlib.Nat.{le-refl}
 use lib.ListN.{length, getD, take, drop, length-append}
 use lib.Seq.{take-at, drop-at}
 use Rattle.model.specs.Numbers.{pageWords}
-use Rattle.model.specs.Arena.{Segment, run, direct, zone, pages, total, Each}
+use Rattle.model.specs.Arena.{Segment, run, direct, zone, pages, Each}
 use Rattle.model.specs.Zone.{Zone}
 use Rattle.model.specs.Valid.{ValidZone}
 use Rattle.zone.specs.Encoding.{zoneEncoding, zoneWords}

@@ -16,11 +16,12 @@ use Rattle.model.specs.Numbers.{mostPages, pageWords}
 use Rattle.model.specs.Arena.{Segment, run, direct, zone, pages}
 use Rattle.model.specs.Zone.{Zone}
 use Rattle.model.specs.Pages.{withRun}
-use Rattle.pages.specs.Encoding.{kindOf, segmentEncoding, segmentsEncoding}
+use Rattle.pages.specs.Encoding.{segmentEncoding, segmentsEncoding}
 use Rattle.pages.specs.Places.{Blank}
 use Rattle.pages.proofs.Laws.{length-segment, encoding-append, encoding-one, kind-is}
 use Rattle.pages.proofs.Words.{run-zero, direct-zero}
 use Rattle.pages.proofs.Halves.{behind-part, behind-put}
+use Rattle.zone.specs.Encoding.{kindZone}
 
 -- Words that are zero from k on, and the others stored as zero.
 zeroed-two : (w : List ℕ) → 2 ≤ length w → Zero w 2 (length w) → set (set w 0 0) 1 0 ≡ zeros (length w)
@@ -46,7 +47,7 @@ zeroed-three w l z = is-zeros (length w) (set (set (set w 0 0) 1 0) 2 0) (length
 pub segment-long : (w : List ℕ) (x : Segment Zone) → 0 < pages x → w ≡ segmentEncoding x → pageWords ≤ length w
 segment-long w x p e = omega (arith, ap length e, length-segment x p)
 
-pub erased : (w : List ℕ) (x : Segment Zone) → 0 < pages x → w ≡ segmentEncoding x → (getD w 0 0 ≡ 3 → ⊥) → set (set (set w 0 0) 1 0) 2 0 ≡ zeros (length w)
+pub erased : (w : List ℕ) (x : Segment Zone) → 0 < pages x → w ≡ segmentEncoding x → (getD w 0 0 ≡ kindZone → ⊥) → set (set (set w 0 0) 1 0) 2 0 ≡ zeros (length w)
 erased w (run n) p e k = zeroed-three w (omega (arith, segment-long w (run n) p e)) (record { at = λ i a b. ap (λ l. getD l i 0) e ∙ (run-zero n) .at i (omega arith) (omega (arith, ap length e, length-segment (run n) p)) })
 erased w (direct n g) p e k = zeroed-three w (omega (arith, segment-long w (direct n g) p e)) (record { at = λ i a b. ap (λ l. getD l i 0) e ∙ (direct-zero n g) .at i a (omega (arith, ap length e, length-segment (direct n g) p)) })
 erased w (zone z) p e k = absurd (k (ap (λ l. getD l 0 0) (e ∙ sym (append-nil (segmentEncoding (zone z)))) ∙ kind-is (zone z) []))

@@ -1,14 +1,14 @@
 -- Pages that come back: the segment with the runs on both sides of it as one part, and the joined segments. Assumes nothing.
 use Prim.Native.Nat.{ℕ, zero, suc, _+_, _-_, _*_, _≤_, _<_}
 use mathlib.Core.Path.{_≡_, refl, sym, ap, _∙_, subst}
-use mathlib.Core.List.{List, [], _∷_, _++_, append-assoc, append-nil}
+use mathlib.Core.List.{List, [], _∷_, _++_, append-assoc}
 use mathlib.Core.Bool.{Bool, true, false}
 use native.Mathlib.Omega.{arith}
 use lib.ListN.{length, take, drop}
 use Rattle.lemmas.specs.Parts.{putMid}
 use Rattle.lemmas.proofs.Cases.{true-false}
 use Rattle.model.specs.Numbers.{mostPages, pageWords}
-use Rattle.model.specs.Arena.{Segment, run, direct, zone, pages, total, edit}
+use Rattle.model.specs.Arena.{Segment, run, direct, zone, pages, total}
 use Rattle.model.specs.Zone.{Zone}
 use Rattle.model.specs.Valid.{Apart}
 use Rattle.model.specs.Pages.{withRun, freePages, joined, release}
@@ -18,8 +18,8 @@ use Rattle.model.proofs.Local.{endsRun, joined-local}
 use Rattle.pages.specs.Encoding.{segmentEncoding, segmentsEncoding}
 use Rattle.pages.specs.Decoding.{Encodes}
 use Rattle.pages.specs.Places.{runPages, runAtEnd, runAtStart, Stands}
-use Rattle.pages.proofs.Laws.{encoding-one}
-use Rattle.pages.proofs.Walk.{Read, read-at}
+use Rattle.pages.proofs.Laws.{encoding-one, isRun}
+use Rattle.pages.proofs.Walk.{read-at}
 use Rattle.pages.proofs.Middle.{part-inside, part-words, part-put, edit-stands}
 
 -- The part of an apart list in front of and behind a segment that is no run.
@@ -58,21 +58,14 @@ ends-any b c (run n) r = refl
 ends-any b c (direct n g) r = refl
 ends-any b c (zone z) r = refl
 
-isRun : Segment Zone → Bool
-isRun (run n) = true
-isRun (direct n g) = false
-isRun (zone z) = false
-
 ends-cons : (b : Bool) (x : Segment Zone) (l : List (Segment Zone)) → endsRun b (x ∷ l) ≡ endsRun (isRun x) l
-unfolding isRun
 ends-cons b (run n) l = refl
 ends-cons b (direct n g) l = refl
 ends-cons b (zone z) l = refl
 
 -- A segment in front of a run that ends the list is no run.
 apart-two : (b : Bool) (x : Segment Zone) (k : ℕ) (r : List (Segment Zone)) → Apart b (x ∷ (run k ∷ r)) → isRun x ≡ false
-unfolding isRun
-apart-two b (run n) k r h = absurd (true-false refl (h .2 .0))
+apart-two b (run n) k r h = true-false refl (h .2 .0)
 apart-two b (direct n g) k r h = refl
 apart-two b (zone z) k r h = refl
 
@@ -80,7 +73,6 @@ apart-tail : (b : Bool) (x : Segment Zone) (r : List (Segment Zone)) → Apart b
 apart-tail b x r h = apart-from b (x ∷ []) r h
 
 apart-pos : (b : Bool) (x : Segment Zone) (r : List (Segment Zone)) → Apart b (x ∷ r) → runPages x ≡ 0 → isRun x ≡ false
-unfolding isRun
 apart-pos b (run n) r h e = absurd (omega (arith, h .1))
 apart-pos b (direct n g) r h e = refl
 apart-pos b (zone z) r h e = refl

@@ -1,6 +1,6 @@
 -- What a segment is, by its kind, and the words of one that is a zone. Assumes nothing.
 use Prim.Native.Nat.{ℕ, _+_, _-_, _*_}
-use mathlib.Core.Path.{_≡_, refl, ap, _∙_, subst}
+use mathlib.Core.Path.{_≡_, refl, sym, ap, _∙_, subst}
 use mathlib.Core.Bool.{true}
 use mathlib.Core.List.{List}
 use native.Mathlib.Omega.{arith}
@@ -14,13 +14,22 @@ use Rattle.zone.specs.Decoding.{isZone, zoneOf}
 use Rattle.zone.proofs.Encoded.{zone-decoded, encoding-zone}
 use Rattle.zone.proofs.Words.{length-encoding}
 use Rattle.pages.specs.Encoding.{kindRun, kindOf, segmentEncoding}
-use Rattle.pages.specs.Places.{Stands}
+use Rattle.pages.specs.Places.{Stands, runPages}
 use Rattle.pages.proofs.Walk.{Read}
 
 pub run-by-kind : (x : Segment Zone) → kindOf x ≡ kindRun → x ≡ run (pages x)
 run-by-kind (run n) e = refl
 run-by-kind (direct n g) e = absurd (omega arith)
 run-by-kind (zone z) e = absurd (omega arith)
+
+-- A run's pages are those of the run, and another segment has none.
+pub run-size : (x : Segment Zone) → kindOf x ≡ kindRun → pages x ≡ runPages x
+run-size x e = sym (ap (λ y. runPages y) (run-by-kind x e))
+
+pub no-run-size : (x : Segment Zone) → (kindOf x ≡ kindRun → ⊥) → 0 ≡ runPages x
+no-run-size (run n) f = absurd (f refl)
+no-run-size (direct n g) f = refl
+no-run-size (zone z) f = refl
 
 pub direct-by-kind : (x : Segment Zone) → (kindOf x ≡ kindZone → ⊥) → (kindOf x ≡ kindRun → ⊥) → ((g : ℕ) × (x ≡ direct (pages x) g))
 direct-by-kind (run n) a b = absurd (b refl)

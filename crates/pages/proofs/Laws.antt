@@ -1,17 +1,17 @@
 -- Laws of the segments' words: their lengths, what their first words say, and what stands behind a segment. Assumes nothing.
-use Prim.Native.Nat.{ℕ, zero, suc, _+_, _-_, _*_, _≤_, _<_}
-use mathlib.Core.Path.{_≡_, refl, sym, ap, _∙_, subst}
+use Prim.Native.Nat.{ℕ, _+_, _-_, _*_, _≤_, _<_}
+use mathlib.Core.Path.{_≡_, refl, sym, ap, _∙_}
 use mathlib.Core.List.{List, [], _∷_, _++_, append-assoc, append-nil}
+use mathlib.Core.Bool.{Bool, true, false}
 use native.Mathlib.Omega.{arith}
-use lib.ListN.{length, getD, take, drop, length-append}
-use lib.Seq.{drop-at, take-at}
+use lib.ListN.{length, getD, drop, length-append}
+use lib.Seq.{drop-at}
 use Rattle.lemmas.proofs.Zeros.{length-zeros}
 use Rattle.model.specs.Numbers.{pageWords}
 use Rattle.model.specs.Arena.{Segment, run, direct, zone, pages, total, Each}
 use Rattle.model.specs.Zone.{Zone}
-use Rattle.model.specs.Valid.{ValidZone, ValidSegment}
-use Rattle.model.proofs.Arena.{total-append, each-append}
-use Rattle.zone.specs.Encoding.{zoneEncoding}
+use Rattle.model.proofs.Arena.{total-append}
+use Rattle.zone.specs.Encoding.{zoneEncoding, kindZone}
 use Rattle.zone.proofs.Words.{length-encoding}
 use Rattle.pages.specs.Encoding.{kindOf, segmentEncoding, segmentsEncoding, Writable}
 
@@ -42,7 +42,12 @@ kind-is (run n) w = refl
 kind-is (direct n g) w = refl
 kind-is (zone z) w = refl
 
-pub size-is : (x : Segment Zone) (w : List ℕ) → (kindOf x ≡ 3 → ⊥) → getD (segmentEncoding x ++ w) 1 0 ≡ pages x
+abbrev pub isRun : Segment Zone → Bool
+isRun (run n) = true
+isRun (direct n g) = false
+isRun (zone z) = false
+
+pub size-is : (x : Segment Zone) (w : List ℕ) → (kindOf x ≡ kindZone → ⊥) → getD (segmentEncoding x ++ w) 1 0 ≡ pages x
 unfolding segmentEncoding
 size-is (run n) w h = refl
 size-is (direct n g) w h = refl
@@ -52,7 +57,7 @@ pub group-is : (n g : ℕ) (w : List ℕ) → getD (segmentEncoding (direct n g)
 unfolding segmentEncoding
 group-is n g w = refl
 
-pub zone-size : (x : Segment Zone) → kindOf x ≡ 3 → pages x ≡ 8
+pub zone-size : (x : Segment Zone) → kindOf x ≡ kindZone → pages x ≡ 8
 zone-size (run n) h = absurd (omega arith)
 zone-size (direct n g) h = absurd (omega arith)
 zone-size (zone z) h = refl

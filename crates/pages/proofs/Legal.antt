@@ -17,10 +17,10 @@ use Rattle.model.specs.Numbers.{zonePages, mostGroup, mostPages, pageWords}
 use Rattle.model.specs.Arena.{Segment, run, direct, zone, pages}
 use Rattle.model.specs.Zone.{Zone}
 use Rattle.model.specs.Valid.{ValidZone}
-use Rattle.zone.specs.Encoding.{zoneEncoding, zoneWords}
+use Rattle.zone.specs.Encoding.{zoneEncoding, zoneWords, kindZone}
 use Rattle.zone.specs.Decoding.{isZone}
 use Rattle.zone.proofs.Encoded.{zone-iff, encoding-zone}
-use Rattle.pages.specs.Encoding.{segmentEncoding, Writable}
+use Rattle.pages.specs.Encoding.{segmentEncoding, Writable, kindRun, kindDirect}
 use Rattle.pages.specs.Places.{Blank}
 use Rattle.pages.specs.Legal.{zeroFrom, sizeIf, groupIn, sizeAt}
 use Rattle.pages.proofs.Laws.{zone-first}
@@ -80,12 +80,12 @@ module _ (n : ℕ) (w : List ℕ) (long : Long n w) where
       as-zone : 8 ≤ n → (z : Zone) × ValidZone z × (take zoneWords w ≡ zoneEncoding z) → (x : Segment Zone) × Leads n w x × (8 ≡ pages x)
       as-zone h f = (zone (f .0), record { ok = (omega arith, f .1); within = h; words = f .2 }, refl)
 
-      as-run : getD w 0 0 ≡ 1 → (1 ≤ getD w 1 0) × (getD w 1 0 ≤ n) × (zeroFrom 2 (getD w 1 0) w ≡ true) × (sizeIf n w (zeroFrom 2 (getD w 1 0) w) ≡ getD w 1 0) → (x : Segment Zone) × Leads n w x × (sizeIf n w (zeroFrom 2 (getD w 1 0) w) ≡ pages x)
+      as-run : getD w 0 0 ≡ kindRun → (1 ≤ getD w 1 0) × (getD w 1 0 ≤ n) × (zeroFrom 2 (getD w 1 0) w ≡ true) × (sizeIf n w (zeroFrom 2 (getD w 1 0) w) ≡ getD w 1 0) → (x : Segment Zone) × Leads n w x × (sizeIf n w (zeroFrom 2 (getD w 1 0) w) ≡ pages x)
       as-run k f =
           let len = getD w 1 0 in
           (run len, record { ok = (f .0, tt); within = f .1; words = run-words (take (pageWords * len) w) len (blank 2 len n w long (f .0) (f .1) (zero-is 2 len w (omega (arith, long .0, f .1)) (omega (arith, f .0)) (f .2))) (front len 0 w (omega (arith, f .0)) ∙ k) (front len 1 w (omega (arith, f .0))) }, f .3)
 
-      as-direct : getD w 0 0 ≡ 2 → (1 ≤ getD w 1 0) × (getD w 1 0 ≤ n) × ((groupIn w && zeroFrom 3 (getD w 1 0) w) ≡ true) × (sizeIf n w (groupIn w && zeroFrom 3 (getD w 1 0) w) ≡ getD w 1 0) → (x : Segment Zone) × Leads n w x × (sizeIf n w (groupIn w && zeroFrom 3 (getD w 1 0) w) ≡ pages x)
+      as-direct : getD w 0 0 ≡ kindDirect → (1 ≤ getD w 1 0) × (getD w 1 0 ≤ n) × ((groupIn w && zeroFrom 3 (getD w 1 0) w) ≡ true) × (sizeIf n w (groupIn w && zeroFrom 3 (getD w 1 0) w) ≡ getD w 1 0) → (x : Segment Zone) × Leads n w x × (sizeIf n w (groupIn w && zeroFrom 3 (getD w 1 0) w) ≡ pages x)
       as-direct k f =
           let len = getD w 1 0 in
           let g = getD w 2 0 in
@@ -117,11 +117,11 @@ module _ (n : ℕ) (w : List ℕ) (long : Long n w) where
 -- The same as the code finds it, case by case -------------------------------------------------------------------------------------
 
 module _ (n : ℕ) (w : List ℕ) where
-  pub size-zone : getD w 0 0 ≡ 3 → cond (leb zonePages n && isZone (take zoneWords w)) zonePages 0 ≡ sizeAt n w
+  pub size-zone : getD w 0 0 ≡ kindZone → cond (leb zonePages n && isZone (take zoneWords w)) zonePages 0 ≡ sizeAt n w
   unfolding sizeAt
   size-zone k = rw (eq-eqb (getD w 0 0) 3 k)
 
-  pub size-other : (getD w 0 0 ≡ 3 → ⊥) → (getD w 0 0 ≡ 1 → ⊥) → (getD w 0 0 ≡ 2 → ⊥) → 0 ≡ sizeAt n w
+  pub size-other : (getD w 0 0 ≡ kindZone → ⊥) → (getD w 0 0 ≡ kindRun → ⊥) → (getD w 0 0 ≡ kindDirect → ⊥) → 0 ≡ sizeAt n w
   unfolding sizeAt
   size-other a b c = rw (ne-eqb (getD w 0 0) 3 a, ne-eqb (getD w 0 0) 1 b, ne-eqb (getD w 0 0) 2 c)
 
@@ -129,31 +129,31 @@ module _ (n : ℕ) (w : List ℕ) where
   no-size : (t : Bool) → (leb 1 (getD w 1 0) && leb (getD w 1 0) n) ≡ false → sizeIf n w t ≡ 0
   no-size t e = rw e
 
-  pub size-none : (getD w 0 0 ≡ 3 → ⊥) → (leb 1 (getD w 1 0) && leb (getD w 1 0) n) ≡ false → 0 ≡ sizeAt n w
+  pub size-none : (getD w 0 0 ≡ kindZone → ⊥) → (leb 1 (getD w 1 0) && leb (getD w 1 0) n) ≡ false → 0 ≡ sizeAt n w
   unfolding sizeAt
   size-none a e = rw (ne-eqb (getD w 0 0) 3 a) (bool (eqb (getD w 0 0) 1)
       (λ t. rw t (sym (no-size (zeroFrom 2 (getD w 1 0) w) e)))
       (λ t. rw t (bool (eqb (getD w 0 0) 2) (λ u. rw u (sym (no-size (groupIn w && zeroFrom 3 (getD w 1 0) w) e))) (λ u. rw u))))
 
-  pub size-zero : (getD w 0 0 ≡ 3 → ⊥) → getD w 1 0 ≡ 0 → 0 ≡ sizeAt n w
+  pub size-zero : (getD w 0 0 ≡ kindZone → ⊥) → getD w 1 0 ≡ 0 → 0 ≡ sizeAt n w
   size-zero a e = size-none a (rw (lt-leb 1 (getD w 1 0) (omega arith)))
 
-  pub size-large : (getD w 0 0 ≡ 3 → ⊥) → n < getD w 1 0 → 0 ≡ sizeAt n w
+  pub size-large : (getD w 0 0 ≡ kindZone → ⊥) → n < getD w 1 0 → 0 ≡ sizeAt n w
   size-large a h = size-none a (rw (lt-leb (getD w 1 0) n h) (and-false (leb 1 (getD w 1 0))))
 
   module _ (some : getD w 1 0 ≡ 0 → ⊥) (most : getD w 1 0 ≤ n) where
     sized : (t : Bool) → cond t (getD w 1 0) 0 ≡ sizeIf n w t
     sized t = rw (le-leb 1 (getD w 1 0) (omega (arith, some)), le-leb (getD w 1 0) n most)
 
-    pub size-run : getD w 0 0 ≡ 1 → cond (zeroFrom 2 (getD w 1 0) w) (getD w 1 0) 0 ≡ sizeAt n w
+    pub size-run : getD w 0 0 ≡ kindRun → cond (zeroFrom 2 (getD w 1 0) w) (getD w 1 0) 0 ≡ sizeAt n w
     unfolding sizeAt
     size-run k = rw (ne-eqb (getD w 0 0) 3 (λ e. omega arith), eq-eqb (getD w 0 0) 1 k) (sized (zeroFrom 2 (getD w 1 0) w))
 
-    direct-is : getD w 0 0 ≡ 2 → sizeIf n w (groupIn w && zeroFrom 3 (getD w 1 0) w) ≡ sizeAt n w
+    direct-is : getD w 0 0 ≡ kindDirect → sizeIf n w (groupIn w && zeroFrom 3 (getD w 1 0) w) ≡ sizeAt n w
     unfolding sizeAt
     direct-is k = rw (ne-eqb (getD w 0 0) 3 (λ e. omega arith), ne-eqb (getD w 0 0) 1 (λ e. omega arith), eq-eqb (getD w 0 0) 2 k)
 
-    pub size-group : getD w 0 0 ≡ 2 → groupIn w ≡ false → 0 ≡ sizeAt n w
+    pub size-group : getD w 0 0 ≡ kindDirect → groupIn w ≡ false → 0 ≡ sizeAt n w
     size-group k e = sym at-if ∙ direct-is k
       where
         at-if : sizeIf n w (groupIn w && zeroFrom 3 (getD w 1 0) w) ≡ 0
@@ -163,7 +163,7 @@ module _ (n : ℕ) (w : List ℕ) where
             zero-if true = refl
             zero-if false = refl
 
-    pub size-direct : getD w 0 0 ≡ 2 → groupIn w ≡ true → cond (zeroFrom 3 (getD w 1 0) w) (getD w 1 0) 0 ≡ sizeAt n w
+    pub size-direct : getD w 0 0 ≡ kindDirect → groupIn w ≡ true → cond (zeroFrom 3 (getD w 1 0) w) (getD w 1 0) 0 ≡ sizeAt n w
     size-direct k e = sized (zeroFrom 3 (getD w 1 0) w) ∙ ap (λ t. sizeIf n w (t && zeroFrom 3 (getD w 1 0) w)) (sym e) ∙ direct-is k
 
 -- What the code's test and length make.

@@ -1,18 +1,16 @@
 -- Some segments in the middle: their words as a part of all words, and all words when the part has come back. Assumes nothing.
-use Prim.Native.Nat.{ℕ, zero, suc, _+_, _-_, _*_, _≤_, _<_}
-use mathlib.Core.Path.{_≡_, refl, sym, ap, _∙_, subst}
+use Prim.Native.Nat.{ℕ, _+_, _-_, _*_, _≤_, _<_}
+use mathlib.Core.Path.{_≡_, sym, ap, _∙_, subst}
 use mathlib.Core.List.{List, [], _∷_, _++_}
-use mathlib.Core.Bool.{Bool, true, false, cond}
 use native.Mathlib.Omega.{arith}
-use lib.Dec.{ltb}
 use lib.ListN.{length, take, drop}
 use borrow.Author.Tests.{lt-ltb, le-ltb}
-use Rattle.lemmas.specs.Parts.{mid, putMid}
+use Rattle.lemmas.specs.Parts.{putMid}
 use Rattle.lemmas.proofs.Parts.{mid-at, put-at}
 use Rattle.model.specs.Numbers.{mostPages, pageWords}
-use Rattle.model.specs.Arena.{Segment, run, direct, zone, pages, bytes, total, edit, Each}
+use Rattle.model.specs.Arena.{Segment, run, pages, bytes, total, edit, Each}
 use Rattle.model.specs.Zone.{Zone}
-use Rattle.model.specs.Pages.{FreeRun, withRun, carve}
+use Rattle.model.specs.Pages.{withRun, carve}
 use Rattle.model.proofs.Arena.{total-append}
 use Rattle.pages.specs.Encoding.{segmentEncoding, segmentsEncoding, Writable}
 use Rattle.pages.specs.Decoding.{Encodes}

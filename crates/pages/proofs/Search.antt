@@ -2,12 +2,12 @@
 use Prim.Native.Nat.{ℕ, _+_, _*_, _≤_, _<_}
 use mathlib.Core.Path.{_≡_, refl, sym, ap, _∙_, subst}
 use mathlib.Core.List.{List, [], _∷_, _++_}
-use mathlib.Core.Option.{none}
 use mathlib.Core.Bool.{cond}
 use native.Mathlib.Omega.{arith}
 use lib.Dec.{eqb}
 use lib.ListN.{length, getD}
 use borrow.Author.Tests.{le-leb, lt-leb, lt-ltb, le-ltb, eq-eqb, ne-eqb}
+use Rattle.lemmas.proofs.Cases.{clash}
 use Rattle.model.specs.Numbers.{zonePages, mostPages, pageWords}
 use Rattle.model.specs.Arena.{Segment, run, direct, zone, pages, total}
 use Rattle.model.specs.Zone.{Zone}
@@ -20,6 +20,7 @@ use Rattle.pages.specs.Encoding.{kindRun, kindOf}
 use Rattle.pages.specs.Decoding.{segmentsOf, Holds}
 use Rattle.pages.specs.Places.{found, runPages, runAtEnd, runAtStart, Stands, Passed, firstRun, spotFrom}
 use Rattle.pages.proofs.Walk.{read-at, passed-more, passed-stands, passed-on, Walk, walk-from, walk-start, Next, next, past, at-it, Behind, last, more, behind-it}
+use Rattle.pages.proofs.Inverse.{run-by-kind, run-size, no-run-size}
 
 -- A run's pages, as the code has them.
 pub run-pages : (x : Segment Zone) (kind len : ℕ) → kind ≡ kindOf x → len ≡ pages x → cond (eqb kind 1) len 0 ≡ runPages x
@@ -32,12 +33,10 @@ run-pages (zone z) k l e f = rw (ne-eqb k 1 (λ z. omega arith))
 abbrev pub runs : ℕ → ℕ → ℕ → List (Segment Zone) → Found
 runs a b p l = found (firstRun p l)
 
-run-here : (p : ℕ) (x : Segment Zone) (r : List (Segment Zone)) → kindOf x ≡ 1 → found (firstRun p (x ∷ r)) ≡ Run p (pages x)
-run-here p (run n) r k = rw (le-leb 0 n (omega arith))
-run-here p (direct n g) r k = absurd (omega arith)
-run-here p (zone z) r k = absurd (omega arith)
+run-here : (p : ℕ) (x : Segment Zone) (r : List (Segment Zone)) → kindOf x ≡ kindRun → found (firstRun p (x ∷ r)) ≡ Run p (pages x)
+run-here p x r k = rw (run-by-kind x k, le-leb 0 (pages x) (omega arith))
 
-run-past : (p : ℕ) (x : Segment Zone) (r : List (Segment Zone)) → (kindOf x ≡ 1 → ⊥) → found (firstRun p (x ∷ r)) ≡ found (firstRun (p + pages x) r)
+run-past : (p : ℕ) (x : Segment Zone) (r : List (Segment Zone)) → (kindOf x ≡ kindRun → ⊥) → found (firstRun p (x ∷ r)) ≡ found (firstRun (p + pages x) r)
 run-past p (run n) r k = absurd (k refl)
 run-past p (direct n g) r k = refl
 run-past p (zone z) r k = refl
@@ -75,7 +74,7 @@ search-start w n need h = (0, walk-start 0 h)
 -- Where there is no run, none has enough pages.
 no-run : (p need : ℕ) (l : List (Segment Zone)) → found (firstRun p l) ≡ Nothing → found (firstFit p need l) ≡ Nothing
 no-run p need [] e = refl
-no-run p need (run k ∷ r) e = absurd (let q : Run p k ≡ Nothing = sym (run-here p (run k) r refl) ∙ e in let z : _≡_ {A = ℕ} 0 1 = cc in omega arith)
+no-run p need (run k ∷ r) e = let q : Run p k ≡ Nothing = sym (run-here p (run k) r refl) ∙ e in clash (cc)
 no-run p need (direct k g ∷ r) e = no-run (p + k) need r e
 no-run p need (zone z ∷ r) e = no-run (p + zonePages) need r e
 
@@ -91,7 +90,7 @@ reaches-behind : {p need : ℕ} {r : List (Segment Zone)} {at len : ℕ} (x : Se
 reaches-behind x q h = record { pre = x ∷ h .pre; post = h .post; whole = ap (λ l. x ∷ l) (h .whole); starts = omega (arith, h .starts); same = q ∙ h .same }
 
 reaches : (p need : ℕ) (l : List (Segment Zone)) (at len : ℕ) → found (firstRun p l) ≡ Run at len → Reaches p need l at len
-reaches p need [] at len e = absurd (let z : _≡_ {A = ℕ} 0 1 = cc in omega arith)
+reaches p need [] at len e = clash (cc)
 reaches p need (run k ∷ r) at len e =
     let q : Run p k ≡ Run at len = sym (run-here p (run k) r refl) ∙ e in
     let a : p ≡ at = cc in
@@ -171,26 +170,16 @@ module _ {w : List ℕ} {n p b : ℕ} {x : Segment Zone} (h : Holds w n) (s : St
       go (last q t) = absurd (omega arith)
       go (more y r q t) = (omega (arith, t .ok .0, t .inside, t .long), t .few)
 
-  pub run-behind : p + pages x < n → getD w (pageWords * (p + pages x)) 0 ≡ 1 → getD w (pageWords * (p + pages x) + 1) 0 ≡ runAtStart (s .behind)
+  pub run-behind : p + pages x < n → getD w (pageWords * (p + pages x)) 0 ≡ kindRun → getD w (pageWords * (p + pages x) + 1) 0 ≡ runAtStart (s .behind)
   run-behind e k = go (behind-it h s)
     where
-      is-run : (y : Segment Zone) → kindOf y ≡ 1 → pages y ≡ runPages y
-      is-run (run i) f = refl
-      is-run (direct i g) f = absurd (omega arith)
-      is-run (zone z) f = absurd (omega arith)
-
       go : Behind w n p x (s .behind) → getD w (pageWords * (p + pages x) + 1) 0 ≡ runAtStart (s .behind)
       go (last q t) = absurd (omega arith)
-      go (more y r q t) = let one : kindOf y ≡ 1 = sym (t .kind) ∙ k in t .size (λ z. omega arith) ∙ is-run y one ∙ ap runAtStart (sym q)
+      go (more y r q t) = let one : kindOf y ≡ 1 = sym (t .kind) ∙ k in t .size (λ z. omega arith) ∙ run-size y one ∙ ap runAtStart (sym q)
 
-  pub other-behind : p + pages x < n → (getD w (pageWords * (p + pages x)) 0 ≡ 1 → ⊥) → 0 ≡ runAtStart (s .behind)
+  pub other-behind : p + pages x < n → (getD w (pageWords * (p + pages x)) 0 ≡ kindRun → ⊥) → 0 ≡ runAtStart (s .behind)
   other-behind e k = go (behind-it h s)
     where
-      no-run : (y : Segment Zone) → (kindOf y ≡ 1 → ⊥) → 0 ≡ runPages y
-      no-run (run i) f = absurd (f refl)
-      no-run (direct i g) f = refl
-      no-run (zone z) f = refl
-
       go : Behind w n p x (s .behind) → 0 ≡ runAtStart (s .behind)
       go (last q t) = absurd (omega arith)
-      go (more y r q t) = no-run y (λ z. k (t .kind ∙ z)) ∙ ap runAtStart (sym q)
+      go (more y r q t) = no-run-size y (λ z. k (t .kind ∙ z)) ∙ ap runAtStart (sym q)

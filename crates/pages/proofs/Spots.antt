@@ -1,22 +1,21 @@
 -- What the search by page tells of the segment that it finds, and what holds a byte. Assumes nothing.
 use Prim.Native.Nat.{ℕ, _+_, _-_, _*_, _≤_, _<_}
-use mathlib.Core.Path.{_≡_, refl, sym, ap, _∙_, subst}
+use mathlib.Core.Path.{_≡_, refl, sym, ap, _∙_}
 use mathlib.Core.List.{List, [], _∷_, _++_}
-use mathlib.Core.Option.{Option, none, some}
-use mathlib.Core.Bool.{Bool, true, false, cond}
+use mathlib.Core.Option.{some}
 use native.Mathlib.Omega.{arith}
 use lib.Dec.{ltb}
 use borrow.Author.Tests.{ltb-true, ltb-false, lt-ltb}
-use lib.ListN.{length, getD, drop}
+use lib.ListN.{getD, drop}
 use lib.Seq.{getD-drop}
 use Rattle.lemmas.proofs.Cases.{bool}
 use Rattle.model.specs.Numbers.{pageWords}
-use Rattle.model.specs.Arena.{Segment, run, direct, zone, pages, bytes, total, Place, locate}
+use Rattle.model.specs.Arena.{Segment, direct, pages, bytes, total, locate}
 use Rattle.model.specs.Zone.{Zone}
 use Rattle.model.proofs.Arena.{locate-right}
 use Rattle.pages.specs.declared.Spot.{Spot}
 use Rattle.pages.specs.declared.Spot.the-variants.{Segment as At, Nowhere}
-use Rattle.pages.specs.Encoding.{kindOf, segmentEncoding}
+use Rattle.pages.specs.Encoding.{kindOf}
 use Rattle.pages.specs.Places.{runPages, Stands, spotFrom, Passed}
 use Rattle.pages.proofs.Laws.{group-is}
 use Rattle.pages.proofs.Walk.{Read, passed-none, passed-more, passed-stands, passed-total}

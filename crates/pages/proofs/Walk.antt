@@ -8,13 +8,14 @@ use native.Mathlib.Nat.{add-zero}
 use lib.ListN.{length, getD, drop}
 use lib.Seq.{drop-at, drop-drop, getD-drop}
 use Rattle.model.specs.Numbers.{mostPages, pageWords}
-use Rattle.model.specs.Arena.{Segment, run, pages, total, Each}
+use Rattle.model.specs.Arena.{Segment, pages, total, Each}
 use Rattle.model.specs.Zone.{Zone}
 use Rattle.model.proofs.Arena.{total-append}
 use Rattle.pages.specs.Encoding.{kindOf, segmentEncoding, segmentsEncoding, Writable}
 use Rattle.pages.specs.Decoding.{segmentsOf, Encodes, Holds}
 use Rattle.pages.specs.Places.{runPages, runAtEnd, Stands, Passed}
 use Rattle.pages.proofs.Laws.{length-segments, encoding-append, kind-is, size-is, drop-segment, each-left, each-right}
+use Rattle.zone.specs.Encoding.{kindZone}
 
 pub encodes-length : {w : List ℕ} {m : List (Segment Zone)} {n : ℕ} → Encodes w m n → length w ≡ pageWords * n
 encodes-length {w} {m} {n} h = ap length (h .words) ∙ length-segments m (h .sound) ∙ ap (λ k. pageWords * k) (h .covers)
@@ -25,7 +26,7 @@ pub record Read (w : List ℕ) (n p : ℕ) (x : Segment Zone) : Type 0 where
   pub few : n ≤ mostPages
   pub ok : Writable x
   pub kind : getD w (pageWords * p) 0 ≡ kindOf x
-  pub size : (kindOf x ≡ 3 → ⊥) → getD w (pageWords * p + 1) 0 ≡ pages x
+  pub size : (kindOf x ≡ kindZone → ⊥) → getD w (pageWords * p + 1) 0 ≡ pages x
   pub words : drop (pageWords * p) w ≡ segmentEncoding x ++ drop (pageWords * (p + pages x)) w
   pub inside : p + pages x ≤ n
 

@@ -1,17 +1,16 @@
 -- The words of runs and direct blocks, told by their first words and zeros. Assumes nothing.
 use Prim.Native.Nat.{ℕ, zero, suc, _+_, _-_, _*_, _≤_, _<_}
-use mathlib.Core.Path.{_≡_, refl, sym, ap, _∙_, subst}
-use mathlib.Core.List.{List, [], _∷_, _++_, append-nil}
+use mathlib.Core.Path.{_≡_, sym, ap, _∙_, subst}
+use mathlib.Core.List.{List, [], _∷_}
 use native.Mathlib.Omega.{arith}
 use lib.ListN.{length, getD, take, drop, set, length-set, length-drop}
 use lib.Seq.{ext-getD, getD-set-same, getD-set-other, length-take-le, getD-take, getD-drop}
 use Rattle.lemmas.specs.Zeros.{zeros, Zero}
-use Rattle.lemmas.proofs.Zeros.{length-zeros, getD-zeros, zeros-add, zero-set, zeros-zero, is-zeros}
+use Rattle.lemmas.proofs.Zeros.{length-zeros, getD-zeros, zero-set, zeros-zero, is-zeros}
 use Rattle.model.specs.Numbers.{mostPages, pageWords}
-use Rattle.model.specs.Arena.{Segment, run, direct, zone, pages}
-use Rattle.model.specs.Zone.{Zone}
+use Rattle.model.specs.Arena.{run, direct}
 use Rattle.model.specs.Pages.{withRun}
-use Rattle.pages.specs.Encoding.{segmentEncoding, segmentsEncoding}
+use Rattle.pages.specs.Encoding.{segmentEncoding, segmentsEncoding, kindRun, kindDirect}
 use Rattle.pages.specs.Places.{Blank}
 use Rattle.pages.proofs.Laws.{length-segment, encoding-one}
 
@@ -25,7 +24,7 @@ unfolding segmentEncoding
 direct-zero n g = record { at = λ i a b. ap (λ k. getD (2 ∷ n ∷ g ∷ zeros (pageWords * n - 3)) k 0) (let q : i ≡ suc (suc (suc (i - 3))) = omega arith in q) ∙ getD-zeros (pageWords * n - 3) (i - 3) }
 
 -- Words that say what a run's do are a run's; the same of a direct block.
-pub run-words : (w : List ℕ) (n : ℕ) → Blank w 2 n → getD w 0 0 ≡ 1 → getD w 1 0 ≡ n → w ≡ segmentEncoding (run n)
+pub run-words : (w : List ℕ) (n : ℕ) → Blank w 2 n → getD w 0 0 ≡ kindRun → getD w 1 0 ≡ n → w ≡ segmentEncoding (run n)
 unfolding segmentEncoding
 run-words w n b k s = ext-getD 0 w (segmentEncoding (run n)) (b .long ∙ sym (length-segment (run n) (b .some))) go
   where
@@ -34,7 +33,7 @@ run-words w n b k s = ext-getD 0 w (segmentEncoding (run n)) (b .long ∙ sym (l
     go (suc zero) l = s
     go (suc (suc i)) l = b .zero .at (suc (suc i)) (omega arith) (omega (arith, b .long)) ∙ sym ((run-zero n) .at (suc (suc i)) (omega arith) (omega (arith, b .long)))
 
-pub direct-words : (w : List ℕ) (n g : ℕ) → Blank w 3 n → getD w 0 0 ≡ 2 → getD w 1 0 ≡ n → getD w 2 0 ≡ g → w ≡ segmentEncoding (direct n g)
+pub direct-words : (w : List ℕ) (n g : ℕ) → Blank w 3 n → getD w 0 0 ≡ kindDirect → getD w 1 0 ≡ n → getD w 2 0 ≡ g → w ≡ segmentEncoding (direct n g)
 unfolding segmentEncoding
 direct-words w n g b k s t = ext-getD 0 w (segmentEncoding (direct n g)) (b .long ∙ sym (length-segment (direct n g) (b .some))) go
   where

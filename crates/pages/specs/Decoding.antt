@@ -1,6 +1,6 @@
 -- The segments whose words these are. The decoder is total and tests nothing; `segments-decoded` says that it gives back what was
 -- encoded. Assumes nothing.
-use Prim.Native.Nat.{ℕ, zero, suc, _+_, _*_, _≤_}
+use Prim.Native.Nat.{ℕ, zero, suc, _*_, _≤_}
 use mathlib.Core.Path.{_≡_}
 use mathlib.Core.List.{List, [], _∷_}
 use lib.ListN.{length, getD, take, drop}

@@ -17,8 +17,9 @@ use Rattle.model.specs.Zone.{Zone, putBack}
 use Rattle.model.specs.PageMap.{padded, occupancy, shown, allZero, idleZone}
 use Rattle.model.specs.Valid.{ValidZone, ValidSegment}
 use Rattle.model.specs.Pages.{withRun}
-use Rattle.model.specs.Free.{putIf, chunkOffsets, offsetsFrom}
-use Rattle.model.proofs.Blocks.{padded-length}
+use Rattle.lemmas.specs.Keep.{putIf}
+use Rattle.model.specs.Free.{chunkOffsets, offsetsFrom}
+use Rattle.model.proofs.Blocks.{padded-length, allZero-padded}
 use Rattle.zone.proofs.Rooms.{chunks-most}
 use Rattle.blocks.proofs.Standing.{group-shown}
 use Rattle.reset.specs.Sweep.{offsetsAt, offsetsIn}
@@ -54,23 +55,19 @@ module _ (g p : ℕ) (r : List (Segment Zone)) where
 none-zero : (g o r : ℕ) (l : List ℕ) → 0 < g → allZero l ≡ true → chunkOffsets g o r l ≡ []
 none-zero g o r [] p t = refl
 none-zero g o r (zero ∷ l) p t = rw (ne-eqb 0 g (λ e. omega arith)) (none-zero g (o + r) r l p t)
-none-zero g o r (suc x ∷ l) p t = absurd (true-false t refl)
+none-zero g o r (suc x ∷ l) p t = true-false t refl
 
 zero-drop : (i : ℕ) (l : List ℕ) → allZero l ≡ true → allZero (drop i l) ≡ true
 zero-drop zero l t = t
 zero-drop (suc i) [] t = refl
 zero-drop (suc i) (zero ∷ l) t = zero-drop i l t
-zero-drop (suc i) (suc x ∷ l) t = absurd (true-false t refl)
-
-padded-zero : (n : ℕ) → allZero (padded n []) ≡ true
-padded-zero zero = refl
-padded-zero (suc n) = padded-zero n
+zero-drop (suc i) (suc x ∷ l) t = true-false t refl
 
 -- Untouched chunks are not live.
 padded-past : (n : ℕ) (l : List ℕ) (i : ℕ) → length l ≤ i → allZero (drop i (padded n l)) ≡ true
 padded-past zero l zero h = refl
 padded-past zero l (suc i) h = refl
-padded-past (suc n) [] i h = zero-drop i (padded (suc n) []) (padded-zero (suc n))
+padded-past (suc n) [] i h = zero-drop i (padded (suc n) []) (allZero-padded (suc n))
 padded-past (suc n) (x ∷ l) zero h = absurd (omega arith)
 padded-past (suc n) (x ∷ l) (suc i) h = padded-past n l i (omega arith)
 

@@ -10,12 +10,14 @@ use Rattle.model.specs.Numbers.{zonePages, mostPages}
 use Rattle.model.specs.Arena.{Segment, run, direct, zone, pages}
 use Rattle.model.specs.Zone.{Zone, touched, putBack}
 use Rattle.model.specs.State.{State, zoneAt, putZone}
-use Rattle.model.specs.Free.{chunkBack, freedAll}
-use Rattle.pages.specs.Encoding.{kindOf}
+use Rattle.model.specs.Free.{freedAll}
+use Rattle.pages.specs.Encoding.{kindOf, kindRun}
 use Rattle.pages.specs.Places.{runPages, Stands}
 use Rattle.pages.proofs.Laws.{pages-most}
 use Rattle.pages.proofs.Given.{Joined}
+use Rattle.pages.proofs.Inverse.{run-by-kind, run-size, direct-by-kind, zone-by-kind}
 use Rattle.zone.proofs.Rooms.{chunks-most}
+use Rattle.zone.specs.Encoding.{kindZone}
 use Rattle.metadata.specs.Encoding.{encode}
 use Rattle.metadata.specs.Decoding.{decode}
 use Rattle.steps.specs.Lent.{Good, ZoneHere}
@@ -23,11 +25,11 @@ use Rattle.steps.specs.Moves.{released}
 use Rattle.steps.proofs.Body.{stands-begins, has-pages}
 use Rattle.steps.proofs.Kept.{good-long}
 use Rattle.steps.proofs.Zones.{zone-is, zone-stands, zone-valid}
-use Rattle.free.specs.Back.{LiveChunk, Remains}
+use Rattle.free.specs.Back.{LiveChunk}
 use Rattle.reset.specs.Sweep.{offsetsAt, Sweep, InZone}
 use Rattle.reset.proofs.Offsets.{at-run, at-other, at-zone}
 use Rattle.reset.proofs.Behind.{run-stands, sweep-behind, next-on}
-use Rattle.reset.proofs.Sweeps.{Here, here, here-stands, sweep-past, zone-skip, zone-done, zone-stays, stays-touched, gone-good, gone-segments, gone-joined, gone-rest, gone-counted, block-good, block-segments, block-joined, block-rest, block-counted}
+use Rattle.reset.proofs.Sweeps.{Here, here, here-stands, sweep-past, zone-skip, zone-done, zone-stays, stays-touched, gone-good, gone-segments, gone-joined, gone-rest, gone-counted, block-good, block-segments, block-joined, block-rest, block-counted, returned, Rests}
 
 -- One segment begins at a page.
 pub stands-one : {m : List (Segment Zone)} {p b a : ℕ} {x y : Segment Zone} → Stands m p b x → Stands m p a y → 0 < pages x → 0 < pages y → x ≡ y
@@ -36,13 +38,12 @@ stands-one s t h k = ap (λ q. q .segment) (some-inj (sym (stands-begins s h) �
 -- Over the segments ---------------------------------------------------------------------------------------------------------------
 
 module _ {g c n p b k : ℕ} {t : State} {w : List ℕ} (i : Sweep g t c w n p b k) (h : Here i) where
-  pub step-zone : kindOf (h .x) ≡ 3 → InZone g t c w n p b 0 k
-  step-zone e = go (h .x) refl e
-    where
-      go : (x : Segment Zone) → h .x ≡ x → kindOf x ≡ 3 → InZone g t c w n p b 0 k
-      go (run m) q f = absurd (omega arith)
-      go (direct m y) q f = absurd (omega arith)
-      go (zone z) q f = let all : i .left ≡ zone z ∷ h .rest = h .left-is ∙ ap (λ x. x ∷ h .rest) q in record {
+  pub step-zone : kindOf (h .x) ≡ kindZone → InZone g t c w n p b 0 k
+  step-zone e =
+      let Z = zone-by-kind (h .x) e in
+      let z = Z .0 in
+      let all : i .left ≡ zone z ∷ h .rest = h .left-is ∙ ap (λ x. x ∷ h .rest) (Z .1) in
+      record {
         good = i .good;
         z = z;
         stands = record { before = i .before; behind = h .rest; whole = i .whole ∙ ap (λ l. i .before ++ l) all; starts = i .starts; ends = i .ends };
@@ -50,27 +51,13 @@ module _ {g c n p b k : ℕ} {t : State} {w : List ℕ} (i : Sweep g t c w n p b
         counted = ap (λ l. k + length l) (sym (ap (offsetsAt g p) all ∙ at-zone g p (h .rest) z)) ∙ i .counted;
       }
 
-  pub step-run : (len next : ℕ) → len ≡ pages (h .x) → next ≡ p + len → kindOf (h .x) ≡ 1 → Sweep g t c w n next len (k + 0)
-  step-run len next el en e = sweep-past i h (none (h .x) e) len next len (k + 0) el en (el ∙ all (h .x) e) (omega arith)
-    where
-      none : (x : Segment Zone) → kindOf x ≡ 1 → offsetsAt g p (x ∷ h .rest) ≡ offsetsAt g (p + pages x) (h .rest)
-      none (run m) f = at-run g p (h .rest) m
-      none (direct m y) f = absurd (omega arith)
-      none (zone z) f = absurd (omega arith)
-
-      all : (x : Segment Zone) → kindOf x ≡ 1 → pages x ≡ runPages x
-      all (run m) f = refl
-      all (direct m y) f = absurd (omega arith)
-      all (zone z) f = absurd (omega arith)
+  pub step-run : (len next : ℕ) → len ≡ pages (h .x) → next ≡ p + len → kindOf (h .x) ≡ kindRun → Sweep g t c w n next len (k + 0)
+  step-run len next el en e =
+      sweep-past i h (ap (λ x. offsetsAt g p (x ∷ h .rest)) (run-by-kind (h .x) e) ∙ at-run g p (h .rest) (pages (h .x))) len next len (k + 0) el en (el ∙ run-size (h .x) e) (omega arith)
 
   -- A segment that is no zone and no run is a direct block.
-  pub step-direct : (kindOf (h .x) ≡ 3 → ⊥) → (kindOf (h .x) ≡ 1 → ⊥) → (y : ℕ) × (h .x ≡ direct (pages (h .x)) y)
-  step-direct f e = go (h .x) f e
-    where
-      go : (x : Segment Zone) → (kindOf x ≡ 3 → ⊥) → (kindOf x ≡ 1 → ⊥) → (y : ℕ) × (x ≡ direct (pages x) y)
-      go (run m) f e = absurd (e refl)
-      go (direct m y) f e = (y, refl)
-      go (zone z) f e = absurd (f refl)
+  pub step-direct : (kindOf (h .x) ≡ kindZone → ⊥) → (kindOf (h .x) ≡ kindRun → ⊥) → (y : ℕ) × (h .x ≡ direct (pages (h .x)) y)
+  step-direct f e = direct-by-kind (h .x) f e
 
   pub step-stands : (len y z : ℕ) → len ≡ pages (h .x) → h .x ≡ direct (pages (h .x)) y → y ≡ z → Stands (decode w .segments) p b (direct len z)
   step-stands len y z el e f = subst (Stands (decode w .segments) p b) (e ∙ (λ j. direct ((sym el) j) (f j))) (here-stands i h)
@@ -151,9 +138,9 @@ module _ {g c n p b T j i k : ℕ} {t : State} {w₀ w : List ℕ} (h : InZone g
       mine : (t : State) (c l : ℕ) (q : InZone g t c w n p b i l) → getD (q .z .owners) i 0 ≡ g
       mine t c l q = sym (owner-of t c l q r e) ∙ is
 
-      module _ {v : List ℕ} (d : v ≡ encode (chunkBack (zoneAt p (decode w .segments) .class) i p (zoneAt p (decode w .segments)) (decode w))) where
-        pub walk-stays : (y : Bool) → y ≡ true → Remains y i p (zoneAt p (decode w .segments)) (decode w) (chunkBack (zoneAt p (decode w .segments) .class) i p (zoneAt p (decode w .segments)) (decode w)) → ZoneWalk g n p b T w₀ v (i + 1) (k + 1)
-        walk-stays y f u = let m = subst (λ x. Remains x i p (zoneAt p (decode w .segments)) (decode w) (chunkBack (zoneAt p (decode w .segments) .class) i p (zoneAt p (decode w .segments)) (decode w))) f u in record {
+      module _ {v : List ℕ} (d : v ≡ encode (returned w p i)) where
+        pub walk-stays : (y : Bool) → y ≡ true → Rests y w p i → ZoneWalk g n p b T w₀ v (i + 1) (k + 1)
+        walk-stays y f u = let m = subst (λ x. Rests x w p i) f u in record {
           now = λ t c l q. let x = a .now t c l q in subst (InZone g t c v n p b (i + 1)) (let u : l + k + 1 ≡ l + (k + 1) = omega arith in u) (zone-stays x pos (mine t c (l + k) x) d m);
           same = stays-touched at pos (mine t c (j + k) at) d m ∙ a .same;
           low = omega arith;
@@ -161,9 +148,9 @@ module _ {g c n p b T j i k : ℕ} {t : State} {w₀ w : List ℕ} (h : InZone g
           most = a .most;
         }
 
-        module _ (y₀ : Bool) (f₀ : y₀ ≡ false) (u₀ : Remains y₀ i p (zoneAt p (decode w .segments)) (decode w) (chunkBack (zoneAt p (decode w .segments) .class) i p (zoneAt p (decode w .segments)) (decode w))) where
-          m : Remains false i p (zoneAt p (decode w .segments)) (decode w) (chunkBack (zoneAt p (decode w .segments) .class) i p (zoneAt p (decode w .segments)) (decode w))
-          m = subst (λ x. Remains x i p (zoneAt p (decode w .segments)) (decode w) (chunkBack (zoneAt p (decode w .segments) .class) i p (zoneAt p (decode w .segments)) (decode w))) f₀ u₀
+        module _ (y₀ : Bool) (f₀ : y₀ ≡ false) (u₀ : Rests y₀ w p i) where
+          m : Rests false w p i
+          m = subst (λ x. Rests x w p i) f₀ u₀
 
           pub walk-low : b ≤ p
           walk-low = gone-joined at pos (mine t c (j + k) at) d m .low

@@ -2,7 +2,7 @@
 use Prim.Native.Nat.{ℕ, _+_, _-_, _*_, _%_, _≤_, _<_}
 use mathlib.Core.Path.{_≡_, refl, sym, ap, _∙_, subst}
 use mathlib.Core.List.{List, [], _∷_, _++_, append-assoc}
-use mathlib.Core.Bool.{true, false}
+use mathlib.Core.Bool.{Bool, true, false}
 use native.Mathlib.Omega.{arith}
 use native.Mathlib.Nat.{mul-div-cancel, mul-mod-left}
 use lib.ListN.{length, getD, length-set}
@@ -21,7 +21,7 @@ use Rattle.model.proofs.Moves.{put-size, put-apart, put-sound}
 use Rattle.model.proofs.Sizes.{room-pos, chunk-begins}
 use Rattle.model.proofs.Zones.{owned-touched, putBack-valid}
 use Rattle.model.proofs.ValidFree.{freed-valid}
-use Rattle.model.proofs.Allocated.{live-chunk}
+use Rattle.model.proofs.Blocks.{live-chunk}
 use Rattle.pages.specs.Encoding.{Writable}
 use Rattle.pages.proofs.Laws.{each-right}
 use Rattle.pages.specs.Places.{runPages, Stands}
@@ -103,6 +103,13 @@ module _ {g c n p b k : ℕ} {t : State} {w : List ℕ} (i : Sweep g t c w n p b
       at : next ≡ p + pages (h .x)
       at = omega (arith, el, en)
 
+-- The state of the words w once chunk i of the zone at page p has come back, and what has become of the zone.
+abbrev pub returned : List ℕ → ℕ → ℕ → State
+returned w p i = chunkBack (zoneAt p (decode w .segments) .class) i p (zoneAt p (decode w .segments)) (decode w)
+
+abbrev pub Rests : Bool → List ℕ → ℕ → ℕ → Type 0
+Rests y w p i = Remains y i p (zoneAt p (decode w .segments)) (decode w) (returned w p i)
+
 -- The chunks of a zone ------------------------------------------------------------------------------------------------------------
 
 -- The live chunk i is a block of its group.
@@ -170,7 +177,7 @@ module _ {g c n p b i k : ℕ} {t : State} {w : List ℕ} (h : InZone g t c w n 
     told = chunk-told s (h .good .valid) i g z (h .stands) mine pos
 
     abbrev s′ : State
-    s′ = chunkBack (zoneAt p (decode w .segments) .class) i p (zoneAt p (decode w .segments)) (decode w)
+    s′ = returned w p i
 
     after : freedAll (offsetsIn g p (i + 1) z ++ tail) s′ ≡ t
     after =
@@ -195,7 +202,7 @@ module _ {g c n p b i k : ℕ} {t : State} {w : List ℕ} (h : InZone g t c w n 
     same-zone : putZone p (putBack i (zoneAt p (s .segments))) (s .segments) ≡ putZone p (putBack i z) (s .segments)
     same-zone = ap (λ y. putZone p (putBack i y) (s .segments)) is
 
-    module _ {v : List ℕ} (e : v ≡ encode (chunkBack (zoneAt p (decode w .segments) .class) i p (zoneAt p (decode w .segments)) (decode w))) where
+    module _ {v : List ℕ} (e : v ≡ encode (returned w p i)) where
       valid : Valid s′
       valid = back-valid (h .good) zone-live
 
@@ -206,7 +213,7 @@ module _ {g c n p b i k : ℕ} {t : State} {w : List ℕ} (h : InZone g t c w n 
       decoded = good-decoded v s′ valid e
 
       -- The zone stands.
-      pub zone-stays : Remains true i p (zoneAt p (decode w .segments)) (decode w) (chunkBack (zoneAt p (decode w .segments) .class) i p (zoneAt p (decode w .segments)) (decode w)) → InZone g t c v n p b (i + 1) (k + 1)
+      pub zone-stays : Rests true w p i → InZone g t c v n p b (i + 1) (k + 1)
       zone-stays m = let as-put : s′ .segments ≡ putZone p (putBack i z) (s .segments) = m ∙ same-zone in record {
         good = good (ap (λ l. total l) as-put ∙ put-total);
         z = putBack i z;
@@ -216,7 +223,7 @@ module _ {g c n p b i k : ℕ} {t : State} {w : List ℕ} (h : InZone g t c w n 
       }
 
       -- It has handed out as many chunks as before.
-      pub stays-touched : Remains true i p (zoneAt p (decode w .segments)) (decode w) (chunkBack (zoneAt p (decode w .segments) .class) i p (zoneAt p (decode w .segments)) (decode w)) → touched (zoneAt p (decode v .segments)) ≡ touched (zoneAt p (decode w .segments))
+      pub stays-touched : Rests true w p i → touched (zoneAt p (decode v .segments)) ≡ touched (zoneAt p (decode w .segments))
       stays-touched m =
           ap (λ y. touched (zoneAt p (y .segments))) decoded
           ∙ ap (λ l. touched (zoneAt p l)) (m ∙ same-zone)
@@ -225,7 +232,7 @@ module _ {g c n p b i k : ℕ} {t : State} {w : List ℕ} (h : InZone g t c w n 
           ∙ ap (λ y. touched y) (sym is)
 
       -- Its pages have come back.
-      module _ (m : Remains false i p (zoneAt p (decode w .segments)) (decode w) (chunkBack (zoneAt p (decode w .segments) .class) i p (zoneAt p (decode w .segments)) (decode w))) where
+      module _ (m : Rests false w p i) where
         freed-as : s′ .segments ≡ release (p * 4096) (putZone p (putBack i z) (s .segments))
         freed-as = m .0 ∙ ap (release (p * 4096)) same-zone
 

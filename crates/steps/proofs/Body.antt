@@ -79,10 +79,9 @@ module _ {m : List (Segment Zone)} {p b : ℕ} {x : Segment Zone} (s : Stands m 
       ∙ rw (lt-ltb 0 (bytes x) (omega arith))
 
   pub release-total : total (release (p * pageBytes) m) ≡ total m
-  release-total = total-joined (λ _. false) 0 (edit (p * pageBytes) freePages m) ∙ omega (arith, total-edit (p * pageBytes) freePages m (record { away = 0; segment = x }) stands-begins (omega arith))
+  release-total = total-joined (λ _. false) 0 (edit (p * pageBytes) freePages m) ∙ omega (arith, total-edit (p * pageBytes) freePages m stands-begins (omega arith))
 
 pub carve-total : {m : List (Segment Zone)} {p b len : ℕ} (s : Stands m p b (run len)) (need : ℕ) (x : Segment Zone) → pages x ≡ need → 0 < need → need ≤ len →
     total (carve (record { page = p; size = len }) need x m) ≡ total m
 carve-total {m} {p} {b} {len} s need x e pos h =
-    total-edit (p * pageBytes) (λ _. x ∷ withRun (len - need) []) m (record { away = 0; segment = run len }) (stands-begins s (omega arith))
-    (omega (arith, total-withRun {Z = Zone} (len - need) []))
+    total-edit (p * pageBytes) (λ _. x ∷ withRun (len - need) []) m (stands-begins s (omega arith)) (omega (arith, total-withRun {Z = Zone} (len - need) []))

@@ -100,7 +100,7 @@ module _ {w : List ℕ} {s : State} (h : Encodes w s) where
   -- One zone's words, and when they have come back.
   module _ (p : ℕ) (z : Zone) (b : ZoneAt (s .segments) p z) where
     abbrev there : Split (p * pageBytes) (s .segments) (record { away = 0; segment = zone z })
-    there = split (p * pageBytes) (s .segments) (record { away = 0; segment = zone z }) b
+    there = split (p * pageBytes) (s .segments) b
 
     sound-all : Each Writable (there .before ++ (zone z ∷ there .behind))
     sound-all = subst (λ l. Each Writable l) (there .whole) (h .sound)

@@ -17,7 +17,7 @@ use Rattle.steps.proofs.Body.{stands-begins}
 -- A segment that begins at a page's first byte stands there, inside the arena.
 pub begins-stands : (m : List (Segment Zone)) (p : ℕ) (x : Segment Zone) → Begins (p * pageBytes) m x → (b : ℕ) × Stands m p b x
 begins-stands m p x e =
-    let S = split (p * pageBytes) m (record { away = 0; segment = x }) e in
+    let S = split (p * pageBytes) m e in
     (runAtEnd 0 (S .before), record { before = S .before; behind = S .behind; whole = S .whole; starts = omega (arith, S .at); ends = refl })
 
 pub stands-inside : {m : List (Segment Zone)} {p b : ℕ} {x : Segment Zone} → Stands m p b x → p + pages x ≤ total m
@@ -42,4 +42,4 @@ module _ (s : State) (p b : ℕ) (z : Zone) (t : Stands (s .segments) p b (zone 
   zone-stands = zone-there (s .segments) p z zone-begins
 
   pub zone-valid : Valid s → ValidZone z
-  zone-valid v = each-locate ValidSegment (s .segments) (p * pageBytes) (record { away = 0; segment = zone z }) (v .sound) zone-begins
+  zone-valid v = each-locate ValidSegment (s .segments) (p * pageBytes) (v .sound) zone-begins

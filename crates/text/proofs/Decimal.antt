@@ -10,7 +10,7 @@ use lib.ListN.{length, length-append}
 use borrow.Author.Tests.{lt-ltb, le-ltb, le-leb, leb-true, ne-eqb, eqb-false}
 use Rattle.model.specs.Text.{digits, decimal}
 use Rattle.lemmas.specs.Every.{every}
-use Rattle.lemmas.proofs.Cases.{by-ltb, true-false, and-left, and-right, and-both}
+use Rattle.lemmas.proofs.Cases.{by-ltb, true-false, and-left, and-right, and-both, by-lt}
 use Rattle.lemmas.proofs.Every.{every-append}
 use Rattle.text.specs.Numbers.{isDigit, value, unpadded}
 
@@ -25,7 +25,7 @@ digits-depth (suc f) (suc g) n h k =
     (λ t. cond t ((48 + n) ∷ []) (digits f (n / 10) ++ ((48 + n % 10) ∷ [])) ≡ cond t ((48 + n) ∷ []) (digits g (n / 10) ++ ((48 + n % 10) ∷ [])))
     n 10
     (λ _. refl)
-    (λ m. ap (λ (l : List ℕ). l ++ ((48 + n % 10) ∷ [])) (digits-depth f g (n / 10) (omega arith) (omega arith)))
+    (λ m. cc (digits-depth f g (n / 10) (omega arith) (omega arith)))
 
 pub decimal-small : (n : ℕ) → n < 10 → decimal n ≡ (48 + n) ∷ []
 unfolding decimal digits
@@ -35,21 +35,19 @@ pub decimal-more : (n : ℕ) → 10 ≤ n → decimal n ≡ decimal (n / 10) ++ 
 unfolding decimal digits
 decimal-more n h =
     rw (le-ltb n 10 h)
-    (ap (λ (l : List ℕ). l ++ ((48 + n % 10) ∷ [])) (digits-depth n (suc (n / 10)) (n / 10) (omega arith) (omega arith)))
+    (cc (digits-depth n (suc (n / 10)) (n / 10) (omega arith) (omega arith)))
 
 pub decimal-snoc : (v d : ℕ) → 1 ≤ v → d < 10 → decimal (10 * v + d) ≡ decimal v ++ ((48 + d) ∷ [])
 decimal-snoc v d h k =
     let q : (10 * v + d) / 10 ≡ v = omega arith in
     let r : (10 * v + d) % 10 ≡ d = omega arith in
-    decimal-more (10 * v + d) (omega arith)
-    ∙ ap (λ (x : ℕ). decimal x ++ ((48 + (10 * v + d) % 10) ∷ [])) q
-    ∙ ap (λ (x : ℕ). decimal v ++ ((48 + x) ∷ [])) r
+    cc (decimal-more (10 * v + d) (omega arith))
 
 -- What holds of a single digit, and of more digits where it holds of those before the last, holds of every number.
 module _ {ℓ} (P : ℕ → Type ℓ) (small : (n : ℕ) → n < 10 → P n) (more : (n : ℕ) → 10 ≤ n → P (n / 10) → P n) where
   below : (f n : ℕ) → n < f → P n
   below zero n h = absurd (omega arith)
-  below (suc f) n h = by-ltb (λ t. P n) n 10 (λ s. small n s) (λ m. more n m (below f (n / 10) (omega arith)))
+  below (suc f) n h = by-lt n 10 (λ s. small n s) (λ m. more n m (below f (n / 10) (omega arith)))
 
   pub by-digits : (n : ℕ) → P n
   by-digits n = below (suc n) n (omega arith)
@@ -57,7 +55,7 @@ module _ {ℓ} (P : ℕ → Type ℓ) (small : (n : ℕ) → n < 10 → P n) (mo
 -- ---- its length
 
 pub more-length : (n : ℕ) → 10 ≤ n → length (decimal n) ≡ length (decimal (n / 10)) + 1
-more-length n h = ap length (decimal-more n h) ∙ length-append (decimal (n / 10)) ((48 + n % 10) ∷ [])
+more-length n h = ap length (decimal-more n h) ∙ length-append (decimal (n / 10)) _
 
 pub decimal-some : (n : ℕ) → 1 ≤ length (decimal n)
 decimal-some =
@@ -67,8 +65,8 @@ decimal-some =
 pub decimal-length : (k n : ℕ) → n < 10 ^ suc k → length (decimal n) ≤ suc k
 decimal-length zero n h = omega (arith, ap length (decimal-small n h))
 decimal-length (suc k) n h =
-    let e : length (decimal (n / 10)) ≤ suc k = decimal-length k (n / 10) (omega (arith, pow-suc 10 (suc k))) in
-    by-ltb (λ t. length (decimal n) ≤ suc (suc k)) n 10 (λ s. omega (arith, ap length (decimal-small n s)))
+    let e : length (decimal (n / 10)) ≤ suc k = decimal-length k (n / 10) (omega arith) in
+    by-lt n 10 (λ s. omega (arith, ap length (decimal-small n s)))
     (λ m. omega (arith, more-length n m))
 
 -- A larger number has as many digits or more; a number has at most one digit more than it has tens.
@@ -77,7 +75,7 @@ decimal-grows =
     by-digits (λ n. (m : ℕ) → m ≤ n → length (decimal m) ≤ length (decimal n))
     (λ n h m l. omega (arith, ap length (decimal-small n h), ap length (decimal-small m (omega arith))))
     (λ n h k m l.
-    by-ltb (λ t. length (decimal m) ≤ length (decimal n)) m 10 (λ s. omega (arith, ap length (decimal-small m s), decimal-some n))
+    by-lt m 10 (λ s. omega (arith, ap length (decimal-small m s), decimal-some n))
     (λ b. omega (arith, more-length n h, more-length m b, k (m / 10) (omega arith))))
 
 pub decimal-tens : (n : ℕ) → length (decimal n) ≤ 1 + n / 10
@@ -107,18 +105,18 @@ every-one b e = and-both (isDigit b) true e refl
 pub decimal-digits : (n : ℕ) → every isDigit (decimal n) ≡ true
 decimal-digits =
     by-digits (λ n. every isDigit (decimal n) ≡ true)
-    (λ n h. ap (every isDigit) (decimal-small n h) ∙ every-one (48 + n) (digit-is n h))
+    (λ n h. cc (decimal-small n h, every-one (48 + n) (digit-is n h)))
     (λ n h k.
     ap (every isDigit) (decimal-more n h)
-    ∙ every-append isDigit (decimal (n / 10)) ((48 + n % 10) ∷ [])
-    ∙ and-both (every isDigit (decimal (n / 10))) (every isDigit ((48 + n % 10) ∷ [])) k (every-one (48 + n % 10) (digit-is (n % 10) (omega arith))))
+    ∙ every-append isDigit _ _
+    ∙ and-both _ _ k (every-one _ (digit-is (n % 10) (omega arith))))
 
 -- ---- the value of its digits
 
 pub value-append : (x y : List ℕ) (v : ℕ) → value v (x ++ y) ≡ value (value v x) y
 unfolding value
 value-append [] y v = refl
-value-append (d ∷ x) y v = value-append x y (10 * v + (d - 48))
+value-append (d ∷ x) y v = value-append x y _
 
 value-one : (v d : ℕ) → value v ((48 + d) ∷ []) ≡ 10 * v + d
 unfolding value
@@ -134,13 +132,10 @@ value-decimal =
     by-digits (λ n. value 0 (decimal n) ≡ n) (λ n h. ap (value 0) (decimal-small n h) ∙ value-one 0 n ∙ omega arith)
     (λ n h k.
     ap (value 0) (decimal-more n h)
-    ∙ value-append (decimal (n / 10)) ((48 + n % 10) ∷ []) 0
-    ∙ ap (λ (v : ℕ). value v ((48 + n % 10) ∷ [])) k
+    ∙ value-append _ _ 0
+    ∙ ap (λ v. value v ((48 + n % 10) ∷ [])) k
     ∙ value-one (n / 10) (n % 10)
     ∙ omega arith)
-
-pub decimal-injective : (m n : ℕ) → decimal m ≡ decimal n → m ≡ n
-decimal-injective m n e = sym (value-decimal m) ∙ ap (value 0) e ∙ value-decimal n
 
 -- ---- it has no leading zero, and only decimals have none
 
@@ -151,7 +146,7 @@ leads (d ∷ s) = not (eqb d 48)
 
 leads-append : (x y : List ℕ) → leads x ≡ true → leads (x ++ y) ≡ true
 unfolding leads
-leads-append [] y e = absurd (true-false e refl)
+leads-append [] y e = true-false e refl
 leads-append (d ∷ x) y e = e
 
 leads-unpadded : (s : List ℕ) → leads s ≡ true → unpadded s ≡ true
@@ -162,17 +157,17 @@ leads-unpadded (d ∷ (b ∷ s)) e = e
 
 leads-one : (n : ℕ) → 1 ≤ n → leads ((48 + n) ∷ []) ≡ true
 unfolding leads
-leads-one n h = rw (ne-eqb (48 + n) 48 (λ e. omega arith))
+leads-one n h = rw (ne-eqb (48 + n) 48 (omega arith))
 
 decimal-leads : (n : ℕ) → 1 ≤ n → leads (decimal n) ≡ true
 decimal-leads =
-    by-digits (λ n. 1 ≤ n → leads (decimal n) ≡ true) (λ n h p. ap leads (decimal-small n h) ∙ leads-one n p)
-    (λ n h k p. ap leads (decimal-more n h) ∙ leads-append (decimal (n / 10)) ((48 + n % 10) ∷ []) (k (omega arith)))
+    by-digits (λ n. 1 ≤ n → leads (decimal n) ≡ true) (λ n h p. rw (decimal-small n h) (leads-one n p))
+    (λ n h k p. ap leads (decimal-more n h) ∙ leads-append _ _ (k (omega arith)))
 
 pub decimal-unpadded : (n : ℕ) → unpadded (decimal n) ≡ true
 unfolding unpadded
 decimal-unpadded n =
-    by-ltb (λ t. unpadded (decimal n) ≡ true) n 10 (λ h. ap unpadded (decimal-small n h))
+    by-lt n 10 (λ h. ap unpadded (decimal-small n h))
     (λ h. leads-unpadded (decimal n) (decimal-leads n (omega arith)))
 
 -- Digits behind a number's decimal make the decimal of the number that all of them are.
@@ -180,41 +175,41 @@ pub decimal-value : (s : List ℕ) (v : ℕ) → 1 ≤ v → every isDigit s ≡
 unfolding value every
 decimal-value [] v h e = sym (append-nil (decimal v))
 decimal-value (d ∷ s) v h e =
-    let r = digit-range d (and-left (isDigit d) (every isDigit s) e) in
+    let r = digit-range d (and-left (isDigit d) _ e) in
     let low : 48 ≤ d = r .0 in
     let high : d ≤ 57 = r .1 in
     let z : 48 + (d - 48) ≡ d = omega arith in
-    decimal-value s (10 * v + (d - 48)) (omega arith) (and-right (isDigit d) (every isDigit s) e)
-    ∙ ap (λ (l : List ℕ). l ++ s) (decimal-snoc v (d - 48) h (omega arith))
-    ∙ append-assoc (decimal v) ((48 + (d - 48)) ∷ []) s
-    ∙ ap (λ (b : ℕ). decimal v ++ (b ∷ s)) z
+    decimal-value s _ (omega arith) (and-right (isDigit d) _ e)
+    ∙ ap (λ l. l ++ s) (decimal-snoc v (d - 48) h (omega arith))
+    ∙ append-assoc (decimal v) _ s
+    ∙ ap (λ b. decimal v ++ (b ∷ s)) z
 
 pub decimal-of-digits : (s : List ℕ) → every isDigit s ≡ true → unpadded s ≡ true → decimal (value 0 s) ≡ s
 unfolding value unpadded every
-decimal-of-digits [] e u = absurd (true-false u refl)
+decimal-of-digits [] e u = true-false u refl
 decimal-of-digits (d ∷ []) e u =
     let r = digit-range d (and-left (isDigit d) true e) in
     let low : 48 ≤ d = r .0 in
     let high : d ≤ 57 = r .1 in
     let z : 48 + (10 * 0 + (d - 48)) ≡ d = omega arith in
-    decimal-small (10 * 0 + (d - 48)) (omega arith) ∙ ap (λ (b : ℕ). b ∷ []) z
+    cc (decimal-small (10 * 0 + (d - 48)) (omega arith))
 decimal-of-digits (d ∷ (b ∷ s)) e u =
-    let r = digit-range d (and-left (isDigit d) (every isDigit (b ∷ s)) e) in
+    let r = digit-range d (and-left (isDigit d) _ e) in
     let low : 48 ≤ d = r .0 in
     let high : d ≤ 57 = r .1 in
     let n : d ≡ 48 → ⊥ = eqb-false d 48 (not-true u) in
     let p : 1 ≤ 10 * 0 + (d - 48) = by-positive n low in
     let z : 48 + (10 * 0 + (d - 48)) ≡ d = omega arith in
-    decimal-value (b ∷ s) (10 * 0 + (d - 48)) p (and-right (isDigit d) (every isDigit (b ∷ s)) e)
-    ∙ ap (λ (l : List ℕ). l ++ (b ∷ s)) (decimal-small (10 * 0 + (d - 48)) (omega arith))
-    ∙ ap (λ (c : ℕ). c ∷ (b ∷ s)) z
+    decimal-value (b ∷ s) _ p (and-right (isDigit d) _ e)
+    ∙ ap (λ l. l ++ (b ∷ s)) (decimal-small _ (omega arith))
+    ∙ ap (λ c. c ∷ (b ∷ s)) z
   where
     not-true : not (eqb d 48) ≡ true → eqb d 48 ≡ false
     not-true = go (eqb d 48)
       where
         go : (t : Bool) → not t ≡ true → t ≡ false
-        go true q = absurd (true-false q refl)
+        go true q = true-false q refl
         go false q = refl
 
     by-positive : (d ≡ 48 → ⊥) → 48 ≤ d → 1 ≤ 10 * 0 + (d - 48)
-    by-positive n l = by-ltb (λ t. 1 ≤ 10 * 0 + (d - 48)) 48 d (λ h. omega arith) (λ h. absurd (n (omega arith)))
+    by-positive n l = by-lt 48 d (omega arith) (λ h. absurd (n (omega arith)))

@@ -5,7 +5,7 @@ use mathlib.Core.List.{[], _∷_}
 use Rattle.model.specs.Ascii.{ascii}
 use Rattle.model.specs.Text.{digits, decimal, line}
 use Rattle.text.specs.declared.Number.the-variants.{Read, Nothing}
-use Rattle.text.specs.Numbers.{leading, value, unpadded, numberOf, numberAt, endedBy, fieldAt}
+use Rattle.text.specs.Numbers.{leading, value, unpadded, numberOf, numberAt}
 
 zero-alone : numberAt (ascii "r 2 0") 4 ≡ Read 0 5
 unfolding ascii numberAt numberOf leading value unpadded
@@ -31,8 +31,8 @@ far-too-large : numberAt (ascii "s 18446744073709551720") 2 ≡ Nothing
 unfolding ascii numberAt numberOf leading value unpadded
 far-too-large = refl
 
-first-of-two : fieldAt (ascii "q 1 100") 2 32 ≡ Read 1 4
-unfolding ascii fieldAt endedBy numberAt numberOf leading value unpadded
+first-of-two : numberAt (ascii "q 1 100") 2 ≡ Read 1 3
+unfolding ascii numberAt numberOf leading value unpadded
 first-of-two = refl
 
 zone-line : line (11 ∷ 63 ∷ 1 ∷ []) ≡ ascii "11 63 1\n"

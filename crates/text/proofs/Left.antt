@@ -18,7 +18,7 @@ pub record Left (l : List ℕ) (at : ℕ) (text : List ℕ) (k : ℕ) (m : List 
 
 -- At the beginning all pieces are; the text as one piece.
 pub left-all : {l : List ℕ} {at : ℕ} {text : List ℕ} (ps : List (List ℕ)) → joined ps ≡ text → Left l at text at l ps
-left-all {l} {at} {text} ps e = record { ends = ap (λ (t : List ℕ). at + length t) e; bytes = ap (sets l at) e }
+left-all {l} {at} {text} ps e = record { ends = cc; bytes = ap (sets l at) e }
 
 pub left-one : {l : List ℕ} {at : ℕ} (text : List ℕ) → Left l at text at l (text ∷ [])
 left-one text = left-all (text ∷ []) (append-nil text)
@@ -27,19 +27,19 @@ module _ {l : List ℕ} {at : ℕ} {text : List ℕ} {k : ℕ} {m : List ℕ} wh
   -- The same pieces in another cut.
   pub left-as : {ps : List (List ℕ)} (qs : List (List ℕ)) → joined ps ≡ joined qs → Left l at text k m ps → Left l at text k m qs
   left-as qs e a =
-      record { ends = ap (λ (t : List ℕ). k + length t) (sym e) ∙ a .ends; bytes = ap (sets m k) (sym e) ∙ a .bytes }
+      record { ends = cc; bytes = ap (sets m k) (sym e) ∙ a .bytes }
 
   -- The first piece as two; the first piece is empty.
   pub left-split : {y : List ℕ} {ps : List (List ℕ)} (x z : List ℕ) → y ≡ x ++ z → Left l at text k m (y ∷ ps) → Left l at text k m (x ∷ z ∷ ps)
   left-split {y} {ps} x z e a =
-      left-as (x ∷ z ∷ ps) (ap (λ (t : List ℕ). t ++ joined ps) e ∙ append-assoc x z (joined ps)) a
+      left-as _ (cc (append-assoc x z (joined ps))) a
 
   pub left-none : {y : List ℕ} {ps : List (List ℕ)} → y ≡ [] → Left l at text k m (y ∷ ps) → Left l at text k m ps
-  left-none {y} {ps} e a = left-as ps (ap (λ (t : List ℕ). t ++ joined ps) e) a
+  left-none {y} {ps} e a = left-as ps (cc) a
 
   -- The first piece is the element at i of a list, and the rest of the list follows.
   pub left-next : {ps : List (List ℕ)} (s : List ℕ) (i : ℕ) → i < length s → Left l at text k m (drop i s ∷ ps) → Left l at text k m ((getD s i 0 ∷ []) ∷ drop (i + 1) s ∷ ps)
-  left-next s i h a = left-split (getD s i 0 ∷ []) (drop (i + 1) s) (next-word s i 0 h) a
+  left-next s i h a = left-split _ _ (next-word s i 0 h) a
 
   -- The first piece is written.
   pub left-step : {x : List ℕ} {ps : List (List ℕ)} {r : ℕ} {n : List ℕ} → Left l at text k m (x ∷ ps) → Wrote m k x r n → Left l at text r n ps
@@ -47,10 +47,7 @@ module _ {l : List ℕ} {at : ℕ} {text : List ℕ} {k : ℕ} {m : List ℕ} wh
       record {
         ends = omega (arith, length-append x (joined ps));
         bytes =
-            ap (λ (j : ℕ). sets n j (joined ps)) (w .next)
-            ∙ ap (λ (z : List ℕ). sets z (k + length x) (joined ps)) (w .bytes)
-            ∙ sets-append x (joined ps) m k
-            ∙ a .bytes;
+            cc (sets-append x (joined ps) m k);
       }
 
   -- What the writer of the first piece requires.
@@ -69,4 +66,4 @@ wrote-then {x} {y} a b = left-done (left-step (left-step (left-split x y refl (l
 
 -- The same text under another name.
 pub wrote-as : {l m : List ℕ} {at k : ℕ} {x y : List ℕ} → x ≡ y → Wrote l at x k m → Wrote l at y k m
-wrote-as {l} {m} {at} {k} e w = subst (λ (z : List ℕ). Wrote l at z k m) e w
+wrote-as {l} {m} {at} {k} e w = rw e at w

@@ -3,5 +3,4 @@ pub mod Left
 pub mod Lines
 pub mod Scan
 pub mod Numbers
-pub mod Fields
 pub mod Examples

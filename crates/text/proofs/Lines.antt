@@ -31,9 +31,9 @@ fields (n ∷ r) = field n (endBefore r) ++ fields r
 
 line-fields : (n : ℕ) (r : List ℕ) → line (n ∷ r) ≡ fields (n ∷ r)
 unfolding line fields field endBefore
-line-fields n [] = sym (append-nil (decimal n ++ (10 ∷ [])))
+line-fields n [] = sym (append-nil _)
 line-fields n (k ∷ r) =
-    ap (λ (l : List ℕ). decimal n ++ (32 ∷ l)) (line-fields k r) ∙ sym (append-assoc (decimal n) (32 ∷ []) (fields (k ∷ r)))
+    cc (line-fields k r, append-assoc (decimal n) (32 ∷ []) (fields (k ∷ r)))
 
 end-drop : (s : List ℕ) (i : ℕ) → endBefore (drop i s) ≡ cond (ltb i (length s)) 32 10
 unfolding endBefore
@@ -55,8 +55,7 @@ line-some (n ∷ s) h = sym (line-fields n s)
 fields-next : (s : List ℕ) (i e : ℕ) → i < length s → e ≡ cond (ltb (i + 1) (length s)) 32 10 → fields (drop i s) ≡ field (getD s i 0) e ++ fields (drop (i + 1) s)
 unfolding fields
 fields-next s i e h q =
-    ap fields (next-word s i 0 h)
-    ∙ ap (λ (b : ℕ). field (getD s i 0) b ++ fields (drop (i + 1) s)) (end-drop s (i + 1) ∙ sym q)
+    cc (next-word s i 0 h, end-drop s (i + 1))
 
 fields-none : (s : List ℕ) (i : ℕ) → length s ≤ i → fields (drop i s) ≡ []
 unfolding fields
@@ -64,11 +63,11 @@ fields-none s i h = ap fields (drop-of-length-le s {i = i} h)
 
 -- The writer of a line's fields: all of them, the next one, none.
 pub left-line : {l : List ℕ} {at : ℕ} (s : List ℕ) → (length s ≡ 0 → ⊥) → Left l at (line s) at l (fields s ∷ [])
-left-line s h = left-all (fields s ∷ []) (append-nil (fields s) ∙ line-some s h)
+left-line s h = left-all _ (append-nil (fields s) ∙ line-some s h)
 
 module _ {l : List ℕ} {at : ℕ} {text : List ℕ} {k : ℕ} {m : List ℕ} (s : List ℕ) (i : ℕ) where
   pub left-number : {e : ℕ} → i < length s → e ≡ cond (ltb (i + 1) (length s)) 32 10 → Left l at text k m (fields (drop i s) ∷ []) → Left l at text k m (field (getD s i 0) e ∷ fields (drop (i + 1) s) ∷ [])
-  left-number {e} h q a = left-split (field (getD s i 0) e) (fields (drop (i + 1) s)) (fields-next s i e h q) a
+  left-number {e} h q a = left-split _ _ (fields-next s i e h q) a
 
   pub left-end : length s ≤ i → Left l at text k m (fields (drop i s) ∷ []) → Left l at text k m []
   left-end h a = left-none (fields-none s i h) a
@@ -77,25 +76,17 @@ module _ {l : List ℕ} {at : ℕ} {text : List ℕ} {k : ℕ} {m : List ℕ} (s
 
 pub left-field : {l : List ℕ} {at : ℕ} (n e : ℕ) → Left l at (field n e) at l (decimal n ∷ (e ∷ []) ∷ [])
 unfolding field
-left-field n e = left-all (decimal n ∷ (e ∷ []) ∷ []) (ap (λ (t : List ℕ). decimal n ++ t) (append-nil (e ∷ [])))
+left-field n e = left-all _ (cc (append-nil (e ∷ [])))
 
 pub left-named : {l : List ℕ} {at : ℕ} (name : List ℕ) (n : ℕ) → Left l at (named name n) at l (name ∷ (32 ∷ []) ∷ field n 10 ∷ [])
 unfolding named line field
 left-named name n =
-    left-all (name ∷ (32 ∷ []) ∷ (decimal n ++ (10 ∷ [])) ∷ []) (ap (λ (t : List ℕ). name ++ (32 ∷ t)) (append-nil (decimal n ++ (10 ∷ []))))
+    left-all _ (cc (append-nil (decimal n ++ (10 ∷ []))))
 
 -- A section is its first line, and then the others.
 pub section-named : (name : String) (rows : List (List ℕ)) → section name rows ≡ named (ascii name) (length rows) ++ lines rows
 unfolding section named
-section-named name rows = sym (append-assoc (ascii name) (32 ∷ line (length rows ∷ [])) (lines rows))
-
-pub lines-more : (row : List ℕ) (rows : List (List ℕ)) → lines (row ∷ rows) ≡ line row ++ lines rows
-unfolding lines
-lines-more row rows = refl
-
-pub lines-none : lines [] ≡ []
-unfolding lines
-lines-none = refl
+section-named name rows = sym (append-assoc (ascii name) _ _)
 
 -- ---- lengths, where every number has 64 bits
 
@@ -113,8 +104,8 @@ length-fields (n ∷ s) e =
     omega (
       arith,
       length-append (field n (endBefore s)) (fields s),
-      length-field n (endBefore s) (ltb-true n (2 ^ 64) (and-left (isLong n) (every isLong s) e)),
-      length-fields s (and-right (isLong n) (every isLong s) e),
+      length-field n (endBefore s) (ltb-true n (2 ^ 64) (and-left (isLong n) _ e)),
+      length-fields s (and-right (isLong n) _ e),
     )
 
 pub length-line : (s : List ℕ) → every isLong s ≡ true → length (line s) ≤ 21 * length s + 1

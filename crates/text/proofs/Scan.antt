@@ -54,8 +54,7 @@ module _ (s : List ℕ) (at : ℕ) where
   unfolding numberOn numberAt leading
   begins {v} h e q =
       rw (next-word s at 0 h, e)
-      (ap (λ (n : ℕ). numberWith n (at + 1) (leading (drop (at + 1) s))) q
-      ∙ first-digit at (getD s at 0) (leading (drop (at + 1) s)) (digit-range (getD s at 0) e .0))
+      (cc (first-digit at (getD s at 0) (leading (drop (at + 1) s)) (digit-range (getD s at 0) e .0)))
 
 -- ---- the next byte
 
@@ -77,7 +76,7 @@ module _ (v i : ℕ) (ds : List ℕ) where
   unfolding numberWith value
   with-large d h =
       let k : largest < value (10 * v + (d - 48)) ds = omega (arith, value-grows ds (10 * v + (d - 48))) in
-      rw (lt-leb (value (10 * v + (d - 48)) ds) largest k, and-false (follows v (d ∷ ds)))
+      rw (lt-leb _ largest k, and-false _)
 
   with-more : (d : ℕ) → (v ≡ 0 → ⊥) → numberWith (10 * v + (d - 48)) (i + 1) ds ≡ numberWith v i (d ∷ ds)
   unfolding numberWith value follows
@@ -98,15 +97,14 @@ module _ (s : List ℕ) (v i : ℕ) where
     module _ (e : isDigit (getD s i 0) ≡ true) where
       pub on-zero : v ≡ 0 → Nothing ≡ numberOn v i (drop i s)
       unfolding numberOn leading
-      on-zero z = rw (next-word s i 0 h, e) (with-zero v i (leading (drop (i + 1) s)) (getD s i 0) z)
+      on-zero z = rw (next-word s i 0 h, e) (with-zero v i _ _ z)
 
       pub on-large : {d : ℕ} → d ≡ getD s i 0 - 48 → largest < 10 * v + d → Nothing ≡ numberOn v i (drop i s)
       unfolding numberOn leading
-      on-large q k = rw (next-word s i 0 h, e) (with-large v i (leading (drop (i + 1) s)) (getD s i 0) (omega arith))
+      on-large q k = rw (next-word s i 0 h, e) (with-large v i _ _ (omega arith))
 
       pub on-more : {d : ℕ} → d ≡ getD s i 0 - 48 → (v ≡ 0 → ⊥) → numberOn (10 * v + d) (i + 1) (drop (i + 1) s) ≡ numberOn v i (drop i s)
       unfolding numberOn leading
       on-more q n =
           rw (next-word s i 0 h, e)
-          (ap (λ (d : ℕ). numberWith (10 * v + d) (i + 1) (leading (drop (i + 1) s))) q
-          ∙ with-more v i (leading (drop (i + 1) s)) (getD s i 0) n)
+          (cc (with-more v i (leading (drop (i + 1) s)) (getD s i 0) n))

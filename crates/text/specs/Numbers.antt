@@ -4,7 +4,7 @@ use Prim.Native.Nat.{ℕ, _+_, _*_, _-_}
 use mathlib.Core.Bool.{Bool, true, false, cond, not, _&&_}
 use mathlib.Core.List.{List, [], _∷_}
 use lib.Dec.{leb, eqb}
-use lib.ListN.{length, drop, getD}
+use lib.ListN.{length, drop}
 use Rattle.text.specs.declared.Number.{Number}
 use Rattle.text.specs.declared.Number.the-variants.{Read, Nothing}
 
@@ -43,12 +43,3 @@ numberAt s at = numberOf at (leading (drop at s))
 unfoldable pub stops : List ℕ → Bool
 stops [] = true
 stops (b ∷ s) = not (isDigit b)
-
--- The number that was read, if the byte `end` follows it.
-unfoldable pub endedBy : List ℕ → ℕ → Number → Number
-endedBy s end (Read v n) = cond (leb (length s) n) Nothing (cond (eqb (getD s n 0) end) (Read v (n + 1)) Nothing)
-endedBy s end Nothing = Nothing
-
--- The number at position `at`, with the byte `end` behind it.
-unfoldable pub fieldAt : List ℕ → ℕ → ℕ → Number
-fieldAt s at end = endedBy s end (numberAt s at)

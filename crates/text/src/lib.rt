@@ -8,7 +8,7 @@ ghost use mathlib.Core.List.{[], _∷_};
 ghost use lib.Dec.{ltb};
 ghost use Rattle.model.specs.Text.{decimal, line};
 ghost use Rattle.text.specs.Writing.{Bounded, Wrote, field, named};
-ghost use Rattle.text.specs.Numbers.{isDigit, numberAt, fieldAt};
+ghost use Rattle.text.specs.Numbers.{isDigit, numberAt};
 
 // What stands at a position of a text: a number, which ends before the position `next`, or none.
 pub enum Number {
@@ -138,25 +138,6 @@ pub fn read_number(s: &[u8], at: usize) -> Number
     Number::Read {
         value: v as u32,
         next: i,
-    }
-}
-
-// The number at a position, if the byte `end` follows it; `next` is then after that byte.
-pub fn read_field(s: &[u8], at: usize, end: u8) -> Number
-    ensures { λ r. ⌜ r ≡ fieldAt (now (s .entry)) at end ⌝ }
-{
-    let Number::Read { value, next } = read_number(s, at) else {
-        return Number::Nothing;
-    };
-    if s.len() <= next {
-        return Number::Nothing;
-    }
-    if s[next] != end {
-        return Number::Nothing;
-    }
-    Number::Read {
-        value,
-        next: next + 1,
     }
 }
 

@@ -80,7 +80,7 @@ apart-zone c (suc b) z r h = h .2
 
 apart-runs : (c : Bool) (b n : ℕ) (r : List (Segment Zone)) → Apart c (withRun b (run n ∷ r)) → (b ≡ 0) × (0 < n)
 apart-runs c zero n r h = (refl, h .1)
-apart-runs c (suc b) n r h = absurd (true-false refl (h .2 .0))
+apart-runs c (suc b) n r h = true-false refl (h .2 .0)
 
 module _ {s₀ s : State} {n p b k : ℕ} (i : Sweeping s₀ s n p b k) where
   pages-left : p + total (i .left) ≡ n

@@ -4,7 +4,6 @@ use Prim.Native.Nat.{ℕ, _+_, _-_, _*_, _≤_, _<_}
 use mathlib.Core.Path.{_≡_, refl, sym, ap, _∙_, subst}
 use mathlib.Core.Bool.{Bool, true, false, cond, not, _&&_}
 use mathlib.Core.List.{List, [], _∷_, map, List·Memᴰ}
-use mathlib.Core.Option.{Option·none-ne-some}
 use native.Mathlib.Omega.{arith}
 use lib.Dec.{ltb, eqb}
 use lib.ListN.{length, getD, set, length-set, length-map, List·getD-map}
@@ -12,7 +11,7 @@ use lib.Seq.{ext-getD, getD-set-same, getD-set-other}
 use borrow.Author.Tests.{ltb-false, eq-eqb, ne-eqb, eqb-true, eqb-false}
 use Rattle.lemmas.specs.Keep.{keep}
 use Rattle.lemmas.specs.Times.{remove}
-use Rattle.lemmas.proofs.Cases.{bool, and-both, cond-same, some-inj}
+use Rattle.lemmas.proofs.Cases.{bool, and-both, cond-same, some-inj, none-some}
 use Rattle.lemmas.proofs.Every.{every-of-members}
 use Rattle.lemmas.proofs.Keep.{keep-all, keep-keep, keep-same}
 use Rattle.model.specs.Numbers.{zonePages}
@@ -96,7 +95,7 @@ stays-past c p q (x ∷ r) h = and-both (staysBy c p x q) (stays c (p + pages x)
 
 -- A page at which a zone of the class begins stays just if the zone is not idle.
 stays-zone : (c p q : ℕ) (m : List (Segment Zone)) (z : Zone) → ZoneAt m q z → z .class ≡ c → stays c p m (p + q) ≡ not (idleZone z)
-stays-zone c p q [] z b e = absurd (Option·none-ne-some (record { away = 0; segment = zone z }) b)
+stays-zone c p q [] z b e = none-some b
 stays-zone c p q (x ∷ r) z b e = bool (ltb (q * 4096) (bytes x))
     (λ t. let k = some-inj (rw t at b) in here (omega (arith, ap (λ a. a .away) k)) (ap (λ a. a .segment) k))
     (λ t.

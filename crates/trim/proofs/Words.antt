@@ -18,6 +18,7 @@ use Rattle.header.proofs.Kept.{fits-remove}
 use Rattle.pages.specs.Encoding.{kindOf, Writable}
 use Rattle.pages.specs.Places.{Stands, runPages}
 use Rattle.pages.proofs.Laws.{each-left, each-right}
+use Rattle.pages.proofs.Inverse.{zone-by-kind}
 use Rattle.metadata.specs.Encoding.{encode}
 use Rattle.metadata.specs.Decoding.{decode}
 use Rattle.steps.specs.Lent.{Encodes, Lent, ZoneHere}
@@ -27,6 +28,7 @@ use Rattle.steps.proofs.Body.{stands-begins, release-total}
 use Rattle.steps.proofs.Zones.{zone-at, zone-there as zone-begun}
 use Rattle.trim.specs.Between.{idleSegment, Between}
 use Rattle.trim.proofs.Places.{between-stands, between-released, between-run}
+use Rattle.zone.specs.Encoding.{kindZone}
 
 -- What holds of a state holds of the state that its words decode to.
 pub in-words {ℓ} : {w : List ℕ} {s : State} → Encodes w s → (P : State → Type ℓ) → P s → P (decode w)
@@ -34,19 +36,14 @@ in-words h P k = subst P (sym (lent-decoded h)) k
 
 -- ---- a segment that begins at page p
 
-zone-kind : (x : Segment Zone) → kindOf x ≡ 3 → (z : Zone) × (x ≡ zone z)
-zone-kind (run n) e = absurd (omega arith)
-zone-kind (direct n g) e = absurd (omega arith)
-zone-kind (zone z) e = (z, refl)
-
-pub no-zone : (x : Segment Zone) → (kindOf x ≡ 3 → ⊥) → false ≡ idleSegment x
+pub no-zone : (x : Segment Zone) → (kindOf x ≡ kindZone → ⊥) → false ≡ idleSegment x
 no-zone (run n) e = refl
 no-zone (direct n g) e = refl
 no-zone (zone z) e = absurd (e refl)
 
 pub idle-zone : (x : Segment Zone) → idleSegment x ≡ true → (z : Zone) × (x ≡ zone z) × (idleZone z ≡ true)
-idle-zone (run n) e = absurd (true-false e refl)
-idle-zone (direct n g) e = absurd (true-false e refl)
+idle-zone (run n) e = true-false e refl
+idle-zone (direct n g) e = true-false e refl
 idle-zone (zone z) e = (z, refl, e)
 
 -- The zone that begins there.
@@ -57,12 +54,12 @@ module _ {m : List (Segment Zone)} {p b : ℕ} {z : Zone} (s : Stands m p b (zon
   pub zone-here : ZoneAt m p (zoneAt p m)
   zone-here = zone-begun m p z (stands-begins s (omega arith))
 
-module _ {m : List (Segment Zone)} {p b : ℕ} {x : Segment Zone} (s : Stands m p b x) (k : kindOf x ≡ 3) where
+module _ {m : List (Segment Zone)} {p b : ℕ} {x : Segment Zone} (s : Stands m p b x) (k : kindOf x ≡ kindZone) where
   pub kind-here : ZoneAt m p (zoneAt p m)
-  kind-here = let q = zone-kind x k in zone-here {b = b} {z = q .0} (subst (λ y. Stands m p b y) (q .1) s)
+  kind-here = let q = zone-by-kind x k in zone-here {b = b} {z = q .0} (subst (λ y. Stands m p b y) (q .1) s)
 
   pub kind-idle : idleZone (zoneAt p m) ≡ idleSegment x
-  kind-idle = let q = zone-kind x k in ap (λ z. idleZone z) (zone-there {b = b} {z = q .0} (subst (λ y. Stands m p b y) (q .1) s)) ∙ ap (λ y. idleSegment y) (sym (q .1))
+  kind-idle = let q = zone-by-kind x k in ap (λ z. idleZone z) (zone-there {b = b} {z = q .0} (subst (λ y. Stands m p b y) (q .1) s)) ∙ ap (λ y. idleSegment y) (sym (q .1))
 
 -- ---- a zone is given back
 

@@ -37,11 +37,11 @@ Says t Wrong = Unit
 
 -- The number is the last thing in the line.
 last-number : (s : List ℕ) (n a : ℕ) → length s ≤ n → decimal a ++ drop n s ≡ decimal a
-last-number s n a h = ap (λ (l : List ℕ). decimal a ++ l) (drop-of-length-le s {i = n} h) ∙ append-nil (decimal a)
+last-number s n a h = cc (drop-of-length-le s {i = n} h, append-nil (decimal a))
 
 -- One space, and what follows it.
 after-space : (s : List ℕ) (at : ℕ) → at < length s → getD s at 0 ≡ 32 → drop at s ≡ 32 ∷ drop (at + 1) s
-after-space s at h c = next-word s at 0 h ∙ ap (λ (b : ℕ). b ∷ drop (at + 1) s) c
+after-space s at h c = cc (next-word s at 0 h)
 
 second-says : (s t : List ℕ) (a n : ℕ) (r : Number) → t ≡ 32 ∷ (decimal a ++ drop n s) → a ≤ largest → n < length s → getD s n 0 ≡ 32 → numberAt s (n + 1) ≡ r → Says t (secondOf s a r)
 unfolding secondOf Says
@@ -50,7 +50,7 @@ second-says s t a n (Read b m) e f h c q =
     let w : Stands s (n + 1) b m = number-stands s (n + 1) b m q in
     by-leb (λ o. Says t (cond o (Two a b) Wrong)) (length s) m
     (λ k. (
-      e ∙ ap (λ (l : List ℕ). 32 ∷ (decimal a ++ l)) (after-space s n h c ∙ ap (λ (l : List ℕ). 32 ∷ l) (w .is ∙ last-number s m b k)),
+      cc (after-space s n h c, last-number s m b k),
       f,
       w .fits,
     ))
@@ -60,17 +60,17 @@ second-at-says : (s t : List ℕ) (a n : ℕ) → t ≡ 32 ∷ (decimal a ++ dro
 unfolding secondAt Says
 second-at-says s t a n e f =
     by-leb (λ o. Says t (cond o (One a) (cond (eqb (getD s n 0) 32) (secondOf s a (numberAt s (n + 1))) Wrong))) (length s) n
-    (λ k. (e ∙ ap (λ (l : List ℕ). 32 ∷ l) (last-number s n a k), f))
+    (λ k. (cc (last-number s n a k), f))
     (λ k.
     by-eqb (λ o. Says t (cond o (secondOf s a (numberAt s (n + 1))) Wrong)) (getD s n 0) 32
-    (λ c. second-says s t a n (numberAt s (n + 1)) e f k c refl) (λ c. tt))
+    (λ c. second-says s t a n _ e f k c refl) (λ c. tt))
 
 first-says : (s : List ℕ) (at : ℕ) (r : Number) → at < length s → getD s at 0 ≡ 32 → numberAt s (at + 1) ≡ r → Says (drop at s) (firstOf s r)
 unfolding firstOf Says
 first-says s at Nothing h c q = tt
 first-says s at (Read a n) h c q =
     let w : Stands s (at + 1) a n = number-stands s (at + 1) a n q in
-    second-at-says s (drop at s) a n (after-space s at h c ∙ ap (λ (l : List ℕ). 32 ∷ l) (w .is)) (w .fits)
+    second-at-says s (drop at s) a n (cc (after-space s at h c)) (w .fits)
 
 numbers-say : (s : List ℕ) (at : ℕ) → Says (drop at s) (numbersAt s at)
 unfolding numbersAt Says
@@ -120,7 +120,7 @@ line-told c t Wrong m = inl refl
 pub line-read : (s : List ℕ) → (lineOf s ≡ Bad) ⊎ (IsCall (lineOf s) × (s ≡ lineText (lineOf s)))
 unfolding lineOf Told
 line-read [] = inl refl
-line-read (c ∷ t) = line-told c t (numbersAt (c ∷ t) 1) (numbers-say (c ∷ t) 1)
+line-read (c ∷ t) = line-told c t _ (numbers-say (c ∷ t) 1)
 
 -- ---- a call's text is read
 
@@ -136,14 +136,14 @@ module _ (s : List ℕ) (at : ℕ) where
   numbers-two : (a b : ℕ) → drop at s ≡ 32 ∷ (decimal a ++ (32 ∷ decimal b)) → a ≤ largest → b ≤ largest → numbersAt s at ≡ Two a b
   unfolding stops
   numbers-two a b e f g =
-      let h = head-is s at 32 0 (decimal a ++ (32 ∷ decimal b)) e in
+      let h = head-is s at 32 0 _ e in
       let first : numberAt s (at + 1) ≡ Read a (at + 1 + length (decimal a)) =
-      number-read s (at + 1) a (32 ∷ decimal b) (h .2) f refl in
-      let k = head-is s (at + 1 + length (decimal a)) 32 0 (decimal b) (front-after s (at + 1) (decimal a) (32 ∷ decimal b) (h .2)) in
+      number-read s (at + 1) a _ (h .2) f refl in
+      let k = head-is s _ 32 0 (decimal b) (front-after s (at + 1) (decimal a) _ (h .2)) in
       let second : numberAt s (at + 1 + length (decimal a) + 1) ≡ Read b (length s) =
-      number-last s (at + 1 + length (decimal a) + 1) b (k .2) g in
+      number-last s _ b (k .2) g in
       sym
-      (second-last s (at + 1 + length (decimal a)) a (k .0) (k .1) second (omega arith)
+      (second-last s _ a (k .0) (k .1) second (omega arith)
       ∙ first-then s at (h .0) (h .1) first)
 
 with-numbers : (c : ℕ) (t : List ℕ) {n : Numbers} → numbersAt (c ∷ t) 1 ≡ n → lineOf (c ∷ t) ≡ lineWith c n
@@ -152,16 +152,16 @@ with-numbers c t e = ap (lineWith c) e
 
 call-read : (g : ℕ) (o : Operation) → g ≤ largest → OperationFits o → lineOf (callText g o) ≡ Group (record { group = g; operation = o })
 unfolding OperationFits callText ascii lineWith lineOfOne lineOfTwo
-call-read g (Allocate n) h k = with-numbers 113 (32 ∷ (decimal g ++ (32 ∷ decimal n))) (numbers-two (113 ∷ 32 ∷ (decimal g ++ (32 ∷ decimal n))) 1 g n refl h k)
-call-read g (Free o) h k = with-numbers 114 (32 ∷ (decimal g ++ (32 ∷ decimal o))) (numbers-two (114 ∷ 32 ∷ (decimal g ++ (32 ∷ decimal o))) 1 g o refl h k)
-call-read g Reset h k = with-numbers 120 (32 ∷ decimal g) (numbers-one (120 ∷ 32 ∷ decimal g) 1 g refl h)
+call-read g (Allocate n) h k = with-numbers 113 _ (numbers-two _ 1 g n refl h k)
+call-read g (Free o) h k = with-numbers 114 _ (numbers-two _ 1 g o refl h k)
+call-read g Reset h k = with-numbers 120 _ (numbers-one _ 1 g refl h)
 
 pub text-read : (l : Line) → IsCall l → lineOf (lineText l) ≡ l
 unfolding IsCall lineText ascii lineWith bareLine lineOfOne
-text-read (Init n) h = with-numbers 115 (32 ∷ decimal n) (numbers-one (115 ∷ 32 ∷ decimal n) 1 n refl h)
-text-read (Group c) h = call-read (c .group) (c .operation) (h .0) (h .1)
+text-read (Init n) h = with-numbers 115 _ (numbers-one _ 1 n refl h)
+text-read (Group c) h = call-read (c .group) _ (h .0) (h .1)
 text-read Trim h = with-numbers 116 [] (numbers-none (116 ∷ []) 1 refl)
-text-read (Query o) h = with-numbers 98 (32 ∷ decimal o) (numbers-one (98 ∷ 32 ∷ decimal o) 1 o refl h)
+text-read (Query o) h = with-numbers 98 _ (numbers-one _ 1 o refl h)
 text-read Listing h = with-numbers 112 [] (numbers-none (112 ∷ []) 1 refl)
 text-read Bad h = absurd h
 
@@ -169,15 +169,15 @@ text-read Bad h = absurd h
 
 bad-call : {l : Line} → l ≡ Bad → IsCall l → ⊥
 unfolding IsCall
-bad-call e h = subst IsCall e h
+bad-call e h = rw e at h
 
 -- A line is read as a call if and only if it is that call's text.
 pub grammar : (s : List ℕ) (l : Line) → IsCall l → (lineOf s ≡ l) ↔ (s ≡ lineText l)
-grammar s l h = (λ e. go e (line-read s), λ e. ap lineOf e ∙ text-read l h)
+grammar s l h = (λ e. go e (line-read s), λ e. cc (text-read l h))
   where
     go : lineOf s ≡ l → (lineOf s ≡ Bad) ⊎ (IsCall (lineOf s) × (s ≡ lineText (lineOf s))) → s ≡ lineText l
     go e (inl b) = absurd (bad-call (sym e ∙ b) h)
-    go e (inr r) = r .1 ∙ ap lineText e
+    go e (inr r) = cc
 
 -- Every other line is bad.
 pub other-bad : (s : List ℕ) → ((l : Line) → IsCall l → s ≡ lineText l → ⊥) → lineOf s ≡ Bad
@@ -211,7 +211,7 @@ call-length g Reset h k = length-one (ascii "x ") g h refl
 pub text-length : (l : Line) → IsCall l → length (lineText l) ≤ 23
 unfolding IsCall lineText ascii
 text-length (Init n) h = length-one (ascii "s ") n h refl
-text-length (Group c) h = call-length (c .group) (c .operation) (h .0) (h .1)
+text-length (Group c) h = call-length (c .group) _ (h .0) (h .1)
 text-length Trim h = omega arith
 text-length (Query o) h = length-one (ascii "b ") o h refl
 text-length Listing h = omega arith

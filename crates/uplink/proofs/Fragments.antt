@@ -16,7 +16,8 @@ use Rattle.uplink.specs.declared.Got.{Got}
 use Rattle.uplink.specs.declared.Got.the-variants.{Whole, More}
 use Rattle.uplink.specs.declared.Fed.{Fed}
 use Rattle.uplink.specs.Grammar.{lineOf}
-use Rattle.uplink.specs.Fragments.{Held, part, long, fresh, held, hold, lineHeld, lastLine, Step, stepFrom, stepOf, FedBy, putIf, heldWith, heldAfter, linesBy, heldAfterAll, linesByAll, gotten, lastText, textsOf}
+use Rattle.lemmas.specs.Keep.{putIf}
+use Rattle.uplink.specs.Fragments.{Held, part, long, fresh, held, hold, lineHeld, lastLine, Step, stepFrom, stepOf, FedBy, heldWith, heldAfter, linesBy, heldAfterAll, linesByAll, gotten, lastText, textsOf}
 use Rattle.uplink.proofs.Exact.{long-bad}
 
 -- ---- cut anywhere
@@ -28,26 +29,26 @@ put-append false a l m = refl
 pub cut-held : (x y : List ℕ) (k : Held) → heldAfter k (x ++ y) ≡ heldAfter (heldAfter k x) y
 unfolding heldAfter
 cut-held [] y k = refl
-cut-held (b ∷ x) y k = cut-held x y (heldWith k b)
+cut-held (b ∷ x) y k = cut-held x y _
 
 pub cut-lines : (x y : List ℕ) (k : Held) → linesBy k (x ++ y) ≡ linesBy k x ++ linesBy (heldAfter k x) y
 unfolding linesBy heldAfter
 cut-lines [] y k = refl
 cut-lines (b ∷ x) y k =
-    ap (putIf (eqb b 10) (lineHeld k)) (cut-lines x y (heldWith k b))
-    ∙ put-append (eqb b 10) (lineHeld k) (linesBy (heldWith k b) x) (linesBy (heldAfter (heldWith k b) x) y)
+    ap (putIf (eqb b 10) (lineHeld k)) (cut-lines x y _)
+    ∙ put-append (eqb b 10) _ _ _
 
 -- Into any number of fragments, empty ones among them.
 pub fragments-held : (xs : List (List ℕ)) (k : Held) → heldAfterAll k xs ≡ heldAfter k (joined xs)
 unfolding heldAfterAll heldAfter
 fragments-held [] k = refl
-fragments-held (x ∷ xs) k = fragments-held xs (heldAfter k x) ∙ sym (cut-held x (joined xs) k)
+fragments-held (x ∷ xs) k = fragments-held xs _ ∙ sym (cut-held x (joined xs) k)
 
 pub fragments-lines : (xs : List (List ℕ)) (k : Held) → linesByAll k xs ≡ linesBy k (joined xs)
 unfolding linesByAll linesBy
 fragments-lines [] k = refl
 fragments-lines (x ∷ xs) k =
-    ap (λ (l : List Line). linesBy k x ++ l) (fragments-lines xs (heldAfter k x)) ∙ sym (cut-lines x (joined xs) k)
+    cc (fragments-lines xs (heldAfter k x), cut-lines x (joined xs) k)
 
 -- ---- the lines of an input
 
@@ -74,8 +75,8 @@ holding-more p b =
     by-length (λ k. hold k b ≡ holding (p ++ (b ∷ []))) p
     (λ _.
     by-ltb (λ t. cond t (part (p ++ (b ∷ []))) long ≡ holding (p ++ (b ∷ []))) (length p) 64
-    (λ h. sym (holding-part (p ++ (b ∷ [])) (omega arith))) (λ h. sym (holding-long (p ++ (b ∷ [])) (omega arith))))
-    (λ h. sym (holding-long (p ++ (b ∷ [])) (omega arith)))
+    (λ h. sym (holding-part _ (omega arith))) (λ h. sym (holding-long _ (omega arith))))
+    (λ h. sym (holding-long _ (omega arith)))
 
 -- A held line is what the grammar says: one of more than 64 bytes is no call's text.
 holding-line : (p : List ℕ) → lineHeld (holding p) ≡ lineOf p
@@ -84,10 +85,10 @@ holding-line p = by-length (λ k. lineHeld k ≡ lineOf p) p (λ h. refl) (λ h.
 
 holding-last : (p : List ℕ) → gotten (lastLine (holding p)) ≡ map lineOf (lastText p)
 unfolding gotten lastLine lastText
-holding-last [] = ap (λ (k : Held). gotten (lastLine k)) (holding-part [] (omega arith))
+holding-last [] = cc (holding-part [] (omega arith))
 holding-last (b ∷ p) =
     by-length (λ k. gotten (lastLine k) ≡ lineOf (b ∷ p) ∷ []) (b ∷ p) (λ h. refl)
-    (λ h. ap (λ (l : Line). l ∷ []) (sym (long-bad (b ∷ p) h)))
+    (λ h. cc (long-bad (b ∷ p) h))
 
 -- From what is held of the bytes p since the last LF.
 held-lines : List ℕ → Held → List Line
@@ -96,29 +97,25 @@ held-lines s k = linesBy k s ++ gotten (lastLine (heldAfter k s))
 next-lines : (t : Bool) (b : ℕ) (s p : List ℕ) → ((q : List ℕ) → held-lines s (holding q) ≡ map lineOf (textsOf q s))
     → putIf t (lineHeld (holding p)) (held-lines s (cond t fresh (hold (holding p) b))) ≡ map lineOf (putIf t p (textsOf (cond t [] (p ++ (b ∷ []))) s))
 next-lines true b s p ih =
-    ap (λ (l : Line). l ∷ held-lines s fresh) (holding-line p)
-    ∙ ap (λ (k : Held). lineOf p ∷ held-lines s k) (sym (holding-part [] (omega arith)))
-    ∙ ap (λ (l : List Line). lineOf p ∷ l) (ih [])
-next-lines false b s p ih = ap (held-lines s) (holding-more p b) ∙ ih (p ++ (b ∷ []))
+    cc (holding-line p, holding-part [] (omega arith), ih [])
+next-lines false b s p ih = cc (holding-more p b, ih (p ++ (b ∷ [])))
 
 holding-lines : (s p : List ℕ) → held-lines s (holding p) ≡ map lineOf (textsOf p s)
 unfolding held-lines linesBy heldAfter heldWith textsOf
 holding-lines [] p = holding-last p
 holding-lines (b ∷ s) p =
-    sym (put-append (eqb b 10) (lineHeld (holding p)) (linesBy (heldWith (holding p) b) s) (gotten (lastLine (heldAfter (heldWith (holding p) b) s))))
+    sym (put-append (eqb b 10) _ _ _)
     ∙ next-lines (eqb b 10) b s p (holding-lines s)
 
 -- From a new reader: the lines that come with their LF, and the one that comes with the end, are the calls of the input's lines.
 pub input-lines : (s : List ℕ) → linesBy fresh s ++ gotten (lastLine (heldAfter fresh s)) ≡ map lineOf (textsOf [] s)
 unfolding held-lines
-input-lines s = ap (held-lines s) (sym (holding-part [] (omega arith))) ∙ holding-lines s []
+input-lines s = cc (holding-part [] (omega arith), holding-lines s [])
 
 -- The same of an input that comes in fragments.
 pub fragments-input : (xs : List (List ℕ)) → linesByAll fresh xs ++ gotten (lastLine (heldAfterAll fresh xs)) ≡ map lineOf (textsOf [] (joined xs))
 fragments-input xs =
-    ap (λ (l : List Line). l ++ gotten (lastLine (heldAfterAll fresh xs))) (fragments-lines xs fresh)
-    ∙ ap (λ (k : Held). linesBy fresh (joined xs) ++ gotten (lastLine k)) (fragments-held xs fresh)
-    ∙ input-lines (joined xs)
+    cc (fragments-lines xs fresh, fragments-held xs fresh, input-lines (joined xs))
 
 -- ---- one step of all that
 
@@ -139,7 +136,7 @@ takes-lf i b k s e =
 
 takes-on : (i b : ℕ) (k : Held) (s : List ℕ) (x : Step) (g : Got) → eqb b 10 ≡ false → Takes (i + 1) (hold k b) s x g → Takes i k (b ∷ s) x g
 unfolding Takes linesBy heldAfter heldWith
-takes-on i b k s x More e t = (rw e (t .0), rw e (t .1), omega (arith, t .2))
+takes-on i b k s x More e t = (rw e (t .0), rw e (t .1), omega arith)
 takes-on i b k s x (Whole l) e t =
     let low : i + 1 < x .next = t .1 in
     let high : x .next ≤ i + 1 + length s = t .2 in
@@ -154,7 +151,7 @@ takes-next : (t : Bool) (i b : ℕ) (k : Held) (s : List ℕ) → eqb b 10 ≡ t
     → Takes i k (b ∷ s) (step-next t i b k s) (step-next t i b k s .got)
 unfolding step-next
 takes-next true i b k s e ih = takes-lf i b k s e
-takes-next false i b k s e ih = takes-on i b k s (stepFrom (i + 1) (hold k b) s) (stepFrom (i + 1) (hold k b) s .got) e ih
+takes-next false i b k s e ih = takes-on i b k s _ _ e ih
 
 step-takes : (s : List ℕ) (i : ℕ) (k : Held) → Takes i k s (stepFrom i k s) (stepFrom i k s .got)
 unfolding stepFrom step-next Takes linesBy heldAfter
@@ -166,8 +163,8 @@ module _ {k : Held} {s : List ℕ} {from : ℕ} {f : Fed} (h : FedBy k s from f)
   fed-takes : (g : Got) → f .got ≡ g → Takes from k (drop from s) (stepOf f) g
   unfolding stepOf
   fed-takes g e =
-      subst (Takes from k (drop from s) (stepOf f)) e
-      (subst (λ (x : Step). Takes from k (drop from s) x (x .got)) (sym (h .step)) (step-takes (drop from s) from k))
+      subst (Takes from k _ (stepOf f)) e
+      (subst (λ x. Takes from k (drop from s) x (x .got)) (sym (h .step)) (step-takes _ from k))
 
   pub fed-more : f .got ≡ More → (linesBy k (drop from s) ≡ []) × (heldAfter k (drop from s) ≡ held (f .reader)) × (f .next ≡ from + length (drop from s))
   unfolding Takes stepOf
@@ -180,5 +177,5 @@ module _ {k : Held} {s : List ℕ} {from : ℕ} {f : Fed} (h : FedBy k s from f)
       let low : from < f .next = t .1 in
       let n : from + (f .next - from) ≡ f .next = omega arith in
       let rest : drop (f .next - from) (drop from s) ≡ drop (f .next) s =
-      drop-drop (f .next - from) from s ∙ ap (λ (i : ℕ). drop i s) n in
-      (t .0, t .3 ∙ ap (λ (x : List ℕ). l ∷ linesBy fresh x) rest, t .4 ∙ ap (heldAfter fresh) rest)
+      cc (drop-drop (f .next - from) from s) in
+      (t .0, cc, cc)

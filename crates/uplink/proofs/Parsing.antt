@@ -23,16 +23,16 @@ module _ (s : List ℕ) (at a : ℕ) where
   module _ (h : at < length s) where
     pub second-other : (getD s at 0 ≡ 32 → ⊥) → Wrong ≡ secondAt s at a
     unfolding secondAt
-    second-other n = rw (lt-leb (length s) at h, ne-eqb (getD s at 0) 32 n)
+    second-other n = rw (lt-leb (length s) at h, ne-eqb _ 32 n)
 
     module _ (e : getD s at 0 ≡ 32) where
       pub second-number : secondOf s a (numberAt s (at + 1)) ≡ secondAt s at a
       unfolding secondAt
-      second-number = rw (lt-leb (length s) at h, eq-eqb (getD s at 0) 32 e)
+      second-number = rw (lt-leb (length s) at h, eq-eqb _ 32 e)
 
       pub second-missing : numberAt s (at + 1) ≡ Nothing → Wrong ≡ secondAt s at a
       unfolding secondOf
-      second-missing r = sym (ap (secondOf s a) r) ∙ second-number
+      second-missing r = cc (r, second-number)
 
       pub second-last : {b n : ℕ} → numberAt s (at + 1) ≡ Read b n → length s ≤ n → Two a b ≡ secondAt s at a
       unfolding secondOf
@@ -52,20 +52,20 @@ module _ (s : List ℕ) (at : ℕ) where
   module _ (h : at < length s) where
     pub first-other : (getD s at 0 ≡ 32 → ⊥) → Wrong ≡ numbersAt s at
     unfolding numbersAt
-    first-other n = rw (lt-leb (length s) at h, ne-eqb (getD s at 0) 32 n)
+    first-other n = rw (lt-leb (length s) at h, ne-eqb _ 32 n)
 
     module _ (e : getD s at 0 ≡ 32) where
       pub first-number : firstOf s (numberAt s (at + 1)) ≡ numbersAt s at
       unfolding numbersAt
-      first-number = rw (lt-leb (length s) at h, eq-eqb (getD s at 0) 32 e)
+      first-number = rw (lt-leb (length s) at h, eq-eqb _ 32 e)
 
       pub first-missing : numberAt s (at + 1) ≡ Nothing → Wrong ≡ numbersAt s at
       unfolding firstOf
-      first-missing r = sym (ap (firstOf s) r) ∙ first-number
+      first-missing r = cc (r, first-number)
 
       pub first-then : {a n : ℕ} → numberAt s (at + 1) ≡ Read a n → secondAt s n a ≡ numbersAt s at
       unfolding firstOf
-      first-then r = sym (ap (firstOf s) r) ∙ first-number
+      first-then r = cc (r, first-number)
 
 -- ---- the line
 
@@ -77,4 +77,4 @@ line-empty (c ∷ t) e = absurd (omega arith)
 pub line-letter : (s : List ℕ) → (length s ≡ 0 → ⊥) → {n : Numbers} {l : Line} → n ≡ numbersAt s 1 → l ≡ lineWith (getD s 0 0) n → l ≡ lineOf s
 unfolding lineOf
 line-letter [] h q e = absurd (h refl)
-line-letter (c ∷ t) h q e = e ∙ ap (lineWith c) q
+line-letter (c ∷ t) h q e = cc

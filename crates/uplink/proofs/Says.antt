@@ -24,8 +24,8 @@ named-bounded at name n h k f = omega (arith, length-named name n f)
 pair-length : (a b : ℕ) → a < 2 ^ 64 → b < 2 ^ 64 → length (line (a ∷ b ∷ [])) ≤ 43
 unfolding every
 pair-length a b f g =
-    length-line (a ∷ b ∷ [])
-    (and-both (isLong a) (every isLong (b ∷ [])) (lt-ltb a (2 ^ 64) f) (and-both (isLong b) true (lt-ltb b (2 ^ 64) g) refl))
+    length-line _
+    (and-both (isLong a) _ (lt-ltb a (2 ^ 64) f) (and-both (isLong b) true (lt-ltb b (2 ^ 64) g) refl))
 
 pub pair-bounded : (at a b : ℕ) → at < 2 ^ 32 → a < 2 ^ 64 → b < 2 ^ 64 → Bounded at (line (a ∷ b ∷ []))
 pair-bounded at a b h f g = omega (arith, pair-length a b f g)
@@ -33,25 +33,25 @@ pair-bounded at a b h f g = omega (arith, pair-length a b f g)
 -- Where they end.
 module _ {l m : List ℕ} {at r : ℕ} where
   pub named-short : (name : List ℕ) (n : ℕ) → Wrote l at (named name n) r m → length name ≤ 2 → n < 2 ^ 64 → r ≤ at + 64
-  named-short name n w k f = omega (arith, w .next, length-named name n f)
+  named-short name n w k f = omega (arith, length-named name n f)
 
   pub pair-short : (a b : ℕ) → Wrote l at (line (a ∷ b ∷ [])) r m → a < 2 ^ 64 → b < 2 ^ 64 → r ≤ at + 64
-  pair-short a b w f g = omega (arith, w .next, pair-length a b f g)
+  pair-short a b w f g = omega (arith, pair-length a b f g)
 
 -- ---- the text of each kind of answer
 
 module _ {a : Answer} {n : ℕ} where
   pub says-granted : {o : ℕ} → a ≡ Granted o → n ≡ o → named (ascii "at") n ≡ answerText a
   unfolding answerText
-  says-granted e q = ap (named (ascii "at")) q ∙ ap answerText (sym e)
+  says-granted e q = cc
 
   pub says-refused : {k : Refusal} → a ≡ Refused k → n ≡ number k → named (ascii "no") n ≡ answerText a
   unfolding answerText
-  says-refused e q = ap (named (ascii "no")) q ∙ ap answerText (sym e)
+  says-refused e q = cc
 
   pub says-counted : {k : ℕ} → a ≡ Counted k → n ≡ k → named (ascii "ok") n ≡ answerText a
   unfolding answerText
-  says-counted e q = ap (named (ascii "ok")) q ∙ ap answerText (sym e)
+  says-counted e q = cc
 
 pub says-done : {a : Answer} → a ≡ Done → ascii "ok\n" ≡ answerText a
 unfolding answerText

@@ -28,7 +28,7 @@ module _ (line : List ℕ) (len b : ℕ) (full : 64 ≡ length line) where
   hold-byte false h =
       let n : length (take len line) ≡ len = length-take-le len line (omega arith) in
       let k : length (take len line) < 64 = omega arith in
-      rw (lt-ltb (length (take len line)) 64 k) (ap part (take-set-next line len b (omega arith)))
+      rw (lt-ltb _ 64 k) (ap part (take-set-next line len b (omega arith)))
 
   hold-none : (over : Bool) → 64 ≤ len → len ≤ 64 → held (reader line len true) ≡ hold (held (reader line len over)) b
   unfolding held hold
@@ -36,7 +36,7 @@ module _ (line : List ℕ) (len b : ℕ) (full : 64 ≡ length line) where
   hold-none false h k =
       let n : length (take len line) ≡ len = length-take-le len line (omega arith) in
       let f : 64 ≤ length (take len line) = omega arith in
-      rw (le-ltb (length (take len line)) 64 f)
+      rw (le-ltb _ 64 f)
 
 -- ---- the line that a reader holds
 
@@ -69,13 +69,11 @@ module _ (r : Reader) where
 
   pub last-none : r .over ≡ false → r .len ≡ 0 → More ≡ lastLine (held r)
   unfolding lastLine
-  last-none e z = sym (ap lastLine (held-part e) ∙ ap (λ (n : ℕ). lastLine (part (take n (r .line)))) z)
+  last-none e z = sym (cc (held-part e))
 
   pub last-part : r .over ≡ false → (r .len ≡ 0 → ⊥) → 64 ≡ length (r .line) → r .len ≤ 64 → Whole (lineHeld (held r)) ≡ lastLine (held r)
   last-part e n full h =
-      ap (λ (k : Held). Whole (lineHeld k)) (held-part e)
-      ∙ whole-line (take (r .len) (r .line)) (λ z. n (sym (length-take-le (r .len) (r .line) (omega arith)) ∙ z))
-      ∙ sym (ap lastLine (held-part e))
+      cc (held-part e, whole-line (take (r .len) (r .line)) (λ z. n (sym (length-take-le (r .len) (r .line) (omega arith)) ∙ z)))
 
 -- ---- the step
 
@@ -87,11 +85,11 @@ module _ (s : List ℕ) (i : ℕ) (k : Held) where
   module _ (h : i < length s) where
     step-lf : getD s i 0 ≡ 10 → record { after = fresh; next = i + 1; got = Whole (lineHeld k) } ≡ stepFrom i k (drop i s)
     unfolding stepFrom
-    step-lf e = rw (next-word s i 0 h, eq-eqb (getD s i 0) 10 e)
+    step-lf e = rw (next-word s i 0 h, eq-eqb _ 10 e)
 
     step-byte : (getD s i 0 ≡ 10 → ⊥) → stepFrom (i + 1) (hold k (getD s i 0)) (drop (i + 1) s) ≡ stepFrom i k (drop i s)
     unfolding stepFrom
-    step-byte n = rw (next-word s i 0 h, ne-eqb (getD s i 0) 10 n)
+    step-byte n = rw (next-word s i 0 h, ne-eqb _ 10 n)
 
 -- A step over the fragment s from position `from` on, where k was held, has come to position i without an LF. With what the fields
 -- hold there, it goes on as it was to go.
@@ -112,9 +110,9 @@ module _ {s : List ℕ} {from : ℕ} {k : Held} {line : List ℕ} {len : ℕ} {o
   feeding-end h =
       record {
         sound = f .sound;
-        step = step-end s i (held (reader line len over)) h ∙ f .step;
+        step = step-end s i _ h ∙ f .step;
         within = f .within;
-        onward = λ q. omega arith;
+        onward = omega arith;
       }
 
   module _ (h : i < length s) where
@@ -125,12 +123,9 @@ module _ {s : List ℕ} {from : ℕ} {k : Held} {line : List ℕ} {len : ℕ} {o
         record {
           sound = new .0;
           step =
-              ap (λ (j : Held). record { after = j; next = i + 1; got = Whole l }) (new .1)
-              ∙ ap (λ (c : Line). record { after = fresh; next = i + 1; got = Whole c }) q
-              ∙ step-lf s i (held (reader line len over)) h e
-              ∙ f .step;
-          within = λ w. omega arith;
-          onward = λ w. omega (arith, f .began);
+              cc (step-lf s i (held (reader line len over)) h e);
+          within = omega arith;
+          onward = λ w. omega arith;
         }
 
     feeding-on : (l : List ℕ) (m : ℕ) (o : Bool) → 64 ≡ length l → m ≤ 64 → (getD s i 0 ≡ 10 → ⊥) → held (reader l m o) ≡ hold (held (reader line len over)) (getD s i 0) → Feeding s from k l m o (i + 1)
@@ -138,19 +133,17 @@ module _ {s : List ℕ} {from : ℕ} {k : Held} {line : List ℕ} {len : ℕ} {o
         record {
           full = full;
           sound = sound;
-          began = omega (arith, f .began);
-          within = λ w. omega arith;
+          began = omega arith;
+          within = omega arith;
           step =
-              ap (λ (j : Held). stepFrom (i + 1) j (drop (i + 1) s)) q
-              ∙ step-byte s i (held (reader line len over)) h n
-              ∙ f .step;
+              cc (step-byte s i (held (reader line len over)) h n);
         }
 
     pub feeding-byte : (getD s i 0 ≡ 10 → ⊥) → len < 64 → Feeding s from k (set line len (getD s i 0)) (len + 1) over (i + 1)
     feeding-byte n g =
-        feeding-on (set line len (getD s i 0)) (len + 1) over (f .full ∙ sym (length-set line len (getD s i 0))) (omega arith) n
-        (hold-byte line len (getD s i 0) (f .full) over g)
+        feeding-on _ (len + 1) over (f .full ∙ sym (length-set line len _)) (omega arith) n
+        (hold-byte line len _ (f .full) over g)
 
     pub feeding-over : (getD s i 0 ≡ 10 → ⊥) → 64 ≤ len → Feeding s from k line len true (i + 1)
     feeding-over n g =
-        feeding-on line len true (f .full) (f .sound) n (hold-none line len (getD s i 0) (f .full) over g (f .sound))
+        feeding-on line len true (f .full) (f .sound) n (hold-none line len _ (f .full) over g (f .sound))

@@ -3,10 +3,11 @@
 -- without LF counts if it has a byte). Assumes nothing.
 use Prim.Native.Nat.{ℕ, _+_, _≤_, _<_}
 use mathlib.Core.Path.{_≡_}
-use mathlib.Core.Bool.{Bool, true, false, cond}
+use mathlib.Core.Bool.{cond}
 use mathlib.Core.List.{List, [], _∷_, _++_}
 use lib.Dec.{ltb, eqb}
 use lib.ListN.{length, take, drop}
+use Rattle.lemmas.specs.Keep.{putIf}
 use Rattle.uplink.specs.declared.Line.{Line}
 use Rattle.uplink.specs.declared.Line.the-variants.{Bad}
 use Rattle.uplink.specs.declared.Got.{Got}
@@ -73,11 +74,6 @@ pub record FedBy (k : Held) (s : List ℕ) (from : ℕ) (f : Fed) : Type 0 where
   pub onward : from < length s → from < f .next
 
 -- ---- all the bytes
-
--- One element more at the front of a list, or not.
-abbrev pub putIf : {A : Type 0} → Bool → A → List A → List A
-putIf true a l = a ∷ l
-putIf false a l = l
 
 -- What is held after any byte.
 unfoldable pub heldWith : Held → ℕ → Held

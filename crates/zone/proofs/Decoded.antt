@@ -12,13 +12,13 @@ use Rattle.lemmas.specs.Every.{count}
 use Rattle.lemmas.specs.Times.{times}
 use Rattle.lemmas.specs.Zeros.{zeros, isZero}
 use Rattle.lemmas.specs.Parts.{mid}
-use Rattle.lemmas.proofs.Cases.{by-ltb}
+use Rattle.lemmas.proofs.Cases.{by-ltb, by-lt}
 use Rattle.lemmas.proofs.Every.{every-at}
 use Rattle.lemmas.proofs.Parts.{length-mid, getD-mid}
 use Rattle.lemmas.proofs.Zeros.{mid-zero, zeros-every}
 use Rattle.model.specs.Numbers.{mostGroup}
 use Rattle.model.specs.Zone.{Zone, touched}
-use Rattle.model.specs.Valid.{returnedAt, ValidZone}
+use Rattle.model.specs.Valid.{ValidZone}
 use Rattle.zone.specs.Encoding.{positionOn, chunkAt, stateFor, stateOf, slotOf, headWords, headNumbers, headZeros, slotCount, zoneWords, positionBase, half}
 use Rattle.zone.specs.Decoding.{slotsIn, stateIn, entryIn, isLive, isBare, ownerIn, chainFrom, zoneOf, classIn, touchedIn, chainedIn}
 use Rattle.zone.proofs.Chains.{returned-in, returned-past}
@@ -38,7 +38,7 @@ module _ (w : List ℕ) (size : length w ≡ zoneWords) where
 -- ---- one slot
 
 owner-most : (x : ℕ) → ownerIn x ≤ mostGroup
-owner-most x = by-ltb (λ t. cond t (stateIn x) 0 ≤ mostGroup) (stateIn x) positionBase (λ l. omega arith) (λ l. omega arith)
+owner-most x = by-ltb (λ t. cond t (stateIn x) 0 ≤ mostGroup) (stateIn x) positionBase (omega arith) (omega arith)
 
 -- A state below 13 is the owner; a chunk with another has none.
 pub owner-live : (x : ℕ) → stateIn x < positionBase → ownerIn x ≡ stateIn x
@@ -77,9 +77,9 @@ module _ (w : List ℕ) (h : Facts w) where
 
   untouched-zero : (i : ℕ) → k ≤ i → i < slotCount → getD w (headWords + i) 0 ≡ 0
   untouched-zero i l b =
-      let a = every-at isZero (drop (headWords + touchedIn w) w) (i - touchedIn w) 0 (h .untouched) (simp length-drop (let n = size in omega arith)) in
+      let a = every-at isZero _ (i - touchedIn w) 0 (h .untouched) (simp length-drop (let n = size in omega arith)) in
       let e : headWords + i ≡ headWords + touchedIn w + (i - touchedIn w) = omega arith in
-      ap (λ (n : ℕ). getD w n 0) e ∙ sym (getD-drop (headWords + touchedIn w) w (i - touchedIn w) 0) ∙ eqb-true (getD (drop (headWords + touchedIn w) w) (i - touchedIn w) 0) 0 a
+      ap (λ n. getD w n 0) e ∙ sym (getD-drop _ w _ 0) ∙ eqb-true _ 0 a
 
   slot-is : (i : ℕ) → i < slotCount → getD s i 0 ≡ getD w (headWords + i) 0
   unfolding s
@@ -87,7 +87,7 @@ module _ (w : List ℕ) (h : Facts w) where
 
   past : (i : ℕ) → k ≤ i → getD s i 0 ≡ 0
   past i l =
-      by-ltb (λ t. getD s i 0 ≡ 0) i slotCount (λ b. slot-is i b ∙ untouched-zero i l b)
+      by-lt i slotCount (λ b. slot-is i b ∙ untouched-zero i l b)
       (λ b. List·getD-eq-default s 0 {n = i} (let a = long in omega arith))
 
   placed : Placed s m
@@ -123,16 +123,16 @@ module _ (w : List ℕ) (h : Facts w) where
 
   owner-get : (i : ℕ) → i < k → getD (z .owners) i 0 ≡ ownerIn (getD s i 0)
   unfolding z zoneOf s
-  owner-get i l = List·getD-map ownerIn (take k s) i 0 ∙ ap ownerIn (getD-take k s i 0 l)
+  owner-get i l = cc (List·getD-map ownerIn (take k s) i 0, getD-take k s i 0 l)
 
   owner-low : (i : ℕ) → getD (z .owners) i 0 ≤ mostGroup
   owner-low i =
-      by-ltb (λ t. getD (z .owners) i 0 ≤ mostGroup) i k (λ l. rw (owner-get i l) (owner-most (getD s i 0)))
+      by-lt i k (λ l. rw (owner-get i l) (owner-most (getD s i 0)))
       (λ l. omega (arith, List·getD-eq-default (z .owners) 0 {n = i} (omega (arith, length-owners))))
 
   returned : (i : ℕ) → i < k → times i chain ≡ cond (eqb (ownerIn (getD s i 0)) 0) 1 0
   returned i l =
-      chunk i l (λ a b e. e ∙ rw (owner-live (getD s i 0) b, ne-eqb (stateIn (getD s i 0)) 0 (λ q. omega arith)))
+      chunk i l (λ a b e. e ∙ rw (owner-live _ b, ne-eqb (stateIn (getD s i 0)) 0 (omega arith)))
       (λ a e. e ∙ rw (owner-none (getD s i 0) (omega arith)))
 
   pub decoded-valid : ValidZone (zoneOf w)
@@ -144,9 +144,9 @@ module _ (w : List ℕ) (h : Facts w) where
         class = rw c (h .head .class);
         fits = rw (n, c) (h .head .fits);
         groups = owner-low;
-        chained = λ i. ap (times i) (parts .1) ∙ by-ltb (λ t. times i chain ≡ returnedAt (z .owners) i) i k
-            (λ l. returned i l ∙ sym (returned-in (z .owners) i (omega (arith, length-owners)) ∙ ap (λ (o : ℕ). cond (eqb o 0) 1 0) (owner-get i l)))
-            (λ l. chain-out i l ∙ sym (returned-past (z .owners) i (omega (arith, length-owners))));
+        chained = λ i. ap (times i) (parts .1) ∙ by-lt i k
+            (λ l. cc (returned i l, returned-in (z .owners) i (omega (arith, length-owners)), owner-get i l))
+            (λ l. chain-out i l ∙ sym (returned-past (z .owners) i (omega arith)));
       }
 
   -- ---- and its words
@@ -157,20 +157,20 @@ module _ (w : List ℕ) (h : Facts w) where
       rw (length-owners, parts .1)
       (by-ltb (λ t. stateIn (getD s i 0) ≡ cond t (stateFor (getD (z .owners) i 0) (positionOn i chain)) 0) i k
       (λ l. rw (owner-get i l)
-      (chunk i l (λ a b e. rw (owner-live (getD s i 0) b, ne-eqb (stateIn (getD s i 0)) 0 (λ q. omega arith)))
+      (chunk i l (λ a b e. rw (owner-live _ b, ne-eqb (stateIn (getD s i 0)) 0 (omega arith)))
       (λ a e. rw (owner-none (getD s i 0) (omega arith)) a)))
       (λ l. let a = past i l in omega arith))
 
   bare : (i : ℕ) → m ≤ i → getD s i 0 < half
   unfolding s
   bare i l =
-      by-ltb (λ t. getD s i 0 < half) i k
+      by-lt i k
       (λ b.
       let j : i - m < k - m = omega arith in
       let n : length (mid m (k - m) s) ≡ k - m = length-mid m (k - m) s (let f = few in let g = within in omega arith) in
-      let a = every-at isBare (mid m (k - m) s) (i - m) 0 (h .slots .bare) (omega arith) in
+      let a = every-at isBare _ (i - m) 0 (h .slots .bare) (omega arith) in
       let e : m + (i - m) ≡ i = omega arith in
-      let q : getD (mid m (k - m) s) (i - m) 0 ≡ getD s i 0 = getD-mid m (k - m) s (i - m) 0 j ∙ ap (λ (n : ℕ). getD s n 0) e in
+      let q : getD (mid m (k - m) s) (i - m) 0 ≡ getD s i 0 = getD-mid m (k - m) s (i - m) 0 j ∙ ap (λ n. getD s n 0) e in
       let r = ltb-true (getD (mid m (k - m) s) (i - m) 0) half a in omega arith)
       (λ b. let a = past i b in omega arith)
 
@@ -178,7 +178,7 @@ module _ (w : List ℕ) (h : Facts w) where
   unfolding chain
   entry-same i =
       rw (parts .1)
-      (by-ltb (λ t. entryIn (getD s i 0) ≡ chunkAt i chain) i m (λ l. sym (chunk-chain s m i l))
+      (by-lt i m (λ l. sym (chunk-chain s m i l))
       (λ l. let b = bare i l in omega (arith, chunk-past i chain (omega (arith, length-chain s m)))))
 
   slot-same : (i : ℕ) → i < slotCount → getD w (headWords + i) 0 ≡ slotOf z i
@@ -193,7 +193,7 @@ module _ (w : List ℕ) (h : Facts w) where
         kind = h .head .kind;
         class = sym (parts .0);
         handed = sym length-owners;
-        chained = sym (ap length (parts .1) ∙ length-chain s m);
-        rest = mid-zero headNumbers headWords (zeros-every (mid headNumbers headZeros w) (h .rest) ∙ ap zeros (length-mid headNumbers headZeros w (let b = size in omega arith)));
+        chained = sym (cc (parts .1, length-chain s m));
+        rest = mid-zero headNumbers headWords (zeros-every _ (h .rest) ∙ ap zeros (length-mid headNumbers headZeros w (let b = size in omega arith)));
         slots = slot-same;
       }

@@ -15,7 +15,7 @@ use Rattle.lemmas.specs.Every.{every, count}
 use Rattle.lemmas.specs.Parts.{mid}
 use Rattle.lemmas.specs.Times.{times}
 use Rattle.lemmas.specs.Zeros.{isZero}
-use Rattle.lemmas.proofs.Cases.{by-eqb, by-ltb}
+use Rattle.lemmas.proofs.Cases.{by-eq, by-lt}
 use Rattle.lemmas.proofs.Every.{every-of}
 use Rattle.lemmas.proofs.Below.{sum-eq, count-below}
 use Rattle.lemmas.proofs.Parts.{length-mid, getD-mid}
@@ -36,11 +36,11 @@ use Rattle.zone.proofs.Decoded.{length-slots, slot-at, decoded-valid, d
 module _ (z : Zone) (i : ℕ) where
   pub state-live : i < touched z → 0 < getD (z .owners) i 0 → stateOf z i ≡ getD (z .owners) i 0
   unfolding stateOf
-  state-live l p = rw (lt-ltb i (touched z) l, ne-eqb (getD (z .owners) i 0) 0 (λ e. omega arith))
+  state-live l p = rw (lt-ltb i (touched z) l, ne-eqb (getD (z .owners) i 0) 0 (omega arith))
 
   pub state-returned : i < touched z → getD (z .owners) i 0 ≡ 0 → stateOf z i ≡ positionBase + positionOn i (z .chain)
   unfolding stateOf
-  state-returned l e = rw (lt-ltb i (touched z) l, eq-eqb (getD (z .owners) i 0) 0 e)
+  state-returned l e = rw (lt-ltb i (touched z) l, eq-eqb _ 0 e)
 
   pub state-untouched : touched z ≤ i → stateOf z i ≡ 0
   unfolding stateOf
@@ -49,7 +49,7 @@ module _ (z : Zone) (i : ℕ) where
   -- A claim about the state of a chunk that was handed out.
   pub by-state : (P : ℕ → Type 0) → i < touched z → (0 < getD (z .owners) i 0 → P (getD (z .owners) i 0)) → (getD (z .owners) i 0 ≡ 0 → P (positionBase + positionOn i (z .chain))) → P (stateOf z i)
   by-state P l f g =
-      by-eqb (λ t. P (stateOf z i)) (getD (z .owners) i 0) 0 (λ e. rw (state-returned l e) (g e))
+      by-eq (getD (z .owners) i 0) 0 (λ e. rw (state-returned l e) (g e))
       (λ n. let p : 0 < getD (z .owners) i 0 = omega arith in rw (state-live l p) (f p))
 
 -- ---- the halves of a slot of a valid zone
@@ -60,11 +60,11 @@ module _ (z : Zone) (v : ValidZone z) where
 
   -- A returned chunk stands on the chain.
   pub returned-on : (i : ℕ) → i < touched z → getD (z .owners) i 0 ≡ 0 → 0 < times i (z .chain)
-  returned-on i l e = rw (v .chained i, returned-in (z .owners) i l, eq-eqb (getD (z .owners) i 0) 0 e) (omega arith)
+  returned-on i l e = rw (v .chained i, returned-in (z .owners) i l, eq-eqb _ 0 e) (omega arith)
 
   pub state-most : (i : ℕ) → stateOf z i < positionBase + slotCount
   state-most i =
-      by-ltb (λ t. stateOf z i < positionBase + slotCount) i (touched z)
+      by-lt i (touched z)
       (λ l. by-state z i (λ x. x < positionBase + slotCount) l (λ p. let g = v .groups i in omega arith)
       (λ e. let a = position-less i (z .chain) (returned-on i l e) in let b = chain-few in let d = touched-most z v in omega arith))
       (λ l. omega (arith, state-untouched z i l))
@@ -80,7 +80,7 @@ module _ (z : Zone) (v : ValidZone z) where
   pub owner-half : (i : ℕ) → ownerIn (slotOf z i) ≡ getD (z .owners) i 0
   owner-half i =
       rw (state-half i)
-      (by-ltb (λ t. cond (ltb (stateOf z i) positionBase) (stateOf z i) 0 ≡ getD (z .owners) i 0) i (touched z)
+      (by-lt i (touched z)
       (λ l. by-state z i (λ x. cond (ltb x positionBase) x 0 ≡ getD (z .owners) i 0) l (λ p. let g = v .groups i in rw (lt-ltb (getD (z .owners) i 0) positionBase (omega arith)))
       (λ e. rw (le-ltb (positionBase + positionOn i (z .chain)) positionBase (omega arith)) (sym e)))
       (λ l. rw (state-untouched z i l) (sym (List·getD-eq-default (z .owners) 0 {n = i} l))))
@@ -109,7 +109,7 @@ module _ (w : List ℕ) (z : Zone) (h : Words w z) (v : ValidZone z) where
   most = touched-most z v
 
   few : m ≤ k
-  few = omega (arith, chain-few z v, h .handed, h .chained)
+  few = omega (arith, chain-few z v)
 
   long : length s ≡ slotCount
   unfolding s
@@ -130,7 +130,7 @@ module _ (w : List ℕ) (z : Zone) (h : Words w z) (v : ValidZone z) where
 
   bare : every isBare (mid m (k - m) s) ≡ true
   bare =
-      every-of isBare (mid m (k - m) s) 0
+      every-of isBare _ 0
       (λ i l.
       let f = few in let a = most in let q = h .handed in let r = h .chained in
       let j : i < k - m = let n = length-mid m (k - m) s (let b = long in omega arith) in omega arith in
@@ -140,7 +140,7 @@ module _ (w : List ℕ) (z : Zone) (h : Words w z) (v : ValidZone z) where
   live-get : (i : ℕ) → i < touched z → isLive (getD s i 0) ≡ isGroup (getD (z .owners) i 0)
   live-get i l =
       let a = state-get i (let b = most in omega arith) in
-      by-eqb (λ t. isLive (getD s i 0) ≡ isGroup (getD (z .owners) i 0)) (getD (z .owners) i 0) 0
+      by-eq (getD (z .owners) i 0) 0
       (λ e. live-not (getD s i 0) (omega (arith, state-returned z i l e)) ∙ sym (le-ltb 0 (getD (z .owners) i 0) (omega arith)))
       (λ n. let g = v .groups i in let q = state-live z i l (omega arith) in live-is (getD s i 0) (omega arith) (omega arith) ∙ sym (lt-ltb 0 (getD (z .owners) i 0) (omega arith)))
 
@@ -152,9 +152,9 @@ module _ (w : List ℕ) (z : Zone) (h : Words w z) (v : ValidZone z) where
       count-below isLive (take k s) 0
       ∙ ap (sumBelow (λ i. cond (isLive (getD (take k s) i 0)) 1 0)) n
       ∙ sum-eq (λ i. cond (isLive (getD (take k s) i 0)) 1 0) (λ i. cond (isGroup (getD (z .owners) i 0)) 1 0) (touched z)
-      (λ i l. ap (λ (x : ℕ). cond (isLive x) 1 0) (getD-take k s i 0 (let q = h .handed in omega arith)) ∙ ap (λ (b : Bool). cond b 1 0) (live-get i l))
+      (λ i l. cc (getD-take k s i 0 (let q = h .handed in omega arith), live-get i l))
       ∙ sym (count-below isGroup (z .owners) 0) in
-      omega (arith, chain-live z v, h .handed, h .chained)
+      omega (arith, chain-live z v)
 
   placed : Placed s m
   placed i l =
@@ -164,17 +164,17 @@ module _ (w : List ℕ) (z : Zone) (h : Words w z) (v : ValidZone z) where
       let on = on-chain z v c (chunk-on i (z .chain) j) in
       let d = on .0 in
       rw (entry-get i (omega arith))
-      (state-get c (omega arith) ∙ state-returned z c d (on .1) ∙ ap (λ (n : ℕ). positionBase + n) (position-chunk i (z .chain) j (chain-once z v)))
+      (cc (state-get c (omega arith), state-returned z c d (on .1), position-chunk i (z .chain) j (chain-once z v)))
 
   untouched : every isZero (drop (headWords + touchedIn w) w) ≡ true
   untouched =
-      every-of isZero (drop (headWords + touchedIn w) w) 0
+      every-of isZero _ 0
       (λ i l.
       let n : length w ≡ zoneWords = h .size in
       let k : touchedIn w ≡ touched z = h .handed in
       let b : i < length w - (headWords + touchedIn w) = rw length-drop at l in
       let q : headWords + touchedIn w + i ≡ headWords + (touched z + i) = omega arith in
-      eq-eqb (getD (drop (headWords + touchedIn w) w) i 0) 0
+      eq-eqb _ 0
       (getD-drop (headWords + touchedIn w) w i 0 ∙ ap (λ (j : ℕ). getD w j 0) q ∙ h .slots (touched z + i) (omega arith) ∙ slot-past z v (touched z + i) (omega arith)))
 
   pub words-facts : Facts w
@@ -201,10 +201,10 @@ module _ (w : List ℕ) (z : Zone) (h : Words w z) (v : ValidZone z) where
   words-decoded =
       let few = chain-few z v in
       let c : chainFrom s m ≡ z .chain = rw (h .chained) (chain-again s (z .chain) (λ i l. entry-get i (let b = most in omega arith))) in
-      let n : length (map ownerIn (take k s)) ≡ touched z = length-map (take k s) ownerIn ∙ length-take-le k s (let a = long in let b = most in let q = h .handed in omega arith) ∙ h .handed in
+      let n : length (map ownerIn (take k s)) ≡ touched z = cc (length-map (take k s) ownerIn, length-take-le k s (let a = long in let b = most in let q = h .handed in omega arith)) in
       let o : map ownerIn (take k s) ≡ z .owners =
-      ext-getD 0 (map ownerIn (take k s)) (z .owners) n
-      (λ i l. List·getD-map ownerIn (take k s) i 0 ∙ ap ownerIn (getD-take k s i 0 (let q = h .handed in omega arith)) ∙ owner-get i (let b = most in omega arith)) in
+      ext-getD 0 _ (z .owners) n
+      (λ i l. cc (List·getD-map ownerIn (take k s) i 0, getD-take k s i 0 (let q = h .handed in omega arith), owner-get i (let b = most in omega arith))) in
       λ i. record { class = h .class i; owners = o i; chain = c i }
 
 -- ---- the encoding
@@ -213,15 +213,15 @@ module _ (w : List ℕ) (z : Zone) (h : Words w z) (v : ValidZone z) where
 pub zone-iff : (w : List ℕ) → (isZone w ≡ true) ↔ ((z : Zone) × ValidZone z × (w ≡ zoneEncoding z))
 zone-iff w = (
   λ e. let h = facts-of w e in (zoneOf w, decoded-valid w h, words-encoding (decoded-words w h)),
-  λ s. rw (s .2) (words-zone (zoneEncoding (s .0)) (s .0) (encoding-words (s .0)) (s .1)),
+  λ s. rw (s .2) (words-zone _ (s .0) (encoding-words (s .0)) (s .1)),
 )
 
 -- A valid zone's encoding is read back as the zone.
 pub zone-decoded : (z : Zone) → ValidZone z → zoneOf (zoneEncoding z) ≡ z
-zone-decoded z v = words-decoded (zoneEncoding z) z (encoding-words z) v
+zone-decoded z v = words-decoded _ z (encoding-words z) v
 
 pub encoding-zone : (z : Zone) → ValidZone z → isZone (zoneEncoding z) ≡ true
-encoding-zone z v = words-zone (zoneEncoding z) z (encoding-words z) v
+encoding-zone z v = words-zone _ z (encoding-words z) v
 
 -- Words that pass the test, and their zone.
 module _ (w : List ℕ) (e : isZone w ≡ true) where
@@ -230,6 +230,3 @@ module _ (w : List ℕ) (e : isZone w ≡ true) where
 
   pub zone-words : Words w (zoneOf w)
   zone-words = decoded-words w (facts-of w e)
-
-  pub zone-encoded : w ≡ zoneEncoding (zoneOf w)
-  zone-encoded = words-encoding zone-words

@@ -47,22 +47,22 @@ both a b e = (and-left a b e, and-right a b e)
 pub head-of : (w : List ℕ) → headLegal w ≡ true → Head w
 unfolding headLegal
 head-of w e =
-    let a = both (eqb (length w) zoneWords && eqb (getD w 0 0) 3 && ltb (classIn w) classCount && leb (touchedIn w) (chunks (classIn w))) (leb (chainedIn w) (touchedIn w)) e in
-    let b = both (eqb (length w) zoneWords && eqb (getD w 0 0) 3 && ltb (classIn w) classCount) (leb (touchedIn w) (chunks (classIn w))) (a .0) in
-    let c = both (eqb (length w) zoneWords && eqb (getD w 0 0) 3) (ltb (classIn w) classCount) (b .0) in
-    let d = both (eqb (length w) zoneWords) (eqb (getD w 0 0) 3) (c .0) in
+    let a = both _ _ e in
+    let b = both _ _ (a .0) in
+    let c = both _ _ (b .0) in
+    let d = both _ _ (c .0) in
     record {
       size = eqb-true (length w) zoneWords (d .0);
-      kind = eqb-true (getD w 0 0) 3 (d .1);
+      kind = eqb-true _ 3 (d .1);
       class = ltb-true (classIn w) classCount (c .1);
-      fits = leb-true (touchedIn w) (chunks (classIn w)) (b .1);
-      few = leb-true (chainedIn w) (touchedIn w) (a .1);
+      fits = leb-true _ _ (b .1);
+      few = leb-true _ _ (a .1);
     }
 
 pub of-head : (w : List ℕ) → Head w → headLegal w ≡ true
 unfolding headLegal
 of-head w h =
-    simp (eq-eqb (length w) zoneWords (h .size), eq-eqb (getD w 0 0) 3 (h .kind), lt-ltb (classIn w) classCount (h .class), le-leb (touchedIn w) (chunks (classIn w)) (h .fits), le-leb (chainedIn w) (touchedIn w) (h .few))
+    simp (eq-eqb (length w) zoneWords (h .size), eq-eqb _ 3 (h .kind), lt-ltb (classIn w) classCount (h .class), le-leb _ _ (h .fits), le-leb _ _ (h .few))
 
 pub head-most : (w : List ℕ) → Head w → touchedIn w ≤ slotCount
 head-most w h = let a = chunks-most (classIn w) in let b = h .fits in omega arith
@@ -72,19 +72,19 @@ head-most w h = let a = chunks-most (classIn w) in let b = h .fits in omega arit
 pub slots-of : (s : List ℕ) (k m : ℕ) → slotsLegal s k m ≡ true → Slots s k m
 unfolding slotsLegal
 slots-of s k m e =
-    let a = both (every isBare (mid m (k - m) s) && eqb (count isLive (take k s)) (k - m)) (allBelow (inPlace s) m) e in
-    let b = both (every isBare (mid m (k - m) s)) (eqb (count isLive (take k s)) (k - m)) (a .0) in
+    let a = both _ _ e in
+    let b = both _ _ (a .0) in
     record {
       bare = b .0;
-      live = eqb-true (count isLive (take k s)) (k - m) (b .1);
-      placed = λ i l. eqb-true (stateIn (getD s (entryIn (getD s i 0)) 0)) (positionBase + i) (all-at (inPlace s) m (a .1) i l);
+      live = eqb-true _ (k - m) (b .1);
+      placed = λ i l. eqb-true _ _ (all-at (inPlace s) m (a .1) i l);
     }
 
 pub of-slots : (s : List ℕ) (k m : ℕ) → Slots s k m → slotsLegal s k m ≡ true
 unfolding slotsLegal
 of-slots s k m h =
-    rw (h .bare, eq-eqb (count isLive (take k s)) (k - m) (h .live))
-    (all-of (inPlace s) m (λ i l. eq-eqb (stateIn (getD s (entryIn (getD s i 0)) 0)) (positionBase + i) (h .placed i l)))
+    rw (h .bare, eq-eqb _ (k - m) (h .live))
+    (all-of (inPlace s) m (λ i l. eq-eqb _ _ (h .placed i l)))
 
 -- ---- the whole
 
@@ -93,11 +93,11 @@ unfolding isZone bodyLegal
 facts-of w e =
     let rest = every isZero (mid headNumbers headZeros w) in
     let slots = slotsLegal (slotsIn w) (touchedIn w) (chainedIn w) in
-    let a = both (headLegal w) (bodyLegal w) e in
-    let b = both (rest && slots) (every isZero (drop (headWords + touchedIn w) w)) (a .1) in
+    let a = both _ _ e in
+    let b = both _ _ (a .1) in
     let c = both rest slots (b .0) in
-    record { head = head-of w (a .0); rest = c .0; untouched = b .1; slots = slots-of (slotsIn w) (touchedIn w) (chainedIn w) (c .1) }
+    record { head = head-of w (a .0); rest = c .0; untouched = b .1; slots = slots-of (slotsIn w) _ _ (c .1) }
 
 pub of-facts : (w : List ℕ) → Facts w → isZone w ≡ true
 unfolding isZone bodyLegal
-of-facts w h = rw (of-head w (h .head), h .rest, of-slots (slotsIn w) (touchedIn w) (chainedIn w) (h .slots)) (h .untouched)
+of-facts w h = rw (of-head w (h .head), h .rest, of-slots (slotsIn w) _ _ (h .slots)) (h .untouched)

@@ -17,7 +17,7 @@ use Rattle.model.specs.Sizes.{chunks}
 use Rattle.model.specs.Zone.{Zone, touched, isNil, full, newZone, nextChunk, granted, putBack}
 use Rattle.model.specs.PageMap.{idleZone}
 use Rattle.model.specs.Valid.{ValidZone}
-use Rattle.zone.specs.Encoding.{zoneEncoding, headWords, slotCount, zoneWords, kindZone, headNumbers}
+use Rattle.zone.specs.Encoding.{zoneEncoding, headWords, slotCount, zoneWords, headNumbers}
 use Rattle.zone.specs.Decoding.{ownerIn, isZone, zoneOf, classIn, touchedIn, chainedIn}
 use Rattle.zone.specs.Stores.{handedOut, lastPut}
 use Rattle.zone.specs.Live.{liveChunks}
@@ -39,9 +39,6 @@ module _ (w : List ℕ) (e : isZone w ≡ true) where
   v = zone-valid w e
 
   -- ---- the head
-
-  pub kind-read : getD w 0 0 ≡ kindZone
-  kind-read = h .kind
 
   pub zone-size : length w ≡ zoneWords
   zone-size = h .size
@@ -71,22 +68,22 @@ module _ (w : List ℕ) (e : isZone w ≡ true) where
   unfolding z
   idle-read =
       let a = counts in
-      by-eqb (λ t. eqb (touchedIn w) (chainedIn w) ≡ t) (liveChunks z) 0 (λ q. eq-eqb (touchedIn w) (chainedIn w) (omega arith)) (λ n. ne-eqb (touchedIn w) (chainedIn w) (λ q. n (omega arith)))
+      by-eqb (λ t. eqb (touchedIn w) (chainedIn w) ≡ t) (liveChunks z) 0 (λ q. eq-eqb _ (chainedIn w) (omega arith)) (λ n. ne-eqb _ (chainedIn w) (λ q. n (omega arith)))
       ∙ idle-live z v
 
   -- ---- full
 
   nil-length : (l : List ℕ) → eqb (length l) 0 ≡ isNil l
   nil-length [] = refl
-  nil-length (x ∷ l) = ne-eqb (suc (length l)) 0 (λ q. omega arith)
+  nil-length (x ∷ l) = ne-eqb (suc (length l)) 0 (omega arith)
 
   pub full-not : touchedIn w < chunks (classIn w) → false ≡ full (zoneOf w)
   unfolding z
-  full-not l = rw (lt-leb (chunks (z .class)) (touched z) (rw (h .handed, h .class) at l))
+  full-not l = rw (lt-leb _ (touched z) (rw (h .handed, h .class) at l))
 
   pub full-chain : chunks (classIn w) ≤ touchedIn w → eqb (chainedIn w) 0 ≡ full (zoneOf w)
   unfolding z
-  full-chain l = rw (le-leb (chunks (z .class)) (touched z) (rw (h .handed, h .class) at l), h .chained) (nil-length (z .chain))
+  full-chain l = rw (le-leb _ (touched z) (rw (h .handed, h .class) at l), h .chained) (nil-length (z .chain))
 
   -- ---- one chunk
 
@@ -124,15 +121,15 @@ module _ (w : List ℕ) (e : isZone w ≡ true) where
 pub set-up-encoding : (w : List ℕ) (c g : ℕ) (u : List ℕ) → length w ≡ zoneWords → 0 < g → u ≡ zeros (length (mid headNumbers (length w - headNumbers) w))
     → set (set (set (set (set (putMid headNumbers (length w - headNumbers) w u) 0 3) 1 c) 2 1) 3 0) headWords g ≡ zoneEncoding (newZone c g)
 set-up-encoding w c g u size p e =
-    let n : length (mid headNumbers (length w - headNumbers) w) ≡ length w - headNumbers = length-mid headNumbers (length w - headNumbers) w (omega arith) in
-    let s : length u ≡ length w - headNumbers = ap length e ∙ length-zeros (length (mid headNumbers (length w - headNumbers) w)) ∙ n in
+    let n : length (mid headNumbers (length w - headNumbers) w) ≡ length w - headNumbers = length-mid headNumbers _ w (omega arith) in
+    let s : length u ≡ length w - headNumbers = ap length e ∙ length-zeros _ ∙ n in
     words-encoding
-    (set-up-words (putMid headNumbers (length w - headNumbers) w u) c g (length-put headNumbers (length w - headNumbers) w u (omega arith) s ∙ size)
+    (set-up-words (putMid headNumbers (length w - headNumbers) w u) c g (length-put headNumbers _ w u (omega arith) s ∙ size)
     (record {
       at = λ i l k.
           let q : i ≡ headNumbers + (i - headNumbers) = omega arith in
-          ap (λ (j : ℕ). getD (putMid headNumbers (length w - headNumbers) w u) j 0) q
-          ∙ getD-put headNumbers (length w - headNumbers) w u (omega arith) s (i - headNumbers) 0 (omega arith)
-          ∙ ap (λ (l : List ℕ). getD l (i - headNumbers) 0) e
-          ∙ getD-zeros (length (mid headNumbers (length w - headNumbers) w)) (i - headNumbers);
+          ap (λ j. getD (putMid headNumbers (length w - headNumbers) w u) j 0) q
+          ∙ getD-put headNumbers _ w u (omega arith) s _ 0 (omega arith)
+          ∙ ap (λ l. getD l (i - headNumbers) 0) e
+          ∙ getD-zeros _ _;
     }) p)

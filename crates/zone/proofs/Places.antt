@@ -13,7 +13,7 @@ use borrow.Author.Tests.{eq-eqb, ne-eqb, lt-ltb, le-ltb, ltb-true}
 use Rattle.lemmas.specs.Below.{sumBelow}
 use Rattle.lemmas.specs.Every.{count}
 use Rattle.lemmas.specs.Times.{times}
-use Rattle.lemmas.proofs.Cases.{by-eqb, and-both, and-left, and-right, bool, one-most}
+use Rattle.lemmas.proofs.Cases.{by-eqb, and-both, and-left, and-right, bool, one-most, by-eq}
 use Rattle.lemmas.proofs.Below.{sum-eq, sum-add, sum-const, sum-tight, count-below}
 use Rattle.lemmas.proofs.Tests.{false-right}
 use Rattle.lemmas.proofs.Times.{times-nil, times-here, times-there, sum-times}
@@ -23,7 +23,7 @@ use Rattle.zone.specs.Decoding.{stateIn, entryIn, isLive, chainFrom}
 -- ---- live or not
 
 pub live-is : (x : ℕ) → 0 < stateIn x → stateIn x < positionBase → isLive x ≡ true
-live-is x a b = and-both (ltb 0 (stateIn x)) (ltb (stateIn x) positionBase) (lt-ltb 0 (stateIn x) a) (lt-ltb (stateIn x) positionBase b)
+live-is x a b = and-both _ _ (lt-ltb 0 (stateIn x) a) (lt-ltb (stateIn x) positionBase b)
 
 pub live-of : (x : ℕ) → isLive x ≡ true → (0 < stateIn x) × (stateIn x < positionBase)
 live-of x e = (
@@ -39,19 +39,19 @@ live-not x a = false-right (ltb 0 (stateIn x)) (le-ltb (stateIn x) positionBase 
 pub position-less : (c : ℕ) (cs : List ℕ) → 0 < times c cs → positionOn c cs < length cs
 position-less c [] h = absurd (omega (arith, times-nil c))
 position-less c (d ∷ cs) h =
-    by-eqb (λ t. cond t (length cs) (positionOn c cs) < suc (length cs)) c d (λ q. omega arith)
+    by-eqb (λ t. cond t (length cs) (positionOn c cs) < suc (length cs)) c d (omega arith)
     (λ q. let a = position-less c cs (omega (arith, times-there c cs q)) in omega arith)
 
 pub chunk-past : (i : ℕ) (cs : List ℕ) → length cs ≤ i → chunkAt i cs ≡ 0
 chunk-past i [] h = refl
-chunk-past i (c ∷ cs) h = rw (ne-eqb i (length cs) (λ e. omega arith)) (chunk-past i cs (omega arith))
+chunk-past i (c ∷ cs) h = rw (ne-eqb i (length cs) (omega arith)) (chunk-past i cs (omega arith))
 
 pub chunk-on : (i : ℕ) (cs : List ℕ) → i < length cs → 0 < times (chunkAt i cs) cs
 chunk-on i [] h = absurd (not-suc-le-zero h)
 chunk-on i (c ∷ cs) h =
-    by-eqb (λ t. 0 < times (cond t c (chunkAt i cs)) (c ∷ cs)) i (length cs) (λ q. omega (arith, times-here c cs refl))
+    by-eqb (λ t. 0 < times (cond t c (chunkAt i cs)) (c ∷ cs)) i (length cs) (omega (arith, times-here c cs refl))
     (λ q. let a = chunk-on i cs (omega arith) in
-    by-eqb (λ t. 0 < times (chunkAt i cs) (c ∷ cs)) (chunkAt i cs) c (λ e. omega (arith, times-here (chunkAt i cs) cs e)) (λ e. omega (arith, times-there (chunkAt i cs) cs e)))
+    by-eq (chunkAt i cs) c (λ e. omega (arith, times-here _ cs e)) (λ e. omega (arith, times-there _ cs e)))
 
 -- On a chain without a chunk twice the chunk at a position has that position.
 pub position-chunk : (i : ℕ) (cs : List ℕ) → i < length cs → ((c : ℕ) → times c cs ≤ 1) → positionOn (chunkAt i cs) cs ≡ i
@@ -59,9 +59,9 @@ position-chunk i [] h once = absurd (not-suc-le-zero h)
 position-chunk i (c ∷ cs) h once =
     by-eqb (λ t. positionOn (cond t c (chunkAt i cs)) (c ∷ cs) ≡ i) i (length cs) (λ q. rw (eq-eqb c c refl) (sym q))
     (λ q. let a = chunk-on i cs (omega arith) in
-    let away : chunkAt i cs ≡ c → ⊥ = λ e. let o = once (chunkAt i cs) in omega (arith, times-here (chunkAt i cs) cs e) in
-    let rest : (d : ℕ) → times d cs ≤ 1 = λ d. let o = once d in by-eqb (λ t. times d cs ≤ 1) d c (λ e. omega (arith, times-here d cs e)) (λ e. omega (arith, times-there d cs e)) in
-    rw (ne-eqb (chunkAt i cs) c away) (position-chunk i cs (omega arith) rest))
+    let away : chunkAt i cs ≡ c → ⊥ = λ e. let o = once (chunkAt i cs) in omega (arith, times-here _ cs e) in
+    let rest : (d : ℕ) → times d cs ≤ 1 = λ d. let o = once d in by-eq d c (λ e. omega (arith, times-here d cs e)) (λ e. omega (arith, times-there d cs e)) in
+    rw (ne-eqb _ c away) (position-chunk i cs (omega arith) rest))
 
 module _ (s : List ℕ) where
   -- ---- the chain read from slots
@@ -77,14 +77,14 @@ module _ (s : List ℕ) where
   chunk-chain (suc n) i h =
       rw (length-chain n)
       (by-eqb (λ t. cond t (entryIn (getD s n 0)) (chunkAt i (chainFrom s n)) ≡ entryIn (getD s i 0)) i n
-      (λ q. ap (λ (j : ℕ). entryIn (getD s j 0)) (sym q)) (λ q. chunk-chain n i (omega arith)))
+      (λ q. cc) (λ q. chunk-chain n i (omega arith)))
 
   pub chain-again : (cs : List ℕ) → ((i : ℕ) → i < length cs → entryIn (getD s i 0) ≡ chunkAt i cs) → chainFrom s (length cs) ≡ cs
   unfolding chainFrom
   chain-again [] h = refl
   chain-again (c ∷ cs) h =
       let top : entryIn (getD s (length cs) 0) ≡ c = h (length cs) (omega arith) ∙ rw (eq-eqb (length cs) (length cs) refl) in
-      let rest = chain-again cs (λ i l. h i (omega arith) ∙ rw (ne-eqb i (length cs) (λ e. omega arith))) in
+      let rest = chain-again cs (λ i l. h i (omega arith) ∙ rw (ne-eqb i (length cs) (omega arith))) in
       rw (top, rest)
 
   -- ---- each chunk in its place
@@ -100,7 +100,7 @@ module _ (s : List ℕ) where
   chain-state (suc n) c p h =
       let r : List ℕ = chainFrom s n in
       by-eqb (λ t. stateIn (getD s c 0) ≡ positionBase + cond t (length r) (positionOn c r)) c (entryIn (getD s n 0))
-      (λ q. ap (λ (d : ℕ). stateIn (getD s d 0)) q ∙ p n (omega arith) ∙ ap (λ (k : ℕ). positionBase + k) (sym (length-chain n)))
+      (λ q. cc (p n (omega arith), length-chain n))
       (λ q. chain-state n c (λ i l. p i (omega arith)) (omega (arith, times-there c r q)))
 
   -- and stands there once.
@@ -110,13 +110,13 @@ module _ (s : List ℕ) where
   chain-once (suc n) c p =
       let r : List ℕ = chainFrom s n in
       let below : Placed n = λ i l. p i (omega arith) in
-      by-eqb (λ t. times c (entryIn (getD s n 0) ∷ r) ≤ 1) c (entryIn (getD s n 0))
+      by-eq c (entryIn (getD s n 0))
       (λ q.
-      by-eqb (λ t. times c (entryIn (getD s n 0) ∷ r) ≤ 1) (times c r) 0 (λ z. omega (arith, times-here c r q))
+      by-eq (times c r) 0 (omega (arith, times-here c r q))
       (λ z.
       let a = chain-state n c below (omega arith) in
       let b = position-less c r (omega arith) in
-      let d : stateIn (getD s c 0) ≡ positionBase + n = ap (λ (d : ℕ). stateIn (getD s d 0)) q ∙ p n (omega arith) in
+      let d : stateIn (getD s c 0) ≡ positionBase + n = ap (λ d. stateIn (getD s d 0)) q ∙ p n (omega arith) in
       absurd (omega (arith, length-chain n))))
       (λ q. let a = chain-once n c below in omega (arith, times-there c r q))
 
@@ -125,7 +125,7 @@ module _ (s : List ℕ) where
   module _ (k m : ℕ) (p : Placed m) (few : m ≤ k) (size : k ≤ length s) (past : (i : ℕ) → k ≤ i → getD s i 0 ≡ 0) (live : count isLive (take k s) ≡ k - m) where
     pub chain-past : (c : ℕ) → k ≤ c → times c (chainFrom s m) ≡ 0
     chain-past c h =
-        by-eqb (λ t. times c (chainFrom s m) ≡ 0) (times c (chainFrom s m)) 0 (λ q. q)
+        by-eq (times c (chainFrom s m)) 0 (λ q. q)
         (λ q. let a = chain-state m c p (omega arith) in let z = past c h in absurd (omega arith))
 
     liveAt : ℕ → ℕ
@@ -135,7 +135,7 @@ module _ (s : List ℕ) where
     unfolding liveAt
     at-most c =
         let o = chain-once m c p in
-        by-eqb (λ t. times c (chainFrom s m) + cond (isLive (getD s c 0)) 1 0 ≤ 1) (times c (chainFrom s m)) 0
+        by-eq (times c (chainFrom s m)) 0
         (λ q. let a = one-most (isLive (getD s c 0)) in rw q (omega arith))
         (λ q. let a = chain-state m c p (omega arith) in rw (live-not (getD s c 0) (omega arith)) (omega arith))
 
@@ -143,7 +143,7 @@ module _ (s : List ℕ) where
     unfolding liveAt
     live-sum =
         let long : length (take k s) ≡ k = length-take-le k s size in
-        sum-eq liveAt (λ i. cond (isLive (getD (take k s) i 0)) 1 0) k (λ i l. ap (λ (x : ℕ). cond (isLive x) 1 0) (sym (getD-take k s i 0 l)))
+        sum-eq liveAt (λ i. cond (isLive (getD (take k s) i 0)) 1 0) k (λ i l. cc (getD-take k s i 0 l))
         ∙ ap (sumBelow (λ i. cond (isLive (getD (take k s) i 0)) 1 0)) (sym long)
         ∙ sym (count-below isLive (take k s) 0)
         ∙ live
@@ -153,7 +153,7 @@ module _ (s : List ℕ) where
     unfolding liveAt
     chain-has =
         sum-tight (λ c. times c (chainFrom s m) + liveAt c) (λ c. 1) k (λ c l. at-most c)
-        (let a = sum-times (chainFrom s m) k chain-past in
+        (let a = sum-times _ k chain-past in
         let b = length-chain m in
         omega (arith, sum-add (λ c. times c (chainFrom s m)) liveAt k, live-sum, sum-const 1 k))
 
@@ -162,5 +162,5 @@ module _ (s : List ℕ) where
     by-chunk c l f g =
         let e = chain-has c l in
         bool (isLive (getD s c 0))
-        (λ b. let a : times c (chainFrom s m) + 1 ≡ 1 = rw b at e in let d = live-of (getD s c 0) b in f (d .0) (d .1) (omega arith))
+        (λ b. let a : times c (chainFrom s m) + 1 ≡ 1 = rw b at e in let d = live-of _ b in f (d .0) (d .1) (omega arith))
         (λ b. let a : times c (chainFrom s m) + 0 ≡ 1 = rw b at e in g (chain-state m c p (omega arith)) (omega arith))

@@ -9,7 +9,7 @@ use lib.ListN.{length, getD, set, length-set, length-append}
 use lib.Seq.{getD-set-same, getD-set-other, getD-append-seam}
 use borrow.Author.Tests.{eq-eqb, ne-eqb, lt-ltb, le-ltb, le-leb}
 use Rattle.lemmas.specs.Zeros.{Zero}
-use Rattle.lemmas.proofs.Cases.{true-false, by-eqb, by-ltb}
+use Rattle.lemmas.proofs.Cases.{true-false, by-ltb, by-eq}
 use Rattle.lemmas.proofs.Sets.{getD-set}
 use Rattle.lemmas.proofs.Times.{times-here}
 use Rattle.lemmas.proofs.Zeros.{zero-set}
@@ -70,11 +70,11 @@ body-head : (n x : ℕ) {w : List ℕ} {c : ℕ} {st en : ℕ → ℕ} → 2 ≤
 body-head n x {w} l u b =
     record {
       size = length-set w n x ∙ b .size;
-      kind = getD-set-other w n 0 x 0 (λ e. omega arith) ∙ b .kind;
-      class = getD-set-other w n 1 x 0 (λ e. omega arith) ∙ b .class;
-      rest = zero-set n x (λ p q. omega arith) (b .rest);
-      states = λ i k. ap stateIn (getD-set-other w n (headWords + i) x 0 (λ e. omega arith)) ∙ b .states i k;
-      entries = λ i k. ap entryIn (getD-set-other w n (headWords + i) x 0 (λ e. omega arith)) ∙ b .entries i k;
+      kind = getD-set-other w n 0 x 0 (omega arith) ∙ b .kind;
+      class = getD-set-other w n 1 x 0 (omega arith) ∙ b .class;
+      rest = zero-set n x (omega arith) (b .rest);
+      states = λ i k. ap stateIn (getD-set-other w n _ x 0 (omega arith)) ∙ b .states i k;
+      entries = λ i k. ap entryIn (getD-set-other w n _ x 0 (omega arith)) ∙ b .entries i k;
     }
 
 -- A store to a slot.
@@ -82,29 +82,29 @@ body-slot : (p x : ℕ) {w : List ℕ} {c : ℕ} {st en : ℕ → ℕ} (st′ en
     → ((j : ℕ) → (j ≡ p → ⊥) → st′ j ≡ st j) → ((j : ℕ) → (j ≡ p → ⊥) → en′ j ≡ en j) → Body (set w (headWords + p) x) c st′ en′
 body-slot p x {w} st′ en′ l b here here′ there there′ =
     record {
-      size = length-set w (headWords + p) x ∙ b .size;
-      kind = getD-set-other w (headWords + p) 0 x 0 (λ e. omega arith) ∙ b .kind;
-      class = getD-set-other w (headWords + p) 1 x 0 (λ e. omega arith) ∙ b .class;
-      rest = zero-set (headWords + p) x (λ i q. omega arith) (b .rest);
-      states = λ j k. by-eqb (λ t. stateIn (getD (set w (headWords + p) x) (headWords + j) 0) ≡ st′ j) j p
-          (λ e. ap stateIn (same j e) ∙ here ∙ ap st′ (sym e))
-          (λ n. ap stateIn (getD-set-other w (headWords + p) (headWords + j) x 0 (λ e. n (omega arith))) ∙ b .states j k ∙ sym (there j n));
-      entries = λ j k. by-eqb (λ t. entryIn (getD (set w (headWords + p) x) (headWords + j) 0) ≡ en′ j) j p
-          (λ e. ap entryIn (same j e) ∙ here′ ∙ ap en′ (sym e))
-          (λ n. ap entryIn (getD-set-other w (headWords + p) (headWords + j) x 0 (λ e. n (omega arith))) ∙ b .entries j k ∙ sym (there′ j n));
+      size = length-set w _ x ∙ b .size;
+      kind = getD-set-other w _ 0 x 0 (omega arith) ∙ b .kind;
+      class = getD-set-other w _ 1 x 0 (omega arith) ∙ b .class;
+      rest = zero-set _ x (omega arith) (b .rest);
+      states = λ j k. by-eq j p
+          (λ e. cc (same j e))
+          (λ n. cc (getD-set-other w (headWords + p) (headWords + j) x 0 (λ e. n (omega arith)), b .states j k, there j n));
+      entries = λ j k. by-eq j p
+          (λ e. cc (same j e))
+          (λ n. cc (getD-set-other w (headWords + p) (headWords + j) x 0 (λ e. n (omega arith)), b .entries j k, there′ j n));
     }
   where
     same : (j : ℕ) → j ≡ p → getD (set w (headWords + p) x) (headWords + j) 0 ≡ x
-    same j e = ap (λ (n : ℕ). getD (set w (headWords + p) x) (headWords + n) 0) e ∙ getD-set-same w (headWords + p) x 0 (let s = b .size in omega arith)
+    same j e = cc (getD-set-same w (headWords + p) x 0 (let s = b .size in omega arith))
 
 -- A store to one half of a slot.
 body-state : (p x : ℕ) {w : List ℕ} {c : ℕ} {st en : ℕ → ℕ} (st′ : ℕ → ℕ) → p < slotCount → x < half → Body w c st en → st′ p ≡ x → ((j : ℕ) → (j ≡ p → ⊥) → st′ j ≡ st j) → Body (withState p x w) c st′ en
 body-state p x {w} {c} {st} {en} st′ l k b here there =
-    body-slot p (entryIn (getD w (headWords + p) 0) * half + x) st′ en l b (omega arith) (omega (arith, b .entries p l)) there (λ j n. refl)
+    body-slot p _ st′ en l b (omega arith) (omega (arith, b .entries p l)) there (λ j n. refl)
 
 body-entry : (p x : ℕ) {w : List ℕ} {c : ℕ} {st en : ℕ → ℕ} (en′ : ℕ → ℕ) → p < slotCount → Body w c st en → en′ p ≡ x → ((j : ℕ) → (j ≡ p → ⊥) → en′ j ≡ en j) → Body (withEntry p x w) c st en′
 body-entry p x {w} {c} {st} {en} en′ l b here there =
-    body-slot p (stateIn (getD w (headWords + p) 0) + half * x) st en′ l b (omega (arith, b .states p l)) (omega arith) (λ j n. refl) there
+    body-slot p _ st en′ l b (omega (arith, b .states p l)) (omega arith) (λ j n. refl) there
 
 -- The slots of a zone without a chain.
 slot-plain : (z : Zone) → z .chain ≡ [] → (i : ℕ) → slotOf z i ≡ stateOf z i
@@ -113,7 +113,7 @@ slot-plain z e i = let a : entryOf z i ≡ 0 = ap (chunkAt i) e in omega arith
 
 -- The head's numbers behind stores to slots.
 head-slot : (w : List ℕ) (p x n : ℕ) → n < headWords → getD (set w (headWords + p) x) n 0 ≡ getD w n 0
-head-slot w p x n l = getD-set-other w (headWords + p) n x 0 (λ e. omega arith)
+head-slot w p x n l = getD-set-other w _ n x 0 (omega arith)
 
 -- ---- a chunk is put back
 
@@ -127,8 +127,7 @@ module _ {w : List ℕ} {z : Zone} (h : Words w z) (v : ValidZone z) (i : ℕ) (
   put-here : stateOf (putBack i z) i ≡ positionBase + m
   unfolding m
   put-here =
-      state-returned (putBack i z) i (rw length-set inside) (set-zero (z .owners) i)
-      ∙ ap (λ (t : Bool). positionBase + cond t (length (z .chain)) (positionOn i (z .chain))) (eq-eqb i i refl)
+      cc (state-returned (putBack i z) i (rw length-set inside) (set-zero (z .owners) i), eq-eqb i i refl)
 
   put-there : (j : ℕ) → (j ≡ i → ⊥) → stateOf (putBack i z) j ≡ stateOf z j
   unfolding stateOf
@@ -136,11 +135,11 @@ module _ {w : List ℕ} {z : Zone} (h : Words w z) (v : ValidZone z) (i : ℕ) (
 
   entry-here : entryOf (putBack i z) m ≡ i
   unfolding m
-  entry-here = rw (eq-eqb (length (z .chain)) (length (z .chain)) refl)
+  entry-here = rw (eq-eqb _ (length (z .chain)) refl)
 
   entry-there : (j : ℕ) → (j ≡ m → ⊥) → entryOf (putBack i z) j ≡ entryOf z j
   unfolding m
-  entry-there j n = rw (ne-eqb j (length (z .chain)) n)
+  entry-there j n = rw (ne-eqb j _ n)
 
   pub put-asks : (length w ≡ zoneWords) × (i < slotCount) × (chainedIn w < slotCount)
   put-asks =
@@ -152,8 +151,8 @@ module _ {w : List ℕ} {z : Zone} (h : Words w z) (v : ValidZone z) (i : ℕ) (
   unfolding m
   put-body =
       let b = put-asks in let d = b .1 in let f = b .2 in let e = h .chained in
-      body-entry m i (entryOf (putBack i z)) (omega arith)
-      (body-state i (positionBase + m) (stateOf (putBack i z)) d (omega arith) (body h v) put-here put-there) entry-here entry-there
+      body-entry m i _ (omega arith)
+      (body-state i _ _ d (omega arith) (body h v) put-here put-there) entry-here entry-there
 
   pub put-words : Words (lastPut i w) (putBack i z)
   unfolding m
@@ -161,8 +160,8 @@ module _ {w : List ℕ} {z : Zone} (h : Words w z) (v : ValidZone z) (i : ℕ) (
       rw (h .chained)
       (let u = withState i (positionBase + m) w in
       let u₂ = withEntry m i u in
-      words (putBack i z) (body-head 3 (m + 1) (omega arith) (omega arith) put-body)
-      (getD-set-other u₂ 3 2 (m + 1) 0 (λ e. omega arith) ∙ head-slot u m _ 2 (omega arith) ∙ head-slot w i _ 2 (omega arith) ∙ h .handed ∙ sym (length-set (z .owners) i 0))
+      words _ (body-head 3 (m + 1) (omega arith) (omega arith) put-body)
+      (cc (getD-set-other u₂ 3 2 (m + 1) 0 (λ e. omega arith), head-slot u m _ 2 (omega arith), head-slot w i _ 2 (omega arith), length-set (z .owners) i 0))
       (getD-set-same u₂ 3 (m + 1) 0 (omega (arith, put-body .size)) ∙ omega arith))
 
 -- ---- a chunk is granted
@@ -207,15 +206,15 @@ module _ {w : List ℕ} {z : Zone} (h : Words w z) (v : ValidZone z) (g : ℕ) (
         let u = set w (headWords + touched z) g in
         let s = h .size in let s₁ = length-set w (headWords + touched z) g in
         words more
-        (body-head 2 (touched z + 1) (omega arith) (omega arith)
-        (body-slot (touched z) g (stateOf more) (entryOf z) below (body h v) (omega (arith, more-here)) (omega (arith, chunk-past (touched z) (z .chain) (chain-few z v))) more-there (λ j n. refl)))
-        (getD-set-same u 2 (touched z + 1) 0 (omega arith) ∙ sym longer)
-        (getD-set-other u 2 3 (touched z + 1) 0 (λ e. omega arith) ∙ head-slot w (touched z) g 3 (omega arith) ∙ h .chained)
+        (body-head 2 _ (omega arith) (omega arith)
+        (body-slot (touched z) g _ (entryOf z) below (body h v) (omega (arith, more-here)) (omega (arith, chunk-past (touched z) (z .chain) (chain-few z v))) more-there (λ j n. refl)))
+        (getD-set-same u 2 _ 0 (omega arith) ∙ sym longer)
+        (getD-set-other u 2 3 _ 0 (omega arith) ∙ head-slot w (touched z) g 3 (omega arith) ∙ h .chained)
 
     -- The chunk, and the words.
     pub hand-out : (touchedIn w < slotCount) × (touchedIn w ≡ nextChunk z) × Words (handedOut (touchedIn w) g w) (granted g z)
     unfolding more
-    hand-out = rw (h .handed, lt-ltb (touched z) (chunks (z .class)) some) (below, refl, more-words)
+    hand-out = rw (h .handed, lt-ltb (touched z) _ some) (below, refl, more-words)
 
   -- The chain's first.
   module _ (d : ℕ) (t : List ℕ) (e : z .chain ≡ d ∷ t) where
@@ -249,8 +248,8 @@ module _ {w : List ℕ} {z : Zone} (h : Words w z) (v : ValidZone z) (g : ℕ) (
     less-body : Body (withState d g (withEntry (length t) 0 w)) (z .class) (stateOf less) (entryOf less)
     unfolding less
     less-body =
-        body-state d g (stateOf less) (let a = first-is .0 in let b = touched-most z v in omega arith) (omega arith)
-        (body-entry (length t) 0 (entryOf less) length-few (body h v) (chunk-past (length t) t (omega arith)) gone-there) less-here less-there
+        body-state d g _ (let a = first-is .0 in let b = touched-most z v in omega arith) (omega arith)
+        (body-entry (length t) 0 _ length-few (body h v) (chunk-past (length t) t (omega arith)) gone-there) less-here less-there
 
     less-words : Words (set (withState d g (withEntry (length t) 0 w)) 3 (length t)) less
     unfolding less
@@ -258,18 +257,18 @@ module _ {w : List ℕ} {z : Zone} (h : Words w z) (v : ValidZone z) (g : ℕ) (
         let u = withEntry (length t) 0 w in
         let u₂ = withState d g u in
         words less (body-head 3 (length t) (omega arith) (omega arith) less-body)
-        (getD-set-other u₂ 3 2 (length t) 0 (λ e. omega arith) ∙ head-slot u d _ 2 (omega arith) ∙ head-slot w (length t) _ 2 (omega arith) ∙ h .handed ∙ sym (length-set (z .owners) d g))
+        (cc (getD-set-other u₂ 3 2 (length t) 0 (λ e. omega arith), head-slot u d _ 2 (omega arith), head-slot w (length t) _ 2 (omega arith), length-set (z .owners) d g))
         (getD-set-same u₂ 3 (length t) 0 (omega (arith, less-body .size)))
 
   take-some : (l : List ℕ) → z .chain ≡ l → isNil l ≡ false → Takes w g (firstOf l) (unchained g z l)
   unfolding less
-  take-some [] e n = absurd (true-false refl n)
+  take-some [] e n = true-false refl n
   take-some (d ∷ t) e n =
-      let m : chainedIn w ≡ suc (length t) = h .chained ∙ ap length e in
+      let m : chainedIn w ≡ suc (length t) = cc in
       let q : chainedIn w - 1 ≡ length t = omega arith in
       let b = touched-most z v in let k : d < touched z = first-is d t e .0 in
       let f = length-few d t e in
-      let p : lastChunk w ≡ d = ap (λ (n : ℕ). entryIn (getD w (headWords + n) 0)) q ∙ body h v .entries (length t) f ∙ last-is d t e in
+      let p : lastChunk w ≡ d = cc (body h v .entries (length t) f, last-is d t e) in
       record {
         asks = record { size = h .size; counted = omega arith; few = omega arith; near = omega arith };
         chunk-is = p;
@@ -278,8 +277,8 @@ module _ {w : List ℕ} {z : Zone} (h : Words w z) (v : ValidZone z) (g : ℕ) (
 
   pub take-last : full z ≡ false → chunks (z .class) ≤ touched z → Takes w g (nextChunk z) (granted g z)
   take-last n l =
-      rw (le-ltb (touched z) (chunks (z .class)) l)
-      (take-some (z .chain) refl (rw (le-leb (chunks (z .class)) (touched z) l) at n))
+      rw (le-ltb (touched z) _ l)
+      (take-some (z .chain) refl (rw (le-leb _ (touched z) l) at n))
 
 -- ---- a zone is set up
 
@@ -291,15 +290,14 @@ module _ (w : List ℕ) (c g : ℕ) (size : length w ≡ zoneWords) (rest : Zero
   unfolding fresh
   fresh-at n =
       getD-set (set (set (set (set w 0 3) 1 c) 2 1) 3 0) headWords n g 0 (simp length-set (omega arith))
-      ∙ ap (λ (x : ℕ). cond (eqb n headWords) g x) (getD-set (set (set (set w 0 3) 1 c) 2 1) 3 n 0 0 (simp length-set (omega arith))
-      ∙ ap (λ (x : ℕ). cond (eqb n 3) 0 x) (getD-set (set (set w 0 3) 1 c) 2 n 1 0 (simp length-set (omega arith))
-      ∙ ap (λ (x : ℕ). cond (eqb n 2) 1 x) (getD-set (set w 0 3) 1 n c 0 (simp length-set (omega arith))
-      ∙ ap (λ (x : ℕ). cond (eqb n 1) c x) (getD-set w 0 n 3 0 (omega arith)))))
+      ∙ ap (λ x. cond (eqb n headWords) g x) (getD-set (set (set (set w 0 3) 1 c) 2 1) 3 n 0 0 (simp length-set (omega arith))
+      ∙ ap (λ x. cond (eqb n 3) 0 x) (getD-set (set (set w 0 3) 1 c) 2 n 1 0 (simp length-set (omega arith))
+      ∙ ap (λ x. cond (eqb n 2) 1 x) (cc (getD-set (set w 0 3) 1 n c 0 (simp length-set (omega arith)), getD-set w 0 n 3 0 (omega arith)))))
 
   fresh-far : (n : ℕ) → headNumbers ≤ n → n < zoneWords → (n ≡ headWords → ⊥) → getD fresh n 0 ≡ 0
   fresh-far n l u e =
       fresh-at n
-      ∙ rw (ne-eqb n headWords e, ne-eqb n 3 (λ q. omega arith), ne-eqb n 2 (λ q. omega arith), ne-eqb n 1 (λ q. omega arith), ne-eqb n 0 (λ q. omega arith))
+      ∙ rw (ne-eqb n headWords e, ne-eqb n 3 (omega arith), ne-eqb n 2 (omega arith), ne-eqb n 1 (omega arith), ne-eqb n 0 (omega arith))
       (rest .at n l u)
 
   pub set-up-words : Words (set (set (set (set (set w 0 3) 1 c) 2 1) 3 0) headWords g) (newZone c g)
@@ -311,7 +309,7 @@ module _ (w : List ℕ) (c g : ℕ) (size : length w ≡ zoneWords) (rest : Zero
         class = fresh-at 1;
         handed = fresh-at 2;
         chained = fresh-at 3;
-        rest = record { at = λ i l u. fresh-far i l (omega arith) (λ e. omega arith) };
+        rest = record { at = λ i l u. fresh-far i l (omega arith) (omega arith) };
         slots = slots;
       }
     where
@@ -319,5 +317,5 @@ module _ (w : List ℕ) (c g : ℕ) (size : length w ≡ zoneWords) (rest : Zero
       slot j = slot-plain (newZone c g) refl j
 
       slots : (j : ℕ) → j < slotCount → getD fresh (headWords + j) 0 ≡ slotOf (newZone c g) j
-      slots zero l = fresh-at headWords ∙ sym (slot 0 ∙ state-live (newZone c g) 0 (omega arith) group)
-      slots (suc j) l = fresh-far (headWords + suc j) (omega arith) (omega arith) (λ e. omega arith) ∙ sym (slot (suc j) ∙ state-untouched (newZone c g) (suc j) (omega arith))
+      slots zero l = fresh-at headWords ∙ sym (slot 0 ∙ state-live _ 0 (omega arith) group)
+      slots (suc j) l = fresh-far _ (omega arith) (omega arith) (omega arith) ∙ sym (slot (suc j) ∙ state-untouched _ (suc j) (omega arith))

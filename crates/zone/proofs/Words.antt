@@ -7,7 +7,7 @@ use lib.ListN.{length, getD, length-append, List·getD-append}
 use lib.Seq.{ext-getD, getD-append-add}
 use Rattle.lemmas.specs.Zeros.{zeros, Zero}
 use Rattle.lemmas.specs.ListFrom.{listFrom}
-use Rattle.lemmas.proofs.Cases.{by-ltb}
+use Rattle.lemmas.proofs.Cases.{by-lt}
 use Rattle.lemmas.proofs.Zeros.{length-zeros, getD-zeros}
 use Rattle.lemmas.proofs.ListFrom.{length-listFrom, getD-listFrom}
 use Rattle.model.specs.Zone.{Zone, touched}
@@ -37,13 +37,13 @@ module _ (z : Zone) where
 
   tail-rest : (i : ℕ) → i < headZeros → getD tail i 0 ≡ 0
   unfolding tail
-  tail-rest i l = List·getD-append (zeros headZeros) (listFrom (slotOf z) 0 slotCount) 0 i (omega (arith, length-zeros headZeros)) ∙ getD-zeros headZeros i
+  tail-rest i l = List·getD-append (zeros headZeros) _ 0 i (omega (arith, length-zeros headZeros)) ∙ getD-zeros headZeros i
 
   tail-slot : (i : ℕ) → i < slotCount → getD tail (headZeros + i) 0 ≡ slotOf z i
   unfolding tail
   tail-slot i l =
-      ap (λ (n : ℕ). getD tail (n + i) 0) (sym (length-zeros headZeros))
-      ∙ getD-append-add (zeros headZeros) (listFrom (slotOf z) 0 slotCount) i 0
+      ap (λ n. getD tail (n + i) 0) (sym (length-zeros headZeros))
+      ∙ getD-append-add (zeros headZeros) _ i 0
       ∙ getD-listFrom (slotOf z) 0 slotCount i 0 l
       ∙ ap (slotOf z) (omega arith)
 
@@ -57,19 +57,19 @@ module _ (z : Zone) where
 
   pub length-encoding : length (zoneEncoding z) ≡ zoneWords
   unfolding numbers
-  length-encoding = ap length encoded ∙ omega (arith, length-append numbers tail, length-tail)
+  length-encoding = ap length encoded ∙ omega (arith, length-tail)
 
   whole : Words (numbers ++ tail) z
   unfolding numbers
   whole =
       record {
-        size = ap length (sym encoded) ∙ length-encoding;
+        size = cc (encoded, length-encoding);
         kind = refl;
         class = refl;
         handed = refl;
         chained = refl;
-        rest = record { at = λ i l k. ap (λ (n : ℕ). getD (numbers ++ tail) n 0) (let e : i ≡ headNumbers + (i - headNumbers) = omega arith in e) ∙ behind (i - headNumbers) ∙ tail-rest (i - headNumbers) (omega arith) };
-        slots = λ i l. ap (λ (n : ℕ). getD (numbers ++ tail) n 0) (let e : headWords + i ≡ headNumbers + (headZeros + i) = omega arith in e) ∙ behind (headZeros + i) ∙ tail-slot i l;
+        rest = record { at = λ i l k. ap (λ n. getD (numbers ++ tail) n 0) (let e : i ≡ headNumbers + (i - headNumbers) = omega arith in e) ∙ behind _ ∙ tail-rest (i - headNumbers) (omega arith) };
+        slots = λ i l. ap (λ n. getD (numbers ++ tail) n 0) (let e : headWords + i ≡ headNumbers + (headZeros + i) = omega arith in e) ∙ behind _ ∙ tail-slot i l;
       }
 
   pub encoding-words : Words (zoneEncoding z) z
@@ -78,21 +78,21 @@ module _ (z : Zone) where
 -- Two lists with the words of one zone are the same.
 module _ {v w : List ℕ} {z : Zone} (a : Words v z) (b : Words w z) where
   each : (i : ℕ) → i < zoneWords → getD v i 0 ≡ getD w i 0
-  each zero l = a .kind ∙ sym (b .kind)
-  each (suc zero) l = a .class ∙ sym (b .class)
-  each (suc (suc zero)) l = a .handed ∙ sym (b .handed)
-  each (suc (suc (suc zero))) l = a .chained ∙ sym (b .chained)
-  each (suc (suc (suc (suc n)))) l = far (suc (suc (suc (suc n)))) (omega arith) l
+  each zero l = cc
+  each (suc zero) l = cc
+  each (suc (suc zero)) l = cc
+  each (suc (suc (suc zero))) l = cc
+  each (suc (suc (suc (suc n)))) l = far _ (omega arith) l
     where
       far : (i : ℕ) → headNumbers ≤ i → i < zoneWords → getD v i 0 ≡ getD w i 0
       far i k l =
-          by-ltb (λ t. getD v i 0 ≡ getD w i 0) i headWords (λ h. a .rest .at i k h ∙ sym (b .rest .at i k h))
+          by-lt i headWords (λ h. a .rest .at i k h ∙ sym (b .rest .at i k h))
           (λ h.
           let e : i ≡ headWords + (i - headWords) = omega arith in
-          ap (λ (n : ℕ). getD v n 0) e ∙ a .slots (i - headWords) (omega arith) ∙ sym (b .slots (i - headWords) (omega arith)) ∙ ap (λ (n : ℕ). getD w n 0) (sym e))
+          ap (λ n. getD v n 0) e ∙ a .slots _ (omega arith) ∙ sym (b .slots _ (omega arith)) ∙ ap (λ n. getD w n 0) (sym e))
 
   pub words-same : v ≡ w
-  words-same = ext-getD 0 v w (a .size ∙ sym (b .size)) (λ i l. each i (let s = a .size in omega arith))
+  words-same = ext-getD 0 v w (cc) (λ i l. each i (let s = a .size in omega arith))
 
 pub words-encoding : {w : List ℕ} {z : Zone} → Words w z → w ≡ zoneEncoding z
 words-encoding {w} {z} h = words-same h (encoding-words z)

@@ -41,7 +41,7 @@ returns-7 c =
     let start = s in
     let spare = sym (a .are-legal .ensures) ∙ not-false _ (e .if5 .left) in
     let lists = sym (c .before .before .before .are-legal2 .ensures) ∙ not-false _ (c .before .before .if6 .left) in
-    c .is-zero .ensures ∙ header-last (start .args .words .now) (omega arith) (omega arith) (omega arith) (omega arith) spare lists
+    c .is-zero .ensures ∙ header-last _ (omega arith) (omega arith) (omega arith) (omega arith) spare lists
 
 pub check-spec : {M : Type 1} → statement M
 check-spec =

@@ -15,13 +15,13 @@ put-bytes c = c .before .before .before .before
 put-bytes-requires : tie.Need-put-bytes-requires
 put-bytes-requires c κs =
     let s = c .before .before .before in
-    left-bounded (left-named {l = s .args .out .now} _ (s .args .n)) (s .pre)
+    left-bounded (left-named {l = s .args .out .now} _ _) (s .pre)
 
 put-byte-requires : tie.Need-put-byte-requires
 put-byte-requires c κs =
     let p = c .before .before .before in
     let s = start p in
-    left-bounded (left-step (left-named _ (s .args .n)) (p .put-bytes .ensures)) (s .pre)
+    left-bounded (left-step (left-named _ _) (p .put-bytes .ensures)) (s .pre)
 
 put-field-requires : tie.Need-put-field-requires
 put-field-requires c κs =

@@ -29,7 +29,7 @@ returns-3 c =
     let s = start r in
     let end = c .before .before .wide in
     c .is-zero2 .ensures
-    ∙ body-untouched (s .args .part .now) (end .result) (s .pre .0) (s .pre .1) (end .ensures) (sym (r .before .is-zero .ensures) ∙ not-false _ (r .if1 .left))
+    ∙ body-untouched _ _ (s .pre .0) (s .pre .1) (end .ensures) (sym (r .before .is-zero .ensures) ∙ not-false _ (r .if1 .left))
     (sym (l .before .are-legal .ensures) ∙ not-false _ (l .if2 .left))
 
 pub body-is-legal-spec : {M : Type 1} → statement M

@@ -22,7 +22,7 @@ returns : tie.Need-returns
 returns c =
     let cleared : tie.After-clear = c .before .before in
     let s : tie.Start = cleared .before .before .before in
-    set-up-encoding (s .args .part .now) (s .args .class) (s .args .group) (cleared .clear .last .0) (s .pre .0) (s .pre .1) (cleared .clear .ensures)
+    set-up-encoding (s .args .part .now) _ _ _ (s .pre .0) (s .pre .1) (cleared .clear .ensures)
 
 pub set-up-spec : {M : Type 1} → statement M
 set-up-spec =

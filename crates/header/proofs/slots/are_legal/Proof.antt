@@ -32,9 +32,7 @@ returns c =
     let s = start-before-loop l in
     let start = s in
     let turn = l .loop in
-    c .is-zero .ensures
-    ∙ legal-zero (start .args .limit) (turn .class) (start .args .slots .now) (turn .i) (t .loop-test .taken) (c .before .before .if1 .taken)
-    ∙ turn .inv .1
+    cc (legal-zero (start .args .limit) (turn .class) (start .args .slots .now) (turn .i) (t .loop-test .taken) (c .before .before .if1 .taken))
 
 returns-2 : tie.Need-returns-2 Inv-loop μ-loop
 returns-2 c =
@@ -43,7 +41,7 @@ returns-2 c =
     let s = start-before-loop l in
     let start = s in
     let turn = l .loop in
-    legal-large (start .args .limit) (turn .class) (start .args .slots .now) (turn .i) (t .loop-test .taken) (c .before .if1 .left) (c .if2 .taken)
+    legal-large _ _ _ (turn .i) (t .loop-test .taken) (c .before .if1 .left) (c .if2 .taken)
     ∙ turn .inv .1
 
 returns-3 : tie.Need-returns-3 Inv-loop μ-loop
@@ -53,7 +51,7 @@ returns-3 c =
     let s = start-before-loop l in
     let start = s in
     let turn = l .loop in
-    legal-falls (start .args .limit) (turn .class) (start .args .slots .now) (turn .i) (t .loop-test .taken) (c .before .before .if1 .left) (c .before .if2 .left) (c .if3 .taken)
+    legal-falls _ _ _ (turn .i) (t .loop-test .taken) (c .before .before .if1 .left) (c .before .if2 .left) (c .if3 .taken)
     ∙ turn .inv .1
 
 loop-again : tie.Need-loop-again Inv-loop μ-loop
@@ -64,7 +62,7 @@ loop-again c =
     let start = s in
     let turn = l .loop in (
       omega arith,
-      legal-next (start .args .limit) (turn .class) (start .args .slots .now) (turn .i) (t .loop-test .taken) (c .before .before .if1 .left) (c .before .if2 .left) (c .if3 .left)
+      legal-next _ _ _ (turn .i) (t .loop-test .taken) (c .before .before .if1 .left) (c .before .if2 .left) (c .if3 .left)
           ∙ turn .inv .1,
     )
 
@@ -72,7 +70,7 @@ returns-4 : tie.Need-returns-4 Inv-loop μ-loop
 returns-4 c =
     let start = c .before .before .before in
     let turn = c .before .loop in
-    legal-end (start .args .limit) (turn .class) (start .args .slots .now) (turn .i) (c .loop-test .left) ∙ turn .inv .1
+    legal-end _ _ _ (turn .i) (c .loop-test .left) ∙ turn .inv .1
 
 pub are-legal-spec : {M : Type 1} → statement M
 are-legal-spec =

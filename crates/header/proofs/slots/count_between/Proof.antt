@@ -23,7 +23,7 @@ abbrev start-before-loop : tie.At-loop Inv-loop μ-loop → tie.Start Inv-loop �
 start-before-loop c = c .before .before
 
 loop-holds : tie.Need-loop-holds Inv-loop μ-loop
-loop-holds c = (omega arith, omega arith, sym (count-nil (holds (c .before .args .low) (c .before .args .high))))
+loop-holds c = (omega arith, omega arith, sym (count-nil _))
 
 loop-again : tie.Need-loop-again Inv-loop μ-loop
 loop-again c =
@@ -37,12 +37,12 @@ loop-again c =
     let test = holds (start .args .low) (start .args .high) in
     let found = sym (c .before .holds .ensures) in (
       omega arith,
-      ⊎-elim (λ w. omega arith) (λ w. omega arith) (c .if1 .came),
+      ⊎-elim (omega arith) (omega arith) (c .if1 .came),
       ⊎-elim (λ w. w .1 ∙ count-pass test s i 0 h (found ∙ w .0 .taken) (was .2)) (λ w. w .1 ∙ count-fail test s i 0 h (found ∙ w .0 .left) (was .2)) (c .if1 .came),
     )
 
 returns : tie.Need-returns Inv-loop μ-loop
-returns c = count-done (holds (c .before .before .before .args .low) (c .before .before .before .args .high)) _ _ (c .loop-test .left) (c .before .loop .inv .2)
+returns c = count-done _ _ _ (c .loop-test .left) (c .before .loop .inv .2)
 
 pub count-between-spec : {M : Type 1} → statement M
 count-between-spec =

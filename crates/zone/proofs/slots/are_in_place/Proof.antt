@@ -1,7 +1,7 @@
 -- `slots::are_in_place` meets its contract. The loop's invariant: nothing was found wrong where all positions so far have their
 -- chunk. Assumes nothing.
 use Prim.Native.Nat.{_≤_, _<_, _-_}
-use mathlib.Core.Path.{_≡_, sym, _∙_}
+use mathlib.Core.Path.{_≡_, sym}
 use native.Mathlib.Omega.{arith}
 use lib.Dec.{eqb}
 use borrow.Author.Needs.{needs}
@@ -31,7 +31,7 @@ chunk-small : (c : tie.After-wide2 Inv-loop μ-loop) → c .wide2 .result < slot
 chunk-small c =
     let t = turn c in
     let s = start t in
-    chunk-near (s .args .slots .now) (t .wide .ensures) (c .wide2 .ensures) (s .args .chained) (s .pre .2) (omega arith) (omega arith)
+    chunk-near _ (t .wide .ensures) (c .wide2 .ensures) (s .args .chained) (s .pre .2) (omega arith) (omega arith)
 
 loop-holds : tie.Need-loop-holds Inv-loop μ-loop
 loop-holds c = (omega arith, sym (all-none _))
@@ -49,7 +49,7 @@ loop-again c =
     (omega arith, place-next (start t .args .slots .now) (t .wide .ensures) (c .before .wide2 .ensures) (was .loop .wrong) (was .loop .inv .1))
 
 returns : tie.Need-returns Inv-loop μ-loop
-returns c = all-done _ _ (c .before .loop .i) (omega arith) (c .before .loop .inv .1)
+returns c = all-done _ _ _ (omega arith) (c .before .loop .inv .1)
 
 pub are-in-place-spec : {M : Type 1} → statement M
 are-in-place-spec =

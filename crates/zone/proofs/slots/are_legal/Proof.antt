@@ -33,31 +33,31 @@ abbrev M : tie.After-survey → ℕ
 M c = start c .args .chained
 
 returns : tie.Need-returns
-returns c = let u = c .before .before in slots-full (S u) (K u) (M u) (sym (u .survey .ensures .1) ∙ le-ltb _ _ (c .if1 .taken))
+returns c = let u = c .before .before in slots-full (S u) (K u) (M u) (cc (le-ltb _ _ (c .if1 .taken)))
 
 returns-2 : tie.Need-returns-2
 returns-2 c =
     let l = c .before .before in
-    let u = upper l in slots-far (S u) (K u) (M u) (omega arith) (omega arith) (sym (l .survey2 .ensures .2) ∙ le-ltb _ _ (c .if2 .taken))
+    let u = upper l in slots-far (S u) (K u) (M u) (omega arith) (omega arith) (cc (le-ltb _ _ (c .if2 .taken)))
 
 returns-3 : tie.Need-returns-3
 returns-3 c =
     let l = lower (c .before) in
-    let u = upper l in slots-uncounted (S u) (K u) (M u) (omega arith) (λ e. omega (arith, e, u .survey .ensures .0, l .survey2 .ensures .0))
+    let u = upper l in slots-uncounted (S u) (K u) (M u) (omega arith) (λ e. omega arith)
 
 are-in-place-requires : tie.Need-are-in-place-requires
 are-in-place-requires c κs =
     let l = lower (c .before) in
     let u = upper l in
-    let near = sym (l .survey2 .ensures .2) ∙ lt-ltb (l .survey2 .result .seen) (half * slotCount) (omega arith) in
-    (omega arith, omega arith, ap (every isNear) (sym (front (S u) (M u))) ∙ near)
+    let near = sym (l .survey2 .ensures .2) ∙ lt-ltb (l .survey2 .result .seen) _ (omega arith) in
+    (omega arith, omega arith, cc (front (S u) (M u)))
 
 returns-4 : tie.Need-returns-4
 returns-4 c =
     let l = lower (c .before .before) in
     let u = upper l in
     let bare = sym (u .survey .ensures .1) ∙ lt-ltb (u .survey .result .seen) half (omega arith) in
-    c .are-in-place .ensures ∙ slots-placed (S u) (K u) (M u) (omega arith) bare (omega (arith, u .survey .ensures .0, l .survey2 .ensures .0))
+    c .are-in-place .ensures ∙ slots-placed (S u) (K u) (M u) (omega arith) bare (omega arith)
 
 pub are-legal-spec : {M : Type 1} → statement M
 are-legal-spec =

@@ -2,7 +2,7 @@
 use Prim.Native.Nat.{ℕ, _<_, _≤_, _-_}
 use mathlib.Core.List.{List}
 use mathlib.Core.Logic.{⊎-elim}
-use mathlib.Core.Path.{_≡_, refl, sym, _∙_}
+use mathlib.Core.Path.{_≡_, sym, _∙_}
 use native.Mathlib.Omega.{arith}
 use lib.ListN.{length, take}
 use borrow.Author.Needs.{needs}
@@ -32,9 +32,9 @@ loop-again c =
     let was = turn .loop .inv in
     let live = c .before .is-live .ensures in (
       omega arith,
-      ⊎-elim (λ w. omega arith) (λ w. omega arith) (c .if1 .came),
-      ⊎-elim (λ w. w .1 ∙ count-pass isLive s i 0 h (sym live ∙ w .0 .taken) (was .2))
-          (λ w. w .1 ∙ count-fail isLive s i 0 h (sym live ∙ w .0 .left) (was .2)) (c .if1 .came),
+      ⊎-elim (omega arith) (omega arith) (c .if1 .came),
+      ⊎-elim (λ w. w .1 ∙ count-pass isLive s i 0 h (cc) (was .2))
+          (λ w. w .1 ∙ count-fail isLive s i 0 h (cc) (was .2)) (c .if1 .came),
       or-below-more 16 s i (turn .loop .seen) h (was .3),
       or-below-more 28 s i (turn .loop .seen) h (was .4),
     )

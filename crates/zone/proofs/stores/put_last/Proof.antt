@@ -8,8 +8,8 @@ use borrow.Author.Needs.{needs}
 use Rattle.zone.specs.Decoding.{chainedIn}
 use Rattle.zone.specs.Stores.{withEntry}
 use Prim.Native.Nat.{ℕ, _+_, _-_}
-use lib.ListN.{getD, set, length-set}
-use Rattle.zone.specs.Stores.{withState, withEntry}
+use lib.ListN.{set, length-set}
+use Rattle.zone.specs.Stores.{withEntry}
 use Rattle.zone.proofs.stores.put_last.Statement.{statement}
 use Rattle.zone.proofs.stores.put_last.Tie as tie
 
@@ -24,7 +24,7 @@ abbrev entry : tie.After-slice-known4 → tie.After-set-entry
 entry c = c .before .before
 
 same-length : tie.Need-same-length
-same-length c = simp length-set (omega (arith, entry c .set-entry .ensures .1))
+same-length c = simp length-set (omega arith)
 
 returns : tie.Need-returns
 returns c =
@@ -32,7 +32,7 @@ returns c =
     let s = state e in
     let w : List ℕ = start s .args .part .now in
     let stated = s .set-state .ensures .0 in
-    ap (λ (l : List ℕ). set l 3 (chainedIn w + 1)) (e .set-entry .ensures .0 ∙ ap (withEntry (chainedIn w) (start s .args .chunk)) stated)
+    cc
 
 pub put-last-spec : {M : Type 1} → statement M
 put-last-spec =
