@@ -1,20 +1,15 @@
 -- Words between the steps of one call: the state need not be valid there, but its segments are those of the state that the call
 -- makes, and its lists fit a header. So the next step may be taken. Assumes nothing.
-use Prim.Native.Nat.{ℕ, _<_}
+use Prim.Native.Nat.{ℕ}
 use mathlib.Core.Path.{_≡_, ap, _∙_}
 use mathlib.Core.Bool.{false}
-use mathlib.Core.List.{List, [], _∷_}
-use native.Mathlib.Omega.{arith}
-use lib.ListN.{length, set}
-use Rattle.model.specs.Numbers.{classCount}
-use Rattle.model.specs.State.{State, listOf}
+use mathlib.Core.List.{List}
+use Rattle.model.specs.State.{State}
 use Rattle.model.specs.Valid.{Valid}
-use Rattle.header.specs.Keys.{keysOf}
-use Rattle.header.specs.Encoding.{Fits, listSlots}
-use Rattle.header.proofs.Kept.{length-keys-set}
+use Rattle.header.specs.Encoding.{Fits}
 use Rattle.metadata.specs.Encoding.{encode}
 use Rattle.metadata.specs.Decoding.{decode}
-use Rattle.metadata.proofs.States.{all-writable, valid-fits}
+use Rattle.metadata.proofs.States.{all-writable}
 use Rattle.steps.specs.Lent.{Encodes}
 use Rattle.steps.specs.Moves.{laid}
 use Rattle.steps.proofs.Lent.{lent-decoded}
@@ -30,13 +25,3 @@ between s t f v e = record {
   fits = record { least = v .least; most = v .most; few = f .few; classes = f .classes; room = f .room; spare-pages = f .spare-pages; list-pages = f .list-pages };
   sound = all-writable false (t .segments) (v .apart) (v .sound);
 }
-
--- A header has room for one more key where a valid state has it: page p on the list of class c, which is empty.
-pub room-for : (s t : State) (c p : ℕ) → Valid t → length (s .lists) ≡ classCount → c < classCount → listOf s c ≡ [] → t .lists ≡ set (s .lists) c (p ∷ []) → length (keysOf (s .lists)) < listSlots
-room-for s t c p v l k none e = omega (
-  arith,
-  valid-fits t v .room,
-  ap (λ ls. length (keysOf ls)) e,
-  ap length none,
-  length-keys-set c (s .lists) (p ∷ []) (omega arith),
-)

@@ -11,7 +11,7 @@ use Rattle.model.specs.declared.Answer.the-variants.{Granted, Refused}
 use Rattle.model.specs.declared.Refusal.the-variants.{NoRoom}
 use Rattle.model.specs.Arena.{Segment, zone}
 use Rattle.model.specs.Zone.{Zone, newZone}
-use Rattle.model.specs.State.{State, listOf, putZone}
+use Rattle.model.specs.State.{State, listOf, arranged, putZone}
 use Rattle.model.specs.Pages.{claim, carve}
 use Rattle.model.specs.Valid.{Valid}
 use Rattle.model.specs.Calls.{Outcome}
@@ -29,11 +29,12 @@ use Rattle.metadata.specs.Decoding.{decode}
 use Rattle.steps.specs.Lent.{Encodes, ZoneHere}
 use Rattle.steps.specs.Moves.{fronted, spared, rezoned, carved}
 use Rattle.steps.proofs.Lent.{lent-decoded}
+use Rattle.steps.proofs.Kept.{had-room}
 use Rattle.allocate.specs.Asked.{Asked}
 use Rattle.allocate.proofs.Found.{front-page, front-nothing, found-run, found-nothing}
 use Rattle.steps.proofs.Zones.{zone-there}
 use Rattle.allocate.proofs.Places.{Free, free}
-use Rattle.allocate.proofs.Between.{follows, between, room-for}
+use Rattle.allocate.proofs.Between.{follows, between}
 
 module _ {w : List ℕ} {n c g : ℕ} (h : Asked w n c g) (empty : frontOf (listOf (decode w) c) ≡ Nothing) where
   abbrev s : State
@@ -54,8 +55,9 @@ module _ {w : List ℕ} {n c g : ℕ} (h : Asked w n c g) (empty : frontOf (list
   -- The new zone at page p goes onto its list, where the segments are now m′ and the empty list is sp.
   module _ (p : ℕ) (m′ : List (Segment Zone)) (sp : List ℕ) (rule : chunkFrom c g s (listOf s c) ≡ opened c s m′ p sp) (s₂ : State) (same : s₂ .lists ≡ s .lists) {w₂ : List ℕ} (k : Encodes w₂ s₂) where
     list-room : length (keysOf (decode w₂ .lists)) < listSlots
-    list-room = subst (λ x. length (keysOf x) < listSlots) (sym (ap (λ x. x .lists) (lent-decoded k) ∙ same))
-        (room-for s (opened c s m′ p sp .after) c p (result-valid (opened c s m′ p sp) rule) (h .good .lent .fits .classes) (h .class) none-open refl)
+    list-room =
+        let ok : Valid (arranged s m′ (set (s .lists) c (p ∷ listOf s c)) sp) = subst (λ l. Valid (arranged s m′ (set (s .lists) c (p ∷ l)) sp)) (sym none-open) (result-valid (opened c s m′ p sp) rule) in
+        subst (λ x. length (keysOf x) < listSlots) (sym (ap (λ x. x .lists) (lent-decoded k) ∙ same)) (had-room s c p m′ sp ok (omega (arith, h .good .lent .fits .classes, h .class)))
 
     list-put : s₂ .segments ≡ m′ → s₂ .spare ≡ sp → {w₃ : List ℕ} → w₃ ≡ encode (fronted c p (decode w₂)) → w₃ ≡ encode (chunkFrom c g s (listOf s c) .after)
     list-put a b e =

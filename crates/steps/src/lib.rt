@@ -1,5 +1,5 @@
-// The steps of which calls are made. Each is lent all the words of a state and no others (`Lent`), passes on the part that it changes, and
-// leaves the words of the state that it makes. The state need not be valid between two steps.
+// The steps of which calls are made. Each is lent all the words of a state and no others (`Lent`) and passes on the part that it reads or
+// changes; one that changes words leaves those of the state that it makes. The state need not be valid between two steps.
 ghost use mathlib.Core.Path.{_≡_};
 ghost use mathlib.Core.Bool.{true, false};
 ghost use mathlib.Core.List.{[], _∷_};

@@ -17,9 +17,6 @@ find-run c = c .before .before
 abbrev at : tie.After-take-zone → tie.After-at
 at c = c .before .before .before
 
-find-run-requires : tie.Need-find-run-requires
-find-run-requires c κs = let g = c .before .before .pre .0 .good in (g .lent, g .pages)
-
 returns : tie.Need-returns
 returns c =
     let f = c .before .before in
@@ -74,7 +71,7 @@ pub open-zone-spec : {M : Type 1} → statement M
 open-zone-spec =
     tie.close
     (tie.spec
-    find-run-requires
+    (λ c κs. search needs)
     (search needs)
     (search needs)
     (search needs)

@@ -14,19 +14,11 @@ list-first c = c .before .before
 abbrev enum-told-before-spare-first : tie.After-spare-first → tie.After-enum-told
 enum-told-before-spare-first c = c .before .before
 
-list-first-requires : tie.Need-list-first-requires
-list-first-requires c κs = (c .before .before .pre .good .lent, c .before .before .pre .class)
-
 serve-requires : tie.Need-serve-requires
 serve-requires c κs =
     let l = c .before .before .before .before in
     let s = start l in
     (s .pre, sym (l .list-first .ensures) ∙ c .before .before .page .given .1)
-
-spare-first-requires : tie.Need-spare-first-requires
-spare-first-requires c κs =
-    let s = start (list-first (c .before)) in
-    s .pre .good .lent
 
 renew-requires : tie.Need-renew-requires
 renew-requires c κs =
@@ -48,13 +40,13 @@ pub supply-chunk-spec : {M : Type 1} → statement M
 supply-chunk-spec =
     tie.close
     (tie.spec
-    list-first-requires
+    (λ c κs. search needs)
     (search needs)
     serve-requires
     (search needs)
     (λ c. search needs)
     (search needs)
-    spare-first-requires
+    (λ c κs. search needs)
     (search needs)
     renew-requires
     (search needs)
