@@ -1,6 +1,6 @@
 -- Serving a fragment turn by turn: what is served so far, and that the replies gathered have room. Assumes nothing.
 use Prim.Native.Nat.{ℕ, _+_, _-_, _≤_}
-use mathlib.Core.Path.{_≡_, refl, sym, ap, _∙_}
+use mathlib.Core.Path.{_≡_, refl, ap, _∙_}
 use mathlib.Core.Bool.{Bool, false}
 use mathlib.Core.List.{List, [], _++_}
 use native.Mathlib.Omega.{arith}
@@ -22,15 +22,15 @@ module _ {reply m : List ℕ} {r : ℕ} where
   pub front-holds : (o : List ℕ) (n : ℕ) → n ≤ length o → 64 ≤ n → Replied (take n o) reply r m → r ≤ length (m ++ drop n o)
   front-holds o n h k p =
       let long : length (take n o) ≡ n = length-take-le n o h in
-      omega (arith, long, p .fits (omega arith), ap length (p .buffer), length-sets (take n o) 0 reply, length-append m (drop n o))
+      omega (arith, p .fits (omega arith), ap length (p .buffer), length-sets (take n o) 0 reply, length-append m (drop n o))
 
   -- In n bytes behind those used.
   module _ (o : List ℕ) (used end n : ℕ) (room : used + n ≤ length o) (is : end ≡ used + n) (k : 64 ≤ n) (p : Replied (take (end - used) (drop used o)) reply r m) where
     part-long : length (take (end - used) (drop used o)) ≡ n
-    part-long = length-take-le (end - used) (drop used o) (omega (arith, length-drop used o)) ∙ omega arith
+    part-long = length-take-le (end - used) _ (omega (arith, length-drop used o)) ∙ omega arith
 
     put-long : length m ≡ n
-    put-long = ap length (p .buffer) ∙ length-sets (take (end - used) (drop used o)) 0 reply ∙ part-long
+    put-long = ap length (p .buffer) ∙ length-sets _ 0 reply ∙ part-long
 
     pub part-keeps : length (take used o ++ (m ++ drop (end - used) (drop used o))) ≡ length o
     part-keeps =
@@ -64,8 +64,8 @@ module _ {w₀ s o₀ : List ℕ} {r₀ : Reader} {w o : List ℕ} {r : Reader} 
   serving-turn {v} {u} {t} y e f = record {
     sound = y .sound;
     within = y .within (h .within);
-    after = sym (turn-held y) ∙ h .after;
-    words = sym (turn-words y) ∙ h .words;
+    after = cc (turn-held y);
+    words = cc (turn-words y);
     wordsLong = e ∙ h .wordsLong;
     bufferLong = f ∙ h .bufferLong;
   }
@@ -77,8 +77,8 @@ module _ {w₀ s o₀ : List ℕ} {r₀ : Reader} {w o : List ℕ} {r : Reader} 
       let end : drop at s ≡ [] = drop-of-length-le s {i = at} e in
       record {
         sound = h .sound;
-        after = λ _. ap (heldAfter (held r)) (sym end) ∙ h .after;
-        words = λ _. ap (λ l. wordsAfterAll w (linesBy (held r) l)) (sym end) ∙ h .words;
+        after = λ _. cc;
+        words = λ _. cc;
       }
 
 pub serving-failed : {k : Held} {w s v : List ℕ} {r : Reader} → Sound r → ServedAll k w s (record { reader = r; written = false }) v

@@ -22,4 +22,4 @@ listing-answered w h s e = ap isRefused (slab.listing-answered w s e 207 (longes
 
 -- Nor is one after any lines.
 pub session-answered : (w : List ℕ) → length w ≤ 13504 → (ls : List Line) (s : State) → stateOf (wordsAfterAll w ls) ≡ some s → isRefused (answerOf (wordsAfterAll w ls) (act (listing 207))) ≡ false
-session-answered w h ls s e = listing-answered (wordsAfterAll w ls) (omega (arith, words-long w ls)) s e
+session-answered w h ls s e = listing-answered _ (omega (arith, words-long w ls)) s e

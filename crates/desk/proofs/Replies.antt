@@ -35,14 +35,14 @@ use Rattle.desk.specs.Replies.{listingOf, replyTo, wordsAfter, Replied}
 -- A line that was written is the reply.
 pub replied-line : {b text reply : List ℕ} {r : ℕ} {m : List ℕ} → reply ≡ text → Wrote b 0 text r m → r ≤ 64 → Replied b reply r m
 replied-line {b} {text} {reply} {r} {m} e w h = record {
-  bytes = let n : length reply ≡ length text = ap length e in omega (arith, w .next);
-  buffer = w .bytes ∙ ap (sets b 0) (sym e);
-  fits = λ k. omega arith;
+  bytes = let n : length reply ≡ length text = ap length e in omega arith;
+  buffer = cc;
+  fits = omega arith;
 }
 
 pub bad-short : {b : List ℕ} {r : ℕ} {m : List ℕ} → Wrote b 0 badText r m → r ≤ 64
 unfolding badText ascii
-bad-short s = omega (arith, s .next)
+bad-short s = omega arith
 
 -- Which count an answer has.
 counted : Answer → ℕ
@@ -84,8 +84,8 @@ module _ (w b : List ℕ) (l : Line) where
 
   pub served-call : (c : Command) {q : Line} {a : Answer} {r : ℕ} {v m : List ℕ} → l ≡ q → Performs w (length b) q c → (a ≡ answerOf w c) × (v ≡ metaAfter w c) → Wrote b 0 (answerText a) r m × (r ≤ 0 + 64) → ServedBy r v m
   served-call c {q} {a} {r} {v} {m} e p h s =
-      let short : r ≤ 64 = omega (arith, s .1) in
-      (h .1 ∙ sym (p .1) ∙ ap (wordsAfter w) (sym e), replied-line (ap (replyTo w (length b)) e ∙ p .0 ∙ ap answerText (sym (h .0))) (s .0) short)
+      let short : r ≤ 64 = omega arith in
+      (cc, replied-line (cc) (s .0) short)
 
   pub served-bad : {r : ℕ} {m : List ℕ} → l ≡ Bad → Wrote b 0 badText r m → ServedBy r w m
   unfolding replyTo wordsAfter
@@ -94,7 +94,7 @@ module _ (w b : List ℕ) (l : Line) where
   pub served-listing : {r : ℕ} {v m : List ℕ} → l ≡ Listing → (v ≡ w) × Replied b (replyTo w (length b) Listing) r m → ServedBy r v m
   unfolding wordsAfter
   served-listing {r} {v} {m} e h =
-      (h .0 ∙ sym (listing-unchanged w 0) ∙ ap (wordsAfter w) (sym e), subst (λ q. Replied b (replyTo w (length b) q) r m) (sym e) (h .1))
+      (cc (listing-unchanged w 0), rw e (h .1))
 
 -- ---- the listing
 
@@ -128,8 +128,8 @@ module _ (w b : List ℕ) {a : Answer} {v : List ℕ} (h : (a ≡ answerOf w (ac
   listing-counted {k} {r} e q = go called-listed
     where
       go : {t : List ℕ} → Listed b a v t → Replied b t r v
-      go (whole fits told put) = record { bytes = q ∙ count-same (sym e ∙ told); buffer = put; fits = λ _. omega (arith, q, count-same (sym e ∙ told)) }
-      go (refused is kept said) = true-false is (ap (λ x. isRefused x) e)
+      go (whole fits told put) = record { bytes = q ∙ count-same (sym e ∙ told); buffer = put; fits = λ _. omega (arith, count-same (sym e ∙ told)) }
+      go (refused is kept said) = true-false is (cc)
 
   -- It counted none: the refusal's line was written.
   pub listing-refused : {r : ℕ} {m : List ℕ} → ((k : ℕ) → a ≡ Counted k → ⊥) → Wrote v 0 (answerText a) r m × (r ≤ 0 + 64) → Replied b (replyTo w (length b) Listing) r m
@@ -138,5 +138,5 @@ module _ (w b : List ℕ) {a : Answer} {v : List ℕ} (h : (a ≡ answerOf w (ac
       go : {t : List ℕ} → Listed b a v t → Replied b t r m
       go {t} (whole fits told put) = absurd (not (length t) told)
       go (refused is kept said) =
-          let short : r ≤ 64 = omega (arith, s .1) in
-          replied-line said (subst (λ u. Wrote u 0 (answerText a) r m) kept (s .0)) short
+          let short : r ≤ 64 = omega arith in
+          replied-line said (rw kept at (s .0)) short

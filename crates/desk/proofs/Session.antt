@@ -1,7 +1,7 @@
 -- One whole session: however the input is cut into fragments, and these into turns, the replies are those to the lines of the whole
 -- input, one after another. Assumes nothing.
 use Prim.Native.Nat.{ℕ}
-use mathlib.Core.Path.{_≡_, refl, sym, ap, _∙_}
+use mathlib.Core.Path.{_≡_, refl, ap, _∙_}
 use mathlib.Core.List.{List, [], _∷_, _++_}
 use mathlib.Core.Option.{Option, none, some}
 use native.Mathlib.Omega.{arith}
@@ -30,7 +30,7 @@ line-long w (some c) = length-unchanged w c
 pub words-long : (w : List ℕ) (ls : List Line) → length (wordsAfterAll w ls) ≡ length w
 unfolding wordsAfterAll wordsAfter
 words-long w [] = refl
-words-long w (l ∷ ls) = words-long (wordsAfter w l) ls ∙ line-long w (commandOf 0 l)
+words-long w (l ∷ ls) = words-long _ ls ∙ line-long w (commandOf 0 l)
 
 -- ---- fragments
 
@@ -64,21 +64,21 @@ module _ {k : Held} {w s : List ℕ} {from : ℕ} {b : List ℕ} {t : Turn} {v m
   unfolding fed outputOf wordsAfterAll replyGot wordsGot linesBy heldAfter
   turned More e =
       let f = fed-more turn-fed e in
-      let end : drop (t .next) s ≡ [] = ap (λ i. drop i s) (f .2) ∙ sym (drop-drop (length (drop from s)) from s) ∙ drop-of-length-le (drop from s) {i = length (drop from s)} (omega arith) in
-      let same : linesBy k (drop from s) ≡ linesBy (held (t .reader)) (drop (t .next) s) = f .0 ∙ ap (linesBy (held (t .reader))) (sym end) in
-      (ap (outputOf w (length b)) same, ap (wordsAfterAll w) same, f .1 ∙ ap (heldAfter (held (t .reader))) (sym end))
+      let end : drop (t .next) s ≡ [] = cc (drop-drop (length (drop from s)) from s, drop-of-length-le (drop from s) {i = length (drop from s)} (omega arith)) in
+      let same : linesBy k (drop from s) ≡ linesBy (held (t .reader)) (drop (t .next) s) = cc in
+      (ap (outputOf w (length b)) same, ap (wordsAfterAll w) same, cc)
   turned (Whole l) e =
       let f = fed-whole turn-fed e in
-      let all : linesBy k (drop from s) ≡ l ∷ linesBy (held (t .reader)) (drop (t .next) s) = f .1 ∙ ap (λ q. l ∷ linesBy q (drop (t .next) s)) (sym (f .0)) in
-      (ap (outputOf w (length b)) all, ap (wordsAfterAll w) all, f .2 ∙ ap (λ q. heldAfter q (drop (t .next) s)) (sym (f .0)))
+      let all : linesBy k (drop from s) ≡ l ∷ linesBy (held (t .reader)) (drop (t .next) s) = cc in
+      (ap (outputOf w (length b)) all, ap (wordsAfterAll w) all, cc)
 
   pub turn-output : outputOf w (length b) (linesBy k (drop from s)) ≡ replyGot w (length b) ((stepFrom from k (drop from s)) .got) ++ outputOf v (length b) (linesBy (held (t .reader)) (drop (t .next) s))
   unfolding step
-  turn-output = turned (step .got) refl .0 ∙ ap (λ u. replyGot w (length b) (step .got) ++ outputOf u (length b) (linesBy (held (t .reader)) (drop (t .next) s))) (sym (h .words))
+  turn-output = cc (turned (step .got) refl .0)
 
   pub turn-words : wordsAfterAll w (linesBy k (drop from s)) ≡ wordsAfterAll v (linesBy (held (t .reader)) (drop (t .next) s))
   unfolding step
-  turn-words = turned (step .got) refl .1 ∙ ap (λ u. wordsAfterAll u (linesBy (held (t .reader)) (drop (t .next) s))) (sym (h .words))
+  turn-words = cc (turned (step .got) refl .1)
 
   pub turn-held : heldAfter k (drop from s) ≡ heldAfter (held (t .reader)) (drop (t .next) s)
   turn-held = turned (step .got) refl .2

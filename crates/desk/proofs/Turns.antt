@@ -1,6 +1,6 @@
 -- A turn is the reader's step, and the line that it brought is served. Assumes nothing.
 use Prim.Native.Nat.{ℕ}
-use mathlib.Core.Path.{_≡_, refl, sym, ap, _∙_, subst}
+use mathlib.Core.Path.{_≡_, refl}
 use mathlib.Core.List.{List}
 use native.Mathlib.Omega.{arith}
 use lib.ListN.{length, drop}
@@ -8,7 +8,7 @@ use Rattle.uplink.specs.declared.Line.{Line}
 use Rattle.uplink.specs.declared.Got.{Got}
 use Rattle.uplink.specs.declared.Got.the-variants.{Whole, More}
 use Rattle.uplink.specs.declared.Fed.{Fed}
-use Rattle.uplink.specs.Fragments.{Held, Step, stepFrom, stepOf, FedBy}
+use Rattle.uplink.specs.Fragments.{Held, stepFrom, stepOf, FedBy}
 use Rattle.desk.specs.Replies.{replyTo, wordsAfter, Replied, replyGot, wordsGot, TurnBy}
 
 -- A line or none, and what follows.
@@ -17,26 +17,26 @@ Followed w b g r v m = (v ≡ wordsGot w g) × Replied b (replyGot w (length b) 
 
 pub followed-line : (w b : List ℕ) {g : Got} {l : Line} {r : ℕ} {v m : List ℕ} → g ≡ Whole l → (v ≡ wordsAfter w l) × Replied b (replyTo w (length b) l) r m → Followed w b g r v m
 unfolding wordsGot replyGot
-followed-line w b {g} {l} {r} {v} {m} e h = subst (λ x. Followed w b x r v m) (sym e) h
+followed-line w b {g} {l} {r} {v} {m} e h = rw e h
 
 pub followed-none : (w b : List ℕ) {g : Got} → g ≡ More → Followed w b g 0 w b
 unfolding wordsGot replyGot
-followed-none w b {g} e = subst (λ x. Followed w b x 0 w b) (sym e) (refl, record { bytes = refl; buffer = refl; fits = λ _. omega arith })
+followed-none w b {g} e = rw e (refl, record { bytes = refl; buffer = refl; fits = λ _. omega arith })
 
 -- The code's turn.
 module _ {k : Held} {s : List ℕ} {from : ℕ} {f : Fed} (h : FedBy k s from f) where
   step-got : f .got ≡ (stepFrom from k (drop from s)) .got
   unfolding stepOf
-  step-got = ap (λ (x : Step). x .got) (h .step)
+  step-got = cc
 
   pub turn-by : (w b : List ℕ) {r : ℕ} {v m : List ℕ} → Followed w b (f .got) r v m → TurnBy k w s from b (record { reader = f .reader; next = f .next; len = r }) v m
   unfolding stepOf
   turn-by w b {r} {v} {m} p = record {
     sound = h .sound;
-    after = ap (λ (x : Step). x .after) (h .step);
-    next = ap (λ (x : Step). x .next) (h .step);
+    after = cc;
+    next = cc;
     within = h .within;
     onward = h .onward;
-    words = p .0 ∙ ap (wordsGot w) step-got;
-    reply = subst (λ g. Replied b (replyGot w (length b) g) r m) step-got (p .1);
+    words = cc;
+    reply = rw step-got at (p .1);
   }

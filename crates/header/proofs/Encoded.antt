@@ -9,8 +9,8 @@ use Rattle.lemmas.specs.Zeros.{zeros}
 use Rattle.lemmas.proofs.Parts.{mid-at, put-at}
 use Rattle.lemmas.proofs.Zeros.{length-zeros}
 use Rattle.model.specs.Numbers.{headerWords}
-use Rattle.header.specs.Keys.{keysOf, listsOf}
-use Rattle.header.specs.Slots.{slots, entriesIn}
+use Rattle.header.specs.Keys.{keysOf}
+use Rattle.header.specs.Slots.{slots}
 use Rattle.header.specs.Encoding.{magic, headerEncoding, Fits, pagesIn, spareIn, listsIn, spareSlots, listSlots, restWords, atSpare, atLists, atRest}
 use Rattle.header.proofs.Keys.{lists-keys}
 use Rattle.header.proofs.Entries.{length-slots, entries-slots}

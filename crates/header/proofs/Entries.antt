@@ -1,17 +1,17 @@
 -- Laws of a list in slots: read back, tested, counted, with a number more and a number less. Assumes nothing.
 use Prim.Native.Nat.{ℕ, zero, suc, _+_, _≤_, _<_}
 use mathlib.Core.Path.{_≡_, refl, sym, ap, _∙_}
-use mathlib.Core.Bool.{Bool, true, cond, _&&_}
+use mathlib.Core.Bool.{Bool, true, _&&_}
 use mathlib.Core.List.{List, [], _∷_, _++_, append-assoc, List·Memᴰ, List·Memᴰ·head, List·Memᴰ·tail, List·Memᴰ·not-nil}
 use native.Mathlib.Nat.{not-suc-le-zero, le-of-suc-le-suc}
 use native.Mathlib.Omega.{arith}
 use lib.Dec.{ltb, leb}
 use lib.ListN.{length}
 use borrow.Author.Tests.{ltb-true, leb-true, lt-ltb, le-ltb, le-leb, lt-leb}
-use Rattle.lemmas.specs.Every.{every, count}
+use Rattle.lemmas.specs.Every.{count}
 use Rattle.lemmas.specs.Keep.{keep}
 use Rattle.lemmas.specs.Times.{times, remove}
-use Rattle.lemmas.specs.Zeros.{zeros, isZero}
+use Rattle.lemmas.specs.Zeros.{zeros}
 use Rattle.lemmas.proofs.Cases.{by-ltb, by-leb, and-left, and-right, by-eq}
 use Rattle.lemmas.proofs.Zeros.{every-zeros, zeros-every}
 use Rattle.lemmas.proofs.Times.{times-here, times-there}

@@ -16,7 +16,7 @@ use Rattle.lemmas.proofs.Parts.{length-mid, getD-mid}
 use Rattle.lemmas.proofs.Zeros.{zeros-add, getD-zeros}
 use Rattle.model.specs.Numbers.{classCount, mostPages, headerWords}
 use Rattle.header.specs.declared.Front.the-variants.{Page, Nothing}
-use Rattle.header.specs.Keys.{key, classIn, keysFrom, keysOf, belowClass, putAt, placeOf, keyLimit}
+use Rattle.header.specs.Keys.{key, classIn, keysFrom, keysOf, putAt, placeOf, keyLimit}
 use Rattle.header.specs.Slots.{slots, holds, shiftedIn, closedUp}
 use Rattle.header.specs.Encoding.{magic, headerEncoding, Encodes, spareSlots, listSlots, restWords, atSpare, atLists, atRest}
 use Rattle.header.specs.Front.{frontOf}

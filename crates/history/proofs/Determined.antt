@@ -10,7 +10,6 @@ use lib.ListN.{length, getD}
 use lib.Seq.{ext-getD}
 use borrow.Author.Tests.{ltb-false, lt-ltb, le-ltb}
 use Rattle.lemmas.proofs.Cases.{bool, clash, none-some}
-use Rattle.model.specs.Numbers.{zonePages}
 use Rattle.model.specs.Sizes.{room, chunks}
 use Rattle.model.specs.Arena.{Segment, run, direct, zone, pages, bytes, total, Each}
 use Rattle.model.specs.PageMap.{Occupancy, PageMap, allZero, idle, Block, whole, chunk, chunkOf, blockIn, blockThere, blockAt}

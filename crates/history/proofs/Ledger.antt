@@ -21,8 +21,7 @@ use Rattle.model.specs.PageMap.{occupancy, PageMap, pageMap, idle, idleZone, Bl
 use Rattle.model.specs.Valid.{Valid}
 use Rattle.model.specs.Pages.{joined}
 use Rattle.model.specs.Calls.{Action, group, trim, query, listing, Outcome, grantOf, groupOk}
-use Rattle.model.specs.Allocate.{allocate}
-use Rattle.model.specs.Free.{freed, freeBlock, free, reset}
+use Rattle.model.specs.Free.{freeBlock, free, reset}
 use Rattle.model.specs.Trim.{trimmed}
 use Rattle.model.specs.Listing.{listingText}
 use Rattle.model.specs.Perform.{asked, serve}

@@ -1,7 +1,7 @@
 -- Trimmed page maps: in them a row of clear pages lies in one free run, and requests of whole pages and returns of direct blocks
 -- keep them so. Assumes nothing.
 use Prim.Native.Nat.{ℕ, zero, suc, _+_, _-_, _*_, _≤_, _<_}
-use mathlib.Core.Path.{_≡_, refl, sym, _∙_, ap, subst}
+use mathlib.Core.Path.{_≡_, refl, sym, _∙_, ap}
 use mathlib.Core.List.{[], _∷_, _++_, List·Memᴰ·head, List·Memᴰ·tail}
 use mathlib.Core.Option.{some}
 use mathlib.Core.Bool.{Bool, true, false}
@@ -9,7 +9,6 @@ use native.Mathlib.Omega.{arith}
 use lib.Dec.{ltb, leb}
 use borrow.Author.Tests.{leb-true, leb-false, ltb-true, ltb-false, lt-ltb, le-ltb}
 use Rattle.lemmas.proofs.Cases.{bool, true-false, clash}
-use Rattle.model.specs.Numbers.{zonePages}
 use Rattle.model.specs.Arena.{Segment, run, direct, zone, pages, bytes, total, locate, edit, Each}
 use Rattle.model.specs.PageMap.{Occupancy, PageMap, idle, whole}
 use Rattle.model.specs.Pages.{FreeRun, claim, withRun, joined, freePages, release}

@@ -28,12 +28,12 @@ use Rattle.model.specs.Perform.{asked, serve, Metadata, wordsFor, holding, perf
 use Rattle.model.proofs.Joins.{joined-retold}
 use Rattle.model.proofs.Validity.{fresh-valid, serve-valid, perform-leaves}
 use Rattle.model.proofs.Disjoint.{all-sized}
-use Rattle.history.specs.Ledger.{begins, unlessRefused, effect, applied, Agrees}
-use Rattle.history.specs.Demand.{mapOf, mapAt, History, after, afterAll, begun, NoStart, Allowed, Sequence, answersTo, ExactCall, Exact, Alike, Demand3, LedgerAgrees}
+use Rattle.history.specs.Ledger.{begins, unlessRefused, effect, Agrees}
+use Rattle.history.specs.Demand.{mapAt, History, after, afterAll, begun, NoStart, Allowed, Sequence, answersTo, ExactCall, Exact, Alike, Demand3, LedgerAgrees}
 use Rattle.history.proofs.Answers.{refusal-told, grant-told}
 use Rattle.history.proofs.Determined.{same-trimmed}
 use Rattle.history.proofs.Neat.{Neat, Fit, joined-neat}
-use Rattle.history.proofs.Sequence.{AllowedOn, mapAfter, sayAt, call-map, call-says, allowed-same, call-neat, request-exact}
+use Rattle.history.proofs.Sequence.{AllowedOn, call-map, call-says, allowed-same, call-neat, request-exact}
 use Rattle.history.proofs.Ledger.{Entry, told, find, Single, entries-agree, After, unchanged, after-action}
 use Rattle.history.proofs.Growth.{Grew, grew-none, grew-more, grew-same}
 

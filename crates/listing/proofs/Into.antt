@@ -25,14 +25,14 @@ sets-front t l h = sets-put t l 0 (omega arith)
 -- The text t was measured, and the buffer l has no room for it, or has and it was written.
 module _ {k m : List ℕ} {t : List ℕ} {len : ℕ} (l : List ℕ) (a : Wrote k 0 t len m) where
   room-is : (b : Bool) → leb len (length l) ≡ b → leb (length t) (length l) ≡ b
-  room-is b e = let q : length t ≡ len = omega (arith, a .next) in ap (λ (n : ℕ). leb n (length l)) q ∙ e
+  room-is b e = let q : length t ≡ len = omega arith in cc
 
   pub not-listed : leb len (length l) ≡ false → (Refused ShortBuffer ≡ listAnswer (length l) t) × (l ≡ listedInto l t)
   not-listed e = (rw (room-is false e), rw (room-is false e))
 
   pub listed : {r : ℕ} {u : List ℕ} → Wrote l 0 t r u → leb len (length l) ≡ true → (Counted len ≡ listAnswer (length l) t) × (u ≡ listedInto l t)
   listed b e =
-      let q : len ≡ length t = omega (arith, a .next) in
+      let q : len ≡ length t = omega arith in
       let fits : length t ≤ length l = leb-true (length t) (length l) (room-is true e) in
       (rw (room-is true e) (ap Counted q), rw (room-is true e) (b .bytes ∙ sets-front t l fits))
 

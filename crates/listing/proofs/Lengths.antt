@@ -108,7 +108,7 @@ single-rows p (suc n) =
       runs = i .runs;
       zones = i .zones;
       blocks = ap suc (i .blocks);
-      rows = omega (arith, i .rows, all, line-three p 1 mostGroup, widths .1, widths .2, sum-more pageRow p, ap pageRows e);
+      rows = omega (arith, all, line-three p 1 mostGroup, widths .1, widths .2, sum-more pageRow p, ap pageRows e);
     }
 
 longest-is : (n : ℕ) → longest n ≡ 23 + width n + pageRows n
@@ -117,7 +117,7 @@ longest-is n =
     let i = single-rows 0 n in
     let e : 0 + n ≡ n = omega arith in
     let bare : List (List ℕ) → ℕ = λ l. width (length l) + length (lines l) in
-    omega (arith, text-length (singles n), ap bare (i .runs), ap bare (i .zones), widths .0, ap width (i .blocks), i .rows, ap pageRows e, sum-none pageRow)
+    omega (arith, text-length (singles n), ap bare (i .runs), ap bare (i .zones), widths .0, ap width (i .blocks), ap pageRows e, sum-none pageRow)
 
 -- ---- any segments
 
@@ -156,28 +156,28 @@ all-spent p (run n ∷ r) w =
     omega (
       arith,
       length-append row (lines (runLines (p + n) (shown r))),
-      spent-more p n (total r) (length row + 1) (spent (p + n) (shown r)) (w .0 .0) (run-row p n (w .0 .0)) (all-spent (p + n) r (w .1)),
+      spent-more p n (total r) _ _ (w .0 .0) (run-row p n (w .0 .0)) (all-spent (p + n) r (w .1)),
     )
 all-spent p (direct n g ∷ r) w =
     let row = line (p ∷ n ∷ g ∷ []) in
     omega (
       arith,
       length-append row (lines (directLines (p + n) (shown r))),
-      spent-more p n (total r) (length row) (spent (p + n) (shown r)) (w .0 .0) (direct-row p n g (w .0 .0) (w .0 .1 .2)) (all-spent (p + n) r (w .1)),
+      spent-more p n (total r) _ _ (w .0 .0) (direct-row p n g (w .0 .0) (w .0 .1 .2)) (all-spent (p + n) r (w .1)),
     )
 all-spent p (zone z ∷ r) w =
     let row = line (p ∷ z .class ∷ liveCount (padded (chunks (z .class)) (z .owners)) ∷ []) in
     omega (
       arith,
       length-append row (lines (zoneLines (p + zonePages) (shown r))),
-      spent-more p 8 (total r) (length row + 1) (spent (p + zonePages) (shown r)) (omega arith) (zone-row p z (w .0 .1)) (all-spent (p + zonePages) r (w .1)),
+      spent-more p 8 (total r) _ _ (omega arith) (zone-row p z (w .0 .1)) (all-spent _ r (w .1)),
     )
 
 -- Direct blocks are at most as many as the pages.
 blocks-most : (p : ℕ) (m : List (Segment Zone)) → Each Writable m → length (directLines p (shown m)) ≤ total m
 blocks-most p [] w = omega arith
 blocks-most p (run n ∷ r) w = omega (arith, blocks-most (p + n) r (w .1))
-blocks-most p (direct n g ∷ r) w = omega (arith, w .0 .0, blocks-most (p + n) r (w .1))
+blocks-most p (direct n g ∷ r) w = omega (arith, blocks-most (p + n) r (w .1))
 blocks-most p (zone z ∷ r) w = omega (arith, blocks-most (p + zonePages) r (w .1))
 
 -- No segments have a longer listing than as many blocks of one page as they have pages.
@@ -193,7 +193,7 @@ listing-longest m w =
       sum-none pageRow,
       decimal-tens (length (runLines 0 (shown m))),
       decimal-tens (length (zoneLines 0 (shown m))),
-      decimal-grows (total m) (length (directLines 0 (shown m))) (blocks-most 0 m w),
+      decimal-grows (total m) _ (blocks-most 0 m w),
     )
 
 -- ---- the figures
@@ -210,7 +210,7 @@ longest-figures = (refl, refl)
 -- For the words of segments: the length is a number of 32 bits.
 pub listing-length : {w : List ℕ} {m : List (Segment Zone)} {n : ℕ} → Encodes w m n → length (listingText (shown m)) < 2 ^ 32
 listing-length {w} {m} {n} e =
-    omega (arith, listing-longest m (e .sound), longest-grows (total m) mostPages (omega (arith, e .covers, e .most)), longest-figures .1)
+    omega (arith, listing-longest m (e .sound), longest-grows (total m) mostPages (omega arith), longest-figures .1)
 
 pub listing-bounded : {w : List ℕ} {m : List (Segment Zone)} {n : ℕ} → Encodes w m n → Bounded 0 (listingText (shown m))
 listing-bounded e = omega (arith, listing-length e)

@@ -1,8 +1,8 @@
 -- The bound on a listing's length is met: by the state of direct blocks of one page each, of group 12. Assumes nothing.
 use Prim.Native.Nat.{ℕ, zero, suc, _*_, _≤_, _<_}
-use mathlib.Core.Path.{_≡_, refl, ap}
+use mathlib.Core.Path.{_≡_, refl}
 use mathlib.Core.Bool.{false}
-use mathlib.Core.List.{[], _∷_}
+use mathlib.Core.List.{[]}
 use native.Mathlib.Omega.{arith}
 use lib.ListN.{length, replicate}
 use Rattle.model.specs.Numbers.{mostGroup, classCount, mostPages}
@@ -26,7 +26,7 @@ singles-apart (suc n) = singles-apart n
 
 singles-shown : (n : ℕ) → shown (singles n) ≡ singles n
 singles-shown zero = refl
-singles-shown (suc n) = ap (λ m. direct 1 mostGroup ∷ m) (singles-shown n)
+singles-shown (suc n) = cc (singles-shown n)
 
 singles-each : (P : Segment Zone → Type 0) → P (direct 1 mostGroup) → (n : ℕ) → Each P (singles n)
 singles-each P h zero = tt
@@ -46,9 +46,9 @@ pub longest-met : (n : ℕ) → 0 < n → n ≤ mostPages → (s : State) × Val
 unfolding longest
 longest-met n least most =
     let all = singles-total n in
-    let sound = singles-each ValidSegment (omega arith, omega arith, omega arith) n in (
+    let sound = singles-each ValidSegment (omega arith) n in (
       record { segments = singles n; lists = replicate classCount []; spare = [] },
-      bare-valid (singles n) (omega (arith, all)) (omega (arith, all)) (singles-apart n) sound (singles-bare n),
+      bare-valid (singles n) (omega arith) (omega arith) (singles-apart n) sound (singles-bare n),
       all,
-      ap (λ m. length (listingText m)) (singles-shown n),
+      cc (singles-shown n),
     )

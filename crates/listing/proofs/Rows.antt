@@ -51,7 +51,7 @@ lines-one row = append-nil (line row)
 pub lines-append : (a b : List (List ℕ)) → lines (a ++ b) ≡ lines a ++ lines b
 unfolding lines
 lines-append [] b = refl
-lines-append (row ∷ a) b = ap (λ (t : List ℕ). line row ++ t) (lines-append a b) ∙ sym (append-assoc (line row) (lines a) (lines b))
+lines-append (row ∷ a) b = cc (lines-append a b, append-assoc (line row) (lines a) (lines b))
 
 -- ---- the live chunks of a zone, counted in what the page map shows of it
 
@@ -65,23 +65,23 @@ live-padded (suc n) (suc g ∷ l) h = rw (lt-ltb 0 (suc g) (omega arith)) (omega
 
 pub live-shown : (z : Zone) → ValidZone z → liveChunks z ≡ liveCount (padded (chunks (z .class)) (z .owners))
 unfolding liveChunks
-live-shown z v = live-padded (chunks (z .class)) (z .owners) (v .fits)
+live-shown z v = live-padded _ (z .owners) (v .fits)
 
 -- ---- the rows of each kind
 
 pub run-rows : (p : ℕ) (m : List (Segment Zone)) → rowsOf 1 p m ≡ runLines p (shown m)
 unfolding rowsOf rowsAt
 run-rows p [] = refl
-run-rows p (run n ∷ r) = ap (λ (l : List (List ℕ)). (p ∷ n ∷ []) ∷ l) (run-rows (p + n) r)
+run-rows p (run n ∷ r) = cc (run-rows (p + n) r)
 run-rows p (direct n g ∷ r) = run-rows (p + n) r
-run-rows p (zone z ∷ r) = run-rows (p + zonePages) r
+run-rows p (zone z ∷ r) = run-rows _ r
 
 pub direct-rows : (p : ℕ) (m : List (Segment Zone)) → rowsOf 2 p m ≡ directLines p (shown m)
 unfolding rowsOf rowsAt
 direct-rows p [] = refl
 direct-rows p (run n ∷ r) = direct-rows (p + n) r
-direct-rows p (direct n g ∷ r) = ap (λ (l : List (List ℕ)). (p ∷ n ∷ g ∷ []) ∷ l) (direct-rows (p + n) r)
-direct-rows p (zone z ∷ r) = direct-rows (p + zonePages) r
+direct-rows p (direct n g ∷ r) = cc (direct-rows (p + n) r)
+direct-rows p (zone z ∷ r) = direct-rows _ r
 
 pub zone-rows : (p : ℕ) (m : List (Segment Zone)) → Each Writable m → rowsOf 3 p m ≡ zoneLines p (shown m)
 unfolding rowsOf rowsAt
@@ -101,19 +101,19 @@ unfolding listingText
 listing-sections m h = λ i. runs i ++ (directs i ++ zones i)
   where
     runs : sectionText (ascii "runs") (rowsOf 1 0 m) ≡ section "runs" (runLines 0 (shown m))
-    runs = ap (sectionText (ascii "runs")) (run-rows 0 m) ∙ sym (section-named "runs" (runLines 0 (shown m)))
+    runs = cc (run-rows 0 m, section-named "runs" (runLines 0 (shown m)))
 
     directs : sectionText (ascii "direct") (rowsOf 2 0 m) ≡ section "direct" (directLines 0 (shown m))
-    directs = ap (sectionText (ascii "direct")) (direct-rows 0 m) ∙ sym (section-named "direct" (directLines 0 (shown m)))
+    directs = cc (direct-rows 0 m, section-named "direct" (directLines 0 (shown m)))
 
     zones : sectionText (ascii "zones") (rowsOf 3 0 m) ++ [] ≡ section "zones" (zoneLines 0 (shown m))
-    zones = append-nil (sectionText (ascii "zones") (rowsOf 3 0 m)) ∙ ap (sectionText (ascii "zones")) (zone-rows 0 m h) ∙ sym (section-named "zones" (zoneLines 0 (shown m)))
+    zones = append-nil _ ∙ ap (sectionText (ascii "zones")) (zone-rows 0 m h) ∙ sym (section-named "zones" _)
 
 -- ---- pieces, for those who write them one by one
 
 pub left-section : {l : List ℕ} {at : ℕ} (name : List ℕ) (rows : List (List ℕ)) {n : ℕ} → n ≡ length rows → Left l at (sectionText name rows) at l (named name n ∷ lines rows ∷ [])
 left-section name rows {n} e =
-    left-all (named name n ∷ lines rows ∷ []) (λ i. named name (e i) ++ append-nil (lines rows) i)
+    left-all _ (λ i. named name (e i) ++ append-nil (lines rows) i)
 
 pub left-sections : {l : List ℕ} (m : List (Segment Zone)) → Each Writable m → Left l 0 (listingText (shown m)) 0 l (sections m)
-left-sections m h = left-all (sections m) (listing-sections m h)
+left-sections m h = left-all _ (listing-sections m h)

@@ -1,6 +1,6 @@
 -- The walks over the segments: the one that counts the rows of a kind, and the one that writes them. Assumes nothing.
 use Prim.Native.Nat.{ℕ, _+_, _≤_, _<_}
-use mathlib.Core.Path.{_≡_, refl, sym, ap, _∙_, subst}
+use mathlib.Core.Path.{_≡_, refl, sym, ap, _∙_}
 use mathlib.Core.Bool.{cond}
 use mathlib.Core.List.{List, [], _∷_, _++_, append-assoc, append-nil}
 use native.Mathlib.Omega.{arith}
@@ -42,14 +42,14 @@ module _ {k : ℕ} {w : List ℕ} {n a p : ℕ} (i : Counting k w n a p) where
 
   module _ (h : p < n) (kind : ℕ) (is : kind ≡ kindOf (count-next h .x)) (o : ℕ) (same : o ≡ cond (eqb kind k) 1 0) where
     one : o ≡ length (rowsAt k p (count-next h .x))
-    one = same ∙ ap (λ (j : ℕ). cond (eqb j k) 1 0) is ∙ sym (count-at k p (count-next h .x))
+    one = cc (count-at k p (count-next h .x))
 
     pub count-few : o ≤ 1
-    count-few = omega (arith, same, one-most (eqb kind k))
+    count-few = omega (arith, one-most (eqb kind k))
 
     pub count-more : (len : ℕ) → len ≡ pages (count-next h .x) → Counting k w n (a + o) (p + len)
     unfolding rowsOf
-    count-more len el = subst (λ (y : ℕ). Counting k w n (a + o) (p + y)) (sym el) (record {
+    count-more len el = rw el (record {
       b = runPages (count-next h .x);
       walk = past (i .walk) (count-next h) (a + o) (omega (arith, one, length-append (rowsAt k p (count-next h .x)) (rowsOf k (p + pages (count-next h .x)) (count-next h .rest))));
       few = omega (arith, count-few, i .few, count-next h .read .ok .0);
@@ -80,7 +80,7 @@ module _ {k : ℕ} {w : List ℕ} {n : ℕ} {l : List ℕ} {at j : ℕ} {m : Lis
   write-next h = next (i .walk) h
 
   pub write-length : length m ≡ length l
-  write-length = ap length (i .wrote .bytes) ∙ length-sets l at (i .done)
+  write-length = cc (length-sets l at (i .done))
 
   module _ (h : p < n) where
     -- The rows of the segment at the page, and those behind it.
@@ -92,7 +92,7 @@ module _ {k : ℕ} {w : List ℕ} {n : ℕ} {l : List ℕ} {at j : ℕ} {m : Lis
 
     cut : i .done ++ lines (rowsOf k p (write-next h .x ∷ write-next h .rest)) ≡ (i .done ++ here) ++ behind
     unfolding rowsOf here behind
-    cut = ap (λ (t : List ℕ). i .done ++ t) (lines-append (rowsAt k p (write-next h .x)) (rowsOf k (p + pages (write-next h .x)) (write-next h .rest))) ∙ sym (append-assoc (i .done) here behind)
+    cut = ap (λ t. i .done ++ t) (lines-append _ _) ∙ sym (append-assoc (i .done) here behind)
 
     pub write-bounded : Bounded at (lines (rowsOf k 0 (segmentsOf w))) → Bounded j (lines (rowsAt k p (write-next h .x)))
     unfolding here
@@ -107,7 +107,7 @@ module _ {k : ℕ} {w : List ℕ} {n : ℕ} {l : List ℕ} {at j : ℕ} {m : Lis
 
     pub write-more : {r : ℕ} {m′ : List ℕ} (len : ℕ) → Wrote m j (lines (rowsAt k p (write-next h .x))) r m′ → len ≡ pages (write-next h .x) → Writing k w n l at r m′ (p + len)
     unfolding here behind
-    write-more {r} {m′} len u el = subst (λ (y : ℕ). Writing k w n l at r m′ (p + y)) (sym el) (record {
+    write-more {r} {m′} len u el = rw el (record {
       b = runPages (write-next h .x);
       done = i .done ++ here;
       walk = past (i .walk) (write-next h) (i .done ++ here) cut;

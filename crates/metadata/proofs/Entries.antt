@@ -17,7 +17,7 @@ entries (l ∷ ls) = l ++ entries ls
 keys-entries : (c : ℕ) (ls : List (List ℕ)) → length (keysFrom c ls) ≡ length (entries ls)
 unfolding keysFrom entries
 keys-entries c [] = refl
-keys-entries c (l ∷ ls) = length-append (map (key c) l) (keysFrom (suc c) ls) ∙ (λ i. length-map l (key c) i + keys-entries (suc c) ls i) ∙ sym (length-append l (entries ls))
+keys-entries c (l ∷ ls) = length-append (map (key c) l) _ ∙ (λ i. length-map l (key c) i + keys-entries (suc c) ls i) ∙ sym (length-append l _)
 
 pub length-entries : (ls : List (List ℕ)) → length (keysOf ls) ≡ length (entries ls)
 unfolding keysOf
@@ -36,7 +36,7 @@ on-list (l ∷ ls) p i = go (List·Memᴰ·append-cases l i) (on-list ls p)
 pub list-on : (ls : List (List ℕ)) (c p : ℕ) → List·Memᴰ p (getD ls c []) → List·Memᴰ p (entries ls)
 unfolding entries
 list-on [] c p i = absurd (List·Memᴰ·not-nil i)
-list-on (l ∷ ls) zero p i = Memᴰ·append-left (entries ls) i
+list-on (l ∷ ls) zero p i = Memᴰ·append-left _ i
 list-on (l ∷ ls) (suc c) p i = Memᴰ·append-right l (list-on ls c p i)
 
 -- Lists that hold no entry twice, alone and with each other.
@@ -47,24 +47,24 @@ pub record Single (ls : List (List ℕ)) : Type 0 where
 pub single-entries : (ls : List (List ℕ)) → Single ls → Distinct (entries ls)
 unfolding entries
 single-entries [] s = tt
-single-entries (l ∷ ls) s = distinct-append l (entries ls) (s .once 0)
+single-entries (l ∷ ls) s = distinct-append l _ (s .once 0)
     (single-entries ls (record { once = λ c. s .once (suc c); apart = λ c k p ne i j. s .apart (suc c) (suc k) p (λ e. ne (omega arith)) i j }))
-    (λ p i j. let f = on-list ls p j in s .apart 0 (suc (f .0)) p (λ e. omega arith) i (f .1))
+    (λ p i j. let f = on-list ls p j in s .apart 0 (suc (f .0)) p (omega arith) i (f .1))
 
 pub entries-single : (ls : List (List ℕ)) → Distinct (entries ls) → Single ls
 unfolding entries
 entries-single [] d = record { once = λ c. tt; apart = λ c k p ne i j. List·Memᴰ·not-nil i }
-entries-single (l ∷ ls) d = both (entries-single ls (distinct-right l (entries ls) d))
+entries-single (l ∷ ls) d = both (entries-single ls (distinct-right l _ d))
   where
     both : Single ls → Single (l ∷ ls)
     both rest = record { once = once; apart = apart }
       where
         once : (c : ℕ) → Distinct (getD (l ∷ ls) c [])
-        once zero = distinct-left l (entries ls) d
+        once zero = distinct-left l _ d
         once (suc c) = rest .once c
 
         apart : (c k p : ℕ) → (c ≡ k → ⊥) → List·Memᴰ p (getD (l ∷ ls) c []) → List·Memᴰ p (getD (l ∷ ls) k []) → ⊥
         apart zero zero p ne i j = ne refl
-        apart zero (suc k) p ne i j = distinct-apart l (entries ls) d i (list-on ls k p j)
-        apart (suc c) zero p ne i j = distinct-apart l (entries ls) d j (list-on ls c p i)
+        apart zero (suc k) p ne i j = distinct-apart l _ d i (list-on ls k p j)
+        apart (suc c) zero p ne i j = distinct-apart l _ d j (list-on ls c p i)
         apart (suc c) (suc k) p ne i j = rest .apart c k p (λ e. ne (ap suc e)) i j

@@ -1,8 +1,8 @@
 -- The walk over the segments that tests where zones stand. Assumes nothing.
 use Prim.Native.Nat.{ℕ, _+_, _≤_, _<_}
-use mathlib.Core.Path.{_≡_, sym, ap, _∙_, subst}
+use mathlib.Core.Path.{_≡_, sym, subst}
 use mathlib.Core.List.{List}
-use mathlib.Core.Bool.{Bool, true, false, _&&_}
+use mathlib.Core.Bool.{Bool, true, false}
 use native.Mathlib.Omega.{arith}
 use lib.Dec.{eqb}
 use Rattle.model.specs.Numbers.{mostPages}
@@ -34,17 +34,17 @@ module _ {spare : List ℕ} {lists : List (List ℕ)} {k : ℕ} {w : List ℕ} {
 
     pub fit-no : (h : p < n) → segmentFits spare lists p (fit-next h .x) ≡ false → false ≡ fitFrom spare lists k 0 0 (segmentsOf w)
     unfolding fitFrom
-    fit-no h f = ap (λ t. t && fitFrom spare lists k (a + isOpen (fit-next h .x)) (p + pages (fit-next h .x)) (fit-next h .rest)) (sym f) ∙ at-it (i .walk) (fit-next h)
+    fit-no h f = cc (at-it (i .walk) (fit-next h))
 
     pub fit-more : (h : p < n) → segmentFits spare lists p (fit-next h .x) ≡ true → (o len : ℕ) → o ≡ isOpen (fit-next h .x) → len ≡ pages (fit-next h .x) → Fitting spare lists k w n (a + o) (p + len)
     unfolding fitFrom
-    fit-more h t o len eo el = subst (λ y. Fitting spare lists k w n (a + y) (p + len)) (sym eo) (subst (λ y. Fitting spare lists k w n (a + isOpen (fit-next h .x)) (p + y)) (sym el) more)
+    fit-more h t o len eo el = subst (λ y. Fitting spare lists k w n (a + y) (p + len)) (sym eo) (rw el more)
       where
         more : Fitting spare lists k w n (a + isOpen (fit-next h .x)) (p + pages (fit-next h .x))
         more = record {
           b = runPages (fit-next h .x);
-          walk = past (i .walk) (fit-next h) (a + isOpen (fit-next h .x)) (ap (λ t. t && fitFrom spare lists k (a + isOpen (fit-next h .x)) (p + pages (fit-next h .x)) (fit-next h .rest)) t);
-          few = omega (arith, open-most (fit-next h .x), i .few, fit-next h .read .ok .0);
+          walk = past (i .walk) (fit-next h) _ (cc);
+          few = omega (arith, open-most (fit-next h .x), fit-next h .read .ok .0);
           most = i .most;
         }
 

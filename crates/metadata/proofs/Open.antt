@@ -39,7 +39,7 @@ unfolding openFrom sumOpen putOpen
 length-open p [] = refl
 length-open p (run n ∷ r) = length-open (p + n) r ∙ omega arith
 length-open p (direct n g ∷ r) = length-open (p + n) r ∙ omega arith
-length-open p (zone z ∷ r) = bool (full z) (λ t. rw t (length-open (p + zonePages) r ∙ omega arith)) (λ t. rw t (omega (arith, length-open (p + zonePages) r)))
+length-open p (zone z ∷ r) = bool (full z) (λ t. rw t (length-open _ r ∙ omega arith)) (λ t. rw t (omega (arith, length-open (p + zonePages) r)))
 
 pub few-open : (m : List (Segment Zone)) → sumOpen m * 8 ≤ total m
 unfolding sumOpen
@@ -58,19 +58,19 @@ record OpenZone (m : List (Segment Zone)) (p q : ℕ) : Type 0 where
 past : (x : Segment Zone) (m : List (Segment Zone)) (p q : ℕ) → OpenZone m (p + pages x) q → OpenZone (x ∷ m) p q
 past x m p q o = record {
   here = o .here;
-  at = rw (le-ltb ((q - p) * 4096) (bytes x) (omega (arith, o .behind))) (ap (λ k. locate k m) (let e : (q - p) * 4096 - bytes x ≡ (q - (p + pages x)) * 4096 = omega (arith, o .behind) in e) ∙ o .at);
+  at = rw (le-ltb ((q - p) * 4096) (bytes x) (omega arith)) (ap (λ k. locate k m) (let e : (q - p) * 4096 - bytes x ≡ (q - (p + pages x)) * 4096 = omega arith in e) ∙ o .at);
   not-full = o .not-full;
-  behind = omega (arith, o .behind);
+  behind = omega arith;
 }
 
 open-zone : (p : ℕ) (m : List (Segment Zone)) (q : ℕ) → List·Memᴰ q (openFrom p m) → OpenZone m p q
 unfolding openFrom putOpen
 open-zone p [] q i = absurd (List·Memᴰ·not-nil i)
 open-zone p (run n ∷ r) q i = past (run n) r p q (open-zone (p + n) r q i)
-open-zone p (direct n g ∷ r) q i = past (direct n g) r p q (open-zone (p + n) r q i)
+open-zone p (direct n g ∷ r) q i = past _ r p q (open-zone (p + n) r q i)
 open-zone p (zone z ∷ r) q i = bool (full z)
-    (λ t. past (zone z) r p q (open-zone (p + zonePages) r q (rw t at i)))
-    (λ t. go t (List·Memᴰ·cases-cons (rw t at i)) (open-zone (p + zonePages) r q))
+    (λ t. past (zone z) r p q (open-zone _ r q (rw t at i)))
+    (λ t. go t (List·Memᴰ·cases-cons (rw t at i)) (open-zone _ r q))
   where
     go : full z ≡ false → (q ≡ p) ⊎ List·Memᴰ q (openFrom (p + zonePages) r) → (List·Memᴰ q (openFrom (p + zonePages) r) → OpenZone r (p + zonePages) q) → OpenZone (zone z ∷ r) p q
     go t (inl e) k = record { here = z; at = rw (lt-ltb ((q - p) * 4096) 32768 (omega arith)) (ap (λ a. some (record { away = a; segment = zone z })) (omega arith)); not-full = t; behind = omega arith }
@@ -81,13 +81,13 @@ unfolding openFrom putOpen
 zone-open p [] q z h e f = none-some e
 zone-open p (run n ∷ r) q z h e f = bool (ltb ((q - p) * 4096) (n * 4096))
     (λ t. let u : run n ≡ zone z = same-segment (rw t at e) in clash (cc))
-    (λ t. zone-open (p + n) r q z (omega (arith, ltb-false ((q - p) * 4096) (n * 4096) t)) (ap (λ k. locate k r) (let g : (q - (p + n)) * 4096 ≡ (q - p) * 4096 - n * 4096 = omega (arith, ltb-false ((q - p) * 4096) (n * 4096) t) in g) ∙ rw t at e) f)
+    (λ t. zone-open (p + n) r q z (omega (arith, ltb-false)) (ap (λ k. locate k r) (let g : (q - (p + n)) * 4096 ≡ (q - p) * 4096 - n * 4096 = omega arith in g) ∙ rw t at e) f)
 zone-open p (direct n j ∷ r) q z h e f = bool (ltb ((q - p) * 4096) (n * 4096))
     (λ t. let u : direct n j ≡ zone z = same-segment (rw t at e) in clash (cc))
-    (λ t. zone-open (p + n) r q z (omega (arith, ltb-false ((q - p) * 4096) (n * 4096) t)) (ap (λ k. locate k r) (let g : (q - (p + n)) * 4096 ≡ (q - p) * 4096 - n * 4096 = omega (arith, ltb-false ((q - p) * 4096) (n * 4096) t) in g) ∙ rw t at e) f)
+    (λ t. zone-open (p + n) r q z (omega (arith, ltb-false)) (ap (λ k. locate k r) (let g : (q - (p + n)) * 4096 ≡ (q - p) * 4096 - n * 4096 = omega arith in g) ∙ rw t at e) f)
 zone-open p (zone y ∷ r) q z h e f = bool (ltb ((q - p) * 4096) 32768)
     (λ t. here (some-inj (rw t at e)))
-    (λ t. later (zone-open (p + zonePages) r q z (omega (arith, ltb-false ((q - p) * 4096) 32768 t)) (ap (λ k. locate k r) (let g : (q - (p + zonePages)) * 4096 ≡ (q - p) * 4096 - 32768 = omega (arith, ltb-false ((q - p) * 4096) 32768 t) in g) ∙ rw t at e) f))
+    (λ t. later (zone-open _ r q z (omega (arith, ltb-false)) (ap (λ k. locate k r) (let g : (q - (p + zonePages)) * 4096 ≡ (q - p) * 4096 - 32768 = omega arith in g) ∙ rw t at e) f))
   where
     later : List·Memᴰ q (openFrom (p + zonePages) r) → List·Memᴰ q (putOpen (full y) p (openFrom (p + zonePages) r))
     later i = bool (full y) (λ t. rw t i) (λ t. rw t (List·Memᴰ·tail i))
@@ -107,7 +107,7 @@ unfolding openFrom putOpen
 open-distinct p [] = tt
 open-distinct p (run n ∷ r) = open-distinct (p + n) r
 open-distinct p (direct n g ∷ r) = open-distinct (p + n) r
-open-distinct p (zone z ∷ r) = bool (full z) (λ t. rw t (open-distinct (p + zonePages) r)) (λ t. rw t (λ i. let k = open-above (p + zonePages) r p i in omega arith, open-distinct (p + zonePages) r))
+open-distinct p (zone z ∷ r) = bool (full z) (λ t. rw t (open-distinct _ r)) (λ t. rw t (λ i. let k = open-above _ r p i in omega arith, open-distinct _ r))
 
 -- Of the whole arena.
 abbrev pub openPages : List (Segment Zone) → List ℕ

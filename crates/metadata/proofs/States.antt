@@ -1,14 +1,14 @@
 -- The test of any words is exact: it holds just if they begin with the encoding of a valid state, and that state is the one decoded.
 -- Assumes nothing.
 use Prim.Native.Nat.{ℕ, zero, suc, _+_, _-_, _*_, _≤_, _<_}
-use mathlib.Core.Path.{_≡_, refl, sym, ap, _∙_, subst}
+use mathlib.Core.Path.{_≡_, refl, sym, ap, _∙_}
 use mathlib.Core.Logic.{_↔_}
 use mathlib.Core.List.{List, [], _∷_, _++_}
 use mathlib.Core.Option.{none, some}
 use mathlib.Core.Bool.{Bool, true, false, _&&_}
 use native.Mathlib.Omega.{arith}
 use lib.Dec.{ltb, leb}
-use lib.ListN.{length, getD, take, drop, length-append, length-take}
+use lib.ListN.{length, getD, take, length-append, length-take}
 use lib.Seq.{getD-take, take-add, take-take, take-at, drop-at, take-all, length-take-le}
 use borrow.Author.Tests.{leb-true, leb-false, le-leb, ltb-true, ltb-false}
 use Rattle.lemmas.specs.Parts.{mid}
@@ -54,7 +54,7 @@ idle-not-full z v t = bool (leb (chunks (z .class)) (touched z))
     go (i ∷ r) e u = refl
     go [] e u = absurd (
         let many = chunks-least (z .class) (v .class) in
-        let handed : 0 < touched z = omega (arith, leb-true (chunks (z .class)) (touched z) u) in
+        let handed : 0 < touched z = omega (arith, leb-true) in
         let none-live : getD (z .owners) 0 0 ≡ 0 = sym (padded-in (chunks (z .class)) (z .owners) 0 (omega arith)) ∙ allZero-getD (padded (chunks (z .class)) (z .owners)) t 0 in
         omega (arith, v .chained 0, ap (times 0) e, times-nil 0, returned (z .owners) handed none-live))
       where
@@ -76,7 +76,7 @@ all-writable b (zone z ∷ r) a h = ((omega arith, h .0), all-writable false r a
 
 -- A zone begins inside the arena.
 zone-inside : (m : List (Segment Zone)) (p : ℕ) (z : Zone) → ZoneAt m p z → p < total m
-zone-inside m p z e = bool (ltb p (total m)) (λ t. ltb-true p (total m) t) (λ t. none-some (sym (locate-past m (p * 4096) (omega (arith, ltb-false p (total m) t))) ∙ e))
+zone-inside m p z e = bool (ltb p (total m)) (λ t. ltb-true p (total m) t) (λ t. none-some (sym (locate-past m (p * 4096) (omega (arith, ltb-false))) ∙ e))
 
 -- The lists of a valid state.
 lists-of : (s : State) → Valid s → Listed (s .segments) (s .lists) (s .spare)
@@ -91,9 +91,9 @@ valid-fits s v = record {
   most = v .most;
   few = v .few;
   classes = v .classes;
-  room = omega (arith, open-count (s .segments) (s .lists) (s .spare) (idle-open s v) (lists-of s v), few-open (s .segments), v .most);
-  spare-pages = λ p i. let w = v .spared p i in omega (arith, zone-inside (s .segments) p (w .0) (w .1), v .most);
-  list-pages = λ c p i. let w = v .listed c p i in omega (arith, zone-inside (s .segments) p (w .0) (w .1), v .most);
+  room = omega (arith, open-count _ (s .lists) (s .spare) (idle-open s v) (lists-of s v), few-open (s .segments), v .most);
+  spare-pages = λ p i. let w = v .spared p i in omega (arith, zone-inside (s .segments) p (w .0) (w .1));
+  list-pages = λ c p i. let w = v .listed c p i in omega (arith, zone-inside (s .segments) p (w .0) (w .1));
 }
 
 -- Words in two parts ---------------------------------------------------------------------------------------------------------------
@@ -102,17 +102,17 @@ valid-fits s v = record {
 module _ (w h g : List ℕ) (a k : ℕ) (lh : length h ≡ a) (lg : length g ≡ k) where
   begins-long : take (length (h ++ g)) w ≡ h ++ g → a + k ≤ length w
   begins-long e = bool (leb (length (h ++ g)) (length w))
-      (λ t. omega (arith, leb-true (length (h ++ g)) (length w) t, length-append h g))
-      (λ t. absurd (omega (arith, leb-false (length (h ++ g)) (length w) t, ap length (sym (take-all (length (h ++ g)) w (omega (arith, leb-false (length (h ++ g)) (length w) t))) ∙ e))))
+      (λ t. omega (arith, leb-true, length-append h g))
+      (λ t. absurd (omega (arith, leb-false, ap length (sym (take-all (length (h ++ g)) w (omega (arith, leb-false (length (h ++ g)) (length w) t))) ∙ e))))
 
   begins-first : take (length (h ++ g)) w ≡ h ++ g → take a w ≡ h
-  begins-first e = sym (take-take a (length (h ++ g)) w (omega (arith, length-append h g))) ∙ ap (take a) e ∙ take-at h g a lh
+  begins-first e = cc (take-take a (length (h ++ g)) w (omega (arith, length-append h g)), take-at h g a lh)
 
   begins-second : take (length (h ++ g)) w ≡ h ++ g → mid a k w ≡ g
   begins-second e =
       let both : take a w ++ mid a k w ≡ h ++ g = sym (take-add a k w) ∙ ap (λ j. take j w) (let q : a + k ≡ length (h ++ g) = omega (arith, length-append h g) in q) ∙ e in
-      let front : length (take a w) ≡ a = ap length (begins-first e) ∙ lh in
-      sym (drop-at (take a w) (mid a k w) a front) ∙ ap (drop a) both ∙ drop-at h g a lh
+      let front : length (take a w) ≡ a = cc (begins-first e) in
+      cc (drop-at (take a w) (mid a k w) a front, drop-at h g a lh)
 
   begins-both : take a w ≡ h → mid a k w ≡ g → take (length (h ++ g)) w ≡ h ++ g
   begins-both p q = ap (λ j. take j w) (let r : length (h ++ g) ≡ a + k = omega (arith, length-append h g) in r) ∙ take-add a k w ∙ (λ j. p j ++ q j)
@@ -132,9 +132,9 @@ passed w t =
     let H = isHeader (headerPart w) in
     let L = leb (headerWords + pageWords * pagesIn (headerPart w)) (length w) in
     let S = legalSegments (pagesIn (headerPart w)) (pagesPart w) in
-    let a = and-left (H && L && S) (listsLegal (decode w)) t in
+    let a = and-left _ _ t in
     let b = and-left (H && L) S a in
-    record { header = and-left H L b; long = leb-true (headerWords + pageWords * pagesIn (headerPart w)) (length w) (and-right H L b); segments = and-right (H && L) S a; lists = and-right (H && L && S) (listsLegal (decode w)) t }
+    record { header = and-left H L b; long = leb-true _ (length w) (and-right H L b); segments = and-right (H && L) S a; lists = and-right (H && L && S) _ t }
 
 pub passes : (w : List ℕ) → Passed w → isState w ≡ true
 unfolding isState
@@ -142,7 +142,7 @@ passes w p =
     let H = isHeader (headerPart w) in
     let L = leb (headerWords + pageWords * pagesIn (headerPart w)) (length w) in
     let S = legalSegments (pagesIn (headerPart w)) (pagesPart w) in
-    and-both (H && L && S) (listsLegal (decode w)) (and-both (H && L) S (and-both H L (p .header) (le-leb (headerWords + pageWords * pagesIn (headerPart w)) (length w) (p .long))) (p .segments)) (p .lists)
+    and-both _ _ (and-both (H && L) S (and-both H L (p .header) (le-leb _ (length w) (p .long))) (p .segments)) (p .lists)
 
 -- What the words hold: the header and the segments.
 pub record Read (w : List ℕ) : Type 0 where
@@ -153,8 +153,8 @@ pub record Read (w : List ℕ) : Type 0 where
 
 read-of : (w : List ℕ) → Passed w → Read w
 read-of w p =
-    let H = check-header (headerPart w) (p .header) in
-    let S = legal-iff (pagesIn (headerPart w)) (pagesPart w) (length-mid headerWords (pageWords * pagesIn (headerPart w)) w (p .long)) (H .fits .most) .0 (p .segments) in
+    let H = check-header _ (p .header) in
+    let S = legal-iff _ _ (length-mid headerWords _ w (p .long)) (H .fits .most) .0 (p .segments) in
     record { header = H; long = p .long; segments = S .0; apart = S .1 }
 
 pub state-read : (w : List ℕ) → isState w ≡ true → Read w
@@ -162,7 +162,7 @@ state-read w t = read-of w (passed w t)
 
 decoded-lists : (w : List ℕ) → listsLegal (decode w) ≡ true → Listed (segmentsOf (pagesPart w)) (listsIn (headerPart w)) (spareIn (headerPart w))
 unfolding listsLegal decode
-decoded-lists w t = lists-told (segmentsOf (pagesPart w)) (listsIn (headerPart w)) (spareIn (headerPart w)) t
+decoded-lists w t = lists-told _ _ _ t
 
 pub state-valid : (w : List ℕ) → isState w ≡ true → Valid (decode w)
 unfolding decode
@@ -171,8 +171,8 @@ state-valid w t =
     let r = read-of w p in
     let l = decoded-lists w (p .lists) in
     record {
-      least = omega (arith, r .segments .covers, r .header .fits .least);
-      most = omega (arith, r .segments .covers, r .header .fits .most);
+      least = omega arith;
+      most = omega arith;
       apart = r .apart;
       sound = all-valid (segmentsOf (pagesPart w)) (r .segments .sound);
       classes = r .header .fits .classes;
@@ -188,7 +188,8 @@ state-valid w t =
 -- The encoding of what is read.
 encoding-read : (w : List ℕ) → Read w → encode (decode w) ≡ headerPart w ++ pagesPart w
 unfolding encode decode
-encoding-read w r = (λ i. headerEncoding (r .segments .covers i) (spareIn (headerPart w)) (listsIn (headerPart w)) ++ segmentsEncoding (segmentsOf (pagesPart w))) ∙ (λ i. sym (r .header .words) i ++ sym (r .segments .words) i)
+encoding-read w r = (λ i. headerEncoding (r .segments .covers i) (spareIn (headerPart w)) (listsIn (headerPart w)) ++ segmentsEncoding (segmentsOf (pagesPart w))) ∙
+    (λ i. sym (r .header .words) i ++ sym (r .segments .words) i)
 
 front-long : (w : List ℕ) (a k : ℕ) → a + k ≤ length w → length (take a w) ≡ a
 front-long w a k h = length-take-le a w (omega arith)
@@ -201,7 +202,8 @@ state-pages w t = state-read w t .segments .covers
 pub state-begins : (w : List ℕ) → isState w ≡ true → BeginsWith w (decode w)
 state-begins w t =
     let r = state-read w t in
-    subst (λ e. take (length e) w ≡ e) (sym (encoding-read w r)) (begins-both w (headerPart w) (pagesPart w) headerWords (pageWords * pagesIn (headerPart w)) (front-long w headerWords (pageWords * pagesIn (headerPart w)) (r .long)) (length-mid headerWords (pageWords * pagesIn (headerPart w)) w (r .long)) refl refl)
+    rw (encoding-read w r) (begins-both w (headerPart w) (pagesPart w) headerWords (pageWords * pagesIn (headerPart w))
+        (front-long w headerWords (pageWords * pagesIn (headerPart w)) (r .long)) (length-mid headerWords (pageWords * pagesIn (headerPart w)) w (r .long)) refl refl)
 
 -- The encoding of a valid state passes, and decodes to it -----------------------------------------------------------------------------
 
@@ -216,7 +218,7 @@ module _ (s : State) (v : Valid s) where
   writable = all-writable false (s .segments) (v .apart) (v .sound)
 
   G-long : length G ≡ pageWords * total (s .segments)
-  G-long = length-segments (s .segments) writable
+  G-long = length-segments _ writable
 
   pub encode-long : length (encode s) ≡ headerWords + pageWords * total (s .segments)
   unfolding encode
@@ -228,7 +230,7 @@ module _ (s : State) (v : Valid s) where
     two = b
 
     header-is : headerPart w ≡ H
-    header-is = begins-first w H G headerWords (pageWords * total (s .segments)) (length-header (total (s .segments)) (s .spare) (s .lists)) G-long two
+    header-is = begins-first w H G headerWords _ (length-header _ (s .spare) (s .lists)) G-long two
 
     header-reads : Encodes (headerPart w) (total (s .segments)) (s .spare) (s .lists)
     header-reads = record { words = header-is; fits = valid-fits s v }
@@ -237,10 +239,10 @@ module _ (s : State) (v : Valid s) where
     count-is = pages-read header-reads
 
     pages-are : pagesPart w ≡ G
-    pages-are = ap (λ n. mid headerWords (pageWords * n) w) count-is ∙ begins-second w H G headerWords (pageWords * total (s .segments)) (length-header (total (s .segments)) (s .spare) (s .lists)) G-long two
+    pages-are = rw count-is (begins-second w H G headerWords (pageWords * total (s .segments)) (length-header (total (s .segments)) (s .spare) (s .lists)) G-long two)
 
     segments-are : segmentsOf (pagesPart w) ≡ s .segments
-    segments-are = ap segmentsOf pages-are ∙ segments-decoded (s .segments) writable
+    segments-are = ap segmentsOf pages-are ∙ segments-decoded _ writable
 
     -- Decoding gives the state back.
     pub begins-decoded : decode w ≡ s
@@ -248,20 +250,20 @@ module _ (s : State) (v : Valid s) where
     begins-decoded = λ i. record { segments = segments-are i; lists = lists-read header-reads i; spare = spare-read header-reads i }
 
     holds-is : Holds (pagesPart w) (pagesIn (headerPart w))
-    holds-is = record { words = pages-are ∙ ap segmentsEncoding (sym segments-are); sound = subst (λ m. Each Writable m) (sym segments-are) writable; covers = ap (λ m. total m) segments-are ∙ sym count-is; most = omega (arith, count-is, v .most) }
+    holds-is = record { words = cc (pages-are, segments-are); sound = rw segments-are writable; covers = cc (segments-are, count-is); most = omega (arith, count-is) }
 
     lists-are : listsLegal s ≡ true
     unfolding listsLegal
-    lists-are = lists-pass (s .segments) (s .lists) (s .spare) (idle-open s v) (lists-of s v)
+    lists-are = lists-pass _ (s .lists) (s .spare) (idle-open s v) (lists-of s v)
 
     pub begins-state : isState w ≡ true
     begins-state =
-        let long : headerWords + pageWords * total (s .segments) ≤ length w = begins-long w H G headerWords (pageWords * total (s .segments)) (length-header (total (s .segments)) (s .spare) (s .lists)) G-long two in
+        let long : headerWords + pageWords * total (s .segments) ≤ length w = begins-long w H G headerWords _ (length-header _ (s .spare) (s .lists)) G-long two in
         passes w (record {
           header = encodes-check header-reads;
           long = omega (arith, count-is);
-          segments = legal-iff (pagesIn (headerPart w)) (pagesPart w) (ap length pages-are ∙ G-long ∙ ap (λ n. pageWords * n) (sym count-is)) (omega (arith, count-is, v .most)) .1 (holds-is, subst (Apart false) (sym segments-are) (v .apart));
-          lists = ap listsLegal begins-decoded ∙ lists-are;
+          segments = legal-iff _ _ (cc (pages-are, G-long, count-is)) (omega (arith, count-is)) .1 (holds-is, rw segments-are (v .apart));
+          lists = rw begins-decoded lists-are;
         })
 
 -- THE theorem of the test.
@@ -270,7 +272,7 @@ state-iff w = (λ t. (decode w, state-valid w t, state-begins w t), λ f. begins
 
 -- Each valid state has exactly one encoding: equal encodings are of equal states.
 pub encode-once : (s t : State) → Valid s → Valid t → encode s ≡ encode t → s ≡ t
-encode-once s t v u e = sym (begins-decoded s v (encode s) (take-all (length (encode s)) (encode s) (omega arith))) ∙ begins-decoded t u (encode s) (subst (λ l. take (length (encode t)) l ≡ encode t) (sym e) (take-all (length (encode t)) (encode t) (omega arith)))
+encode-once s t v u e = sym (begins-decoded s v (encode s) (take-all (length (encode s)) (encode s) (omega arith))) ∙ begins-decoded t u (encode s) (rw e (take-all (length (encode t)) (encode t) (omega arith)))
 
 -- The state of words, by the test.
 pub stateOf-some : (w : List ℕ) (s : State) → Valid s → BeginsWith w s → stateOf w ≡ some s
@@ -286,10 +288,10 @@ stateOf-none w t = rw t
 
 -- Zeros of any length encode none.
 some-zeros : (a n : ℕ) → take a (zeros n) ≡ zeros (length (take a (zeros n)))
-some-zeros a n = is-zeros (length (take a (zeros n))) (take a (zeros n)) refl (λ i l. getD-take a (zeros n) i 0 (omega (arith, length-take a (zeros n))) ∙ getD-zeros n i)
+some-zeros a n = is-zeros _ (take a (zeros n)) refl (λ i l. getD-take a (zeros n) i 0 (omega (arith, length-take a (zeros n))) ∙ getD-zeros n i)
 
 zeros-part : (a n : ℕ) → isHeader (take a (zeros n)) ≡ false
-zeros-part a n = ap isHeader (some-zeros a n) ∙ zeros-no-header (length (take a (zeros n)))
+zeros-part a n = ap isHeader (some-zeros a n) ∙ zeros-no-header _
 
 pub zeros-none : (n : ℕ) → isState (zeros n) ≡ false
-zeros-none n = refuted (isState (zeros n)) (λ t. true-false (passed (zeros n) t .header) (zeros-part headerWords n))
+zeros-none n = refuted _ (λ t. true-false (passed (zeros n) t .header) (zeros-part headerWords n))

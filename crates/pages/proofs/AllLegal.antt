@@ -42,10 +42,10 @@ cons-apart false (zone z) m h = (refl, h)
 
 -- The first word of words that begin with a segment.
 leads-kind : {n : ℕ} {w : List ℕ} {x : Segment Zone} → Leads n w x → eqb (getD w 0 0) 1 ≡ isRun x
-leads-kind {n} {w} {x} l = ap (λ k. eqb k 1) (sym (getD-take (pageWords * pages x) w 0 0 (omega (arith, l .ok .0))) ∙ ap (λ v. getD v 0 0) (l .words ∙ sym (append-nil (segmentEncoding x))) ∙ kind-is x []) ∙ run-kind x
+leads-kind {n} {w} {x} l = cc (getD-take (pageWords * pages x) w 0 0 (omega (arith, l .ok .0)), append-nil (segmentEncoding x), kind-is x [], run-kind x)
 
 long-drop : (n k : ℕ) (w : List ℕ) → Long n w → k ≤ n → Long (n - k) (drop (pageWords * k) w)
-long-drop n k w l h = (omega (arith, l .0, length-drop (pageWords * k) w), omega (arith, l .1))
+long-drop n k w l h = (omega (arith, length-drop (pageWords * k) w), omega arith)
 
 -- Words that pass are those of such segments.
 pub record Legal (n : ℕ) (b : Bool) (w : List ℕ) : Type 0 where
@@ -60,7 +60,7 @@ unfolding legalFrom segmentsEncoding
 legal-told zero n b w h l t = record { segments = []; sound = tt; apart = tt; covers = sym (eqb-true n 0 t); words = ap (λ k. take (pageWords * k) w) (eqb-true n 0 t) }
 legal-told (suc f) n b w h l t = bool (eqb n 0)
     (λ e. record { segments = []; sound = tt; apart = tt; covers = sym (eqb-true n 0 e); words = ap (λ k. take (pageWords * k) w) (eqb-true n 0 e) })
-    (λ e. step (rw e at t) (λ a c u. legal-told f (n - sizeAt n w) a (drop (pageWords * sizeAt n w) w) c u))
+    (λ e. step (rw e at t) (λ a c u. legal-told f _ a _ c u))
   where
     k : ℕ
     k = sizeAt n w
@@ -70,19 +70,19 @@ legal-told (suc f) n b w h l t = bool (eqb n 0)
 
     step : (leb 1 k && not (b && r) && legalFrom f (n - k) r (drop (pageWords * k) w)) ≡ true → ((a : Bool) → n - k ≤ f → Long (n - k) (drop (pageWords * k) w) → legalFrom f (n - k) a (drop (pageWords * k) w) ≡ true → Legal (n - k) a (drop (pageWords * k) w)) → Legal n b w
     step u rec =
-        let first = and-left (leb 1 k && not (b && r)) (legalFrom f (n - k) r (drop (pageWords * k) w)) u in
-        let some = leb-true 1 k (and-left (leb 1 k) (not (b && r)) first) in
+        let first = and-left _ _ u in
+        let some = leb-true 1 k (and-left (leb 1 k) _ first) in
         let X = size-leads n w l some in
         let x = X .0 in
         let q : k ≡ pages x = X .2 in
         let kind : r ≡ isRun x = leads-kind (X .1) in
-        let rest = rec r (omega arith) (long-drop n k w l (omega (arith, X .1 .within))) (and-right (leb 1 k && not (b && r)) (legalFrom f (n - k) r (drop (pageWords * k) w)) u) in
+        let rest = rec r (omega arith) (long-drop n k w l (omega arith)) (and-right (leb 1 k && not (b && r)) _ u) in
         record {
           segments = x ∷ rest .segments;
           sound = (X .1 .ok, rest .sound);
-          apart = apart-cons b x (rest .segments) (X .1 .ok .0) (subst (λ y. not (b && y) ≡ true) kind (and-right (leb 1 k) (not (b && r)) first)) (subst (λ y. Apart y (rest .segments)) kind (rest .apart));
-          covers = omega (arith, rest .covers, q, X .1 .within);
-          words = ap (λ i. take i w) (let z : pageWords * n ≡ pageWords * k + pageWords * (n - k) = omega (arith, q, X .1 .within) in z) ∙ take-add (pageWords * k) (pageWords * (n - k)) w ∙ (λ i. (ap (λ j. take (pageWords * j) w) q ∙ X .1 .words) i ++ rest .words i);
+          apart = apart-cons b x (rest .segments) (X .1 .ok .0) (rw kind at (and-right (leb 1 k) (not (b && r)) first)) (subst (λ y. Apart y (rest .segments)) kind (rest .apart));
+          covers = omega arith;
+          words = ap (λ i. take i w) (let z : pageWords * n ≡ pageWords * k + pageWords * (n - k) = omega arith in z) ∙ take-add (pageWords * k) _ w ∙ (λ i. (ap (λ j. take (pageWords * j) w) q ∙ X .1 .words) i ++ rest .words i);
         }
 
 -- The words of such segments pass.
@@ -91,26 +91,26 @@ unfolding legalFrom segmentsEncoding
 told-legal zero n b w m h l s a c e = eq-eqb n 0 (omega arith)
 told-legal (suc f) n b w [] h l s a c e = rw (eq-eqb n 0 (sym c))
 told-legal (suc f) n b w (x ∷ m) h l s a c e =
-    let front : take (pageWords * pages x) w ≡ segmentEncoding x = sym (take-take (pageWords * pages x) (pageWords * n) w (omega arith)) ∙ ap (take (pageWords * pages x)) e ∙ take-at (segmentEncoding x) (segmentsEncoding m) (pageWords * pages x) (length-segment x (s .0 .0)) in
+    let front : take (pageWords * pages x) w ≡ segmentEncoding x = cc (take-take (pageWords * pages x) (pageWords * n) w (omega arith), take-at (segmentEncoding x) (segmentsEncoding m) (pageWords * pages x) (length-segment x (s .0 .0))) in
     let L : Leads n w x = record { ok = s .0; within = omega arith; words = front } in
     let q : sizeAt n w ≡ pages x = leads-size n w l x L in
     let kind = leads-kind L in
     let ca = cons-apart b x m a in
-    let back : take (pageWords * (n - pages x)) (drop (pageWords * pages x) w) ≡ segmentsEncoding m = tail front (sym (take-add (pageWords * pages x) (pageWords * (n - pages x)) w) ∙ ap (λ i. take i w) (let z : pageWords * pages x + pageWords * (n - pages x) ≡ pageWords * n = omega arith in z) ∙ e) in
-    let rest : legalFrom f (n - pages x) (isRun x) (drop (pageWords * pages x) w) ≡ true = told-legal f (n - pages x) (isRun x) (drop (pageWords * pages x) w) m (omega (arith, s .0 .0)) (long-drop n (pages x) w l (omega arith)) (s .1) (ca .1) (omega arith) back in
-    rw (ne-eqb n 0 (λ z. omega (arith, s .0 .0)), q, kind) (and-both (leb 1 (pages x) && not (b && isRun x)) (legalFrom f (n - pages x) (isRun x) (drop (pageWords * pages x) w)) (and-both (leb 1 (pages x)) (not (b && isRun x)) (le-leb 1 (pages x) (s .0 .0)) (ca .0)) rest)
+    let back : take (pageWords * (n - pages x)) (drop (pageWords * pages x) w) ≡ segmentsEncoding m = tail front (sym (take-add (pageWords * pages x) _ w) ∙ ap (λ i. take i w) (let z : pageWords * pages x + pageWords * (n - pages x) ≡ pageWords * n = omega arith in z) ∙ e) in
+    let rest : legalFrom f (n - pages x) (isRun x) (drop (pageWords * pages x) w) ≡ true = told-legal f _ (isRun x) _ m (omega arith) (long-drop n (pages x) w l (omega arith)) (s .1) (ca .1) (omega arith) back in
+    rw (ne-eqb n 0 (λ z. omega arith), q, kind) (and-both _ _ (and-both _ _ (le-leb 1 (pages x) (s .0 .0)) (ca .0)) rest)
   where
     tail : {u : List ℕ} → take (pageWords * pages x) w ≡ segmentEncoding x → take (pageWords * pages x) w ++ u ≡ segmentEncoding x ++ segmentsEncoding m → u ≡ segmentsEncoding m
     tail {u} p q =
-        let len : length (take (pageWords * pages x) w) ≡ pageWords * pages x = ap length p ∙ length-segment x (s .0 .0) in
-        sym (drop-at (take (pageWords * pages x) w) u (pageWords * pages x) len) ∙ ap (drop (pageWords * pages x)) q ∙ drop-at (segmentEncoding x) (segmentsEncoding m) (pageWords * pages x) (length-segment x (s .0 .0))
+        let len : length (take (pageWords * pages x) w) ≡ pageWords * pages x = cc (length-segment x (s .0 .0)) in
+        cc (drop-at (take (pageWords * pages x) w) u (pageWords * pages x) len, drop-at (segmentEncoding x) (segmentsEncoding m) (pageWords * pages x) (length-segment x (s .0 .0)))
 
 -- The test is exact.
 pub legal-iff : (n : ℕ) (w : List ℕ) → length w ≡ pageWords * n → n ≤ mostPages → (legalSegments n w ≡ true) ↔ (Holds w n × Apart false (segmentsOf w))
 unfolding legalSegments
 legal-iff n w l few = (
   λ t. let L = legal-told n n false w (omega arith) (omega arith, few) t in
-      let E : Encodes w (L .segments) n = record { words = sym (take-all (pageWords * n) w (omega arith)) ∙ L .words; sound = L .sound; covers = L .covers; most = few } in
-      (holds E, subst (Apart false) (sym (decodes-to E)) (L .apart)),
-  λ h. told-legal n n false w (segmentsOf w) (omega arith) (omega arith, few) (h .0 .sound) (h .1) (h .0 .covers) (take-all (pageWords * n) w (omega arith) ∙ h .0 .words),
+      let E : Encodes w (L .segments) n = record { words = cc (take-all (pageWords * n) w (omega arith)); sound = L .sound; covers = L .covers; most = few } in
+      (holds E, rw (decodes-to E) (L .apart)),
+  λ h. told-legal n n false w _ (omega arith) (omega arith, few) (h .0 .sound) (h .1) (h .0 .covers) (take-all (pageWords * n) w (omega arith) ∙ h .0 .words),
 )

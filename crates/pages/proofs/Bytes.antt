@@ -21,7 +21,7 @@ Tells t none s = s ≡ Nowhere
 Tells t (some a) s = (p b : ℕ) × (s ≡ At p (kindOf (a .segment)) (pages (a .segment)) b) × (p * 4096 + a .away ≡ t)
 
 past-bytes : (p k o : ℕ) → k * 4096 ≤ o → (p + k + (o - k * 4096) / 4096 ≡ p + o / 4096) × ((p + k) * 4096 + (o - k * 4096) ≡ p * 4096 + o)
-past-bytes p k o h = (omega arith, omega arith)
+past-bytes p k o h = (omega arith)
 
 byte-from : (m : List (Segment Zone)) (o b p : ℕ) → Tells (p * 4096 + o) (locate o m) (spotFrom (p + o / 4096) b p m)
 unfolding spotFrom
@@ -32,11 +32,11 @@ byte-from (x ∷ r) o b p = bool (ltb o (bytes x))
     let h : pages x * 4096 ≤ o = ltb-false o (bytes x) f in
     rw (f, le-ltb (p + o / 4096) (p + pages x) (omega arith)) (
     subst (λ t. Tells t (locate (o - bytes x) r) (spotFrom (p + o / 4096) (runPages x) (p + pages x) r)) (past-bytes p (pages x) o h .1) (
-    subst (λ q. Tells ((p + pages x) * 4096 + (o - bytes x)) (locate (o - bytes x) r) (spotFrom q (runPages x) (p + pages x) r)) (past-bytes p (pages x) o h .0) (
+    rw (past-bytes p (pages x) o h .0) at (
     byte-from r (o - bytes x) (runPages x) (p + pages x)))))
 
 -- `find_segment`, asked for the page of a byte, answers with the segment that holds the byte.
 pub byte-found : (m : List (Segment Zone)) (o : ℕ) → Tells o (locate o m) (spotFrom (o / 4096) 0 0 m)
 byte-found m o =
     subst (λ t. Tells t (locate o m) (spotFrom (o / 4096) 0 0 m)) (let e : 0 * 4096 + o ≡ o = omega arith in e) (
-    subst (λ q. Tells (0 * 4096 + o) (locate o m) (spotFrom q 0 0 m)) (let e : 0 + o / 4096 ≡ o / 4096 = omega arith in e) (byte-from m o 0 0))
+    rw (let e : 0 + o / 4096 ≡ o / 4096 = omega arith in e) at (byte-from m o 0 0))

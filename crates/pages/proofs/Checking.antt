@@ -28,14 +28,14 @@ check-start w n l f = record { long = l; few = f; within = omega arith; fuel = n
 
 -- The words from page p on, as the code lends them.
 pub lent : (w : List ℕ) (n p : ℕ) → length w ≡ pageWords * n → p ≤ n → take (length w - pageWords * p) (drop (pageWords * p) w) ≡ drop (pageWords * p) w
-lent w n p l h = take-all (length w - pageWords * p) (drop (pageWords * p) w) (omega (arith, length-drop (pageWords * p) w))
+lent w n p l h = take-all (length w - pageWords * p) _ (omega (arith, length-drop (pageWords * p) w))
 
 pub lent-long : (w : List ℕ) (n p : ℕ) → length w ≡ pageWords * n → p ≤ n → length (take (length w - pageWords * p) (drop (pageWords * p) w)) ≡ pageWords * (n - p)
 lent-long w n p l h = ap length (lent w n p l h) ∙ length-drop (pageWords * p) w ∙ omega arith
 
 module _ {w : List ℕ} {n p : ℕ} {b : Bool} (i : Checking w n p b) (h : p < n) (len : ℕ) (size : len ≡ sizeAt (n - p) (drop (pageWords * p) w)) where
   long : Long (n - p) (drop (pageWords * p) w)
-  long = (omega (arith, length-drop (pageWords * p) w, i .long), omega (arith, i .few))
+  long = (omega (arith, length-drop (pageWords * p) w), omega arith)
 
   -- One turn of the test.
   abbrev turn : ℕ → Bool
@@ -47,7 +47,7 @@ module _ {w : List ℕ} {n p : ℕ} {b : Bool} (i : Checking w n p b) (h : p < n
   turned : (f : ℕ) → n - p ≤ f → legalFrom f (n - p) b (drop (pageWords * p) w) ≡ legalSegments n w → (g : ℕ) × (n - p ≤ suc g) × (turn g ≡ legalSegments n w)
   unfolding legalFrom
   turned zero k e = absurd (omega arith)
-  turned (suc g) k e = (g, k, sym (rw (ne-eqb (n - p) 0 (λ z. omega arith), ← size, first-word)) ∙ e)
+  turned (suc g) k e = (g, k, sym (rw (ne-eqb (n - p) 0 (omega arith), ← size, first-word)) ∙ e)
 
   it : (g : ℕ) × (n - p ≤ suc g) × (turn g ≡ legalSegments n w)
   it = turned (i .fuel) (i .enough) (i .same)
@@ -56,13 +56,13 @@ module _ {w : List ℕ} {n p : ℕ} {b : Bool} (i : Checking w n p b) (h : p < n
   check-none e = sym (rw (lt-leb 1 len (omega arith))) ∙ it .2
 
   pub size-within : (len ≡ 0 → ⊥) → len ≤ n - p
-  size-within e = let X = size-leads (n - p) (drop (pageWords * p) w) long (omega (arith, e, size)) in omega (arith, X .2, X .1 .within, size)
+  size-within e = let X = size-leads (n - p) (drop (pageWords * p) w) long (omega arith) in omega arith
 
   pub check-touch : (len ≡ 0 → ⊥) → b ≡ true → getD w (pageWords * p) 0 ≡ kindRun → false ≡ legalSegments n w
-  check-touch e t k = sym (ap (λ y. leb 1 len && not (y && eqb (getD w (pageWords * p) 0) 1) && legalFrom (it .0) (n - p - len) (eqb (getD w (pageWords * p) 0) 1) (drop (pageWords * len) (drop (pageWords * p) w))) t ∙ touching (legalFrom (it .0) (n - p - len) (eqb (getD w (pageWords * p) 0) 1) (drop (pageWords * len) (drop (pageWords * p) w)))) ∙ it .2
+  check-touch e t k = cc (t, touching (legalFrom (it .0) (n - p - len) (eqb (getD w (pageWords * p) 0) 1) (drop (pageWords * len) (drop (pageWords * p) w))), it .2)
     where
       touching : (z : Bool) → (leb 1 len && not (true && eqb (getD w (pageWords * p) 0) 1) && z) ≡ false
-      touching z = rw (eq-eqb (getD w (pageWords * p) 0) 1 k, le-leb 1 len (omega (arith, e)))
+      touching z = rw (eq-eqb _ 1 k, le-leb 1 len (omega arith))
 
   pub check-more : (len ≡ 0 → ⊥) → (b ≡ true → getD w (pageWords * p) 0 ≡ kindRun → ⊥) → (r : Bool) → r ≡ eqb (getD w (pageWords * p) 0) 1 → Checking w n (p + len) r
   check-more e t r q =
@@ -72,15 +72,15 @@ module _ {w : List ℕ} {n p : ℕ} {b : Bool} (i : Checking w n p b) (h : p < n
         few = i .few;
         within = omega arith;
         fuel = it .0;
-        enough = omega (arith, it .1, e);
+        enough = omega (arith, it .1);
         same = (λ j. legalFrom (it .0) (left j) (q j) (words j)) ∙ sym passes ∙ it .2;
       }
     where
       left : n - (p + len) ≡ n - p - len
-      left = omega (arith, size-within e)
+      left = omega arith
 
       words : drop (pageWords * (p + len)) w ≡ drop (pageWords * len) (drop (pageWords * p) w)
-      words = ap (λ k. drop k w) (let z : pageWords * (p + len) ≡ pageWords * p + pageWords * len = omega arith in z) ∙ sym (drop-drop (pageWords * len) (pageWords * p) w)
+      words = ap (λ k. drop k w) (let z : pageWords * (p + len) ≡ pageWords * p + pageWords * len = omega arith in z) ∙ sym (drop-drop _ (pageWords * p) w)
 
       rest : Bool
       rest = legalFrom (it .0) (n - p - len) (eqb (getD w (pageWords * p) 0) 1) (drop (pageWords * len) (drop (pageWords * p) w))
@@ -91,15 +91,15 @@ module _ {w : List ℕ} {n p : ℕ} {b : Bool} (i : Checking w n p b) (h : p < n
       free false c f = refl
 
       passes : (leb 1 len && not (b && eqb (getD w (pageWords * p) 0) 1) && rest) ≡ rest
-      passes = rw (le-leb 1 len (omega (arith, e)), free b (eqb (getD w (pageWords * p) 0) 1) (λ x y. t x (eqb-true (getD w (pageWords * p) 0) 1 y)))
+      passes = rw (le-leb 1 len (omega arith), free b _ (λ x y. t x (eqb-true _ 1 y)))
 
 -- The size as the code has it, of the words that it lends.
 pub sized : {w : List ℕ} {n p len : ℕ} {b : Bool} → Checking w n p b → len ≡ sizeAt (n - p) (take (length w - pageWords * p) (drop (pageWords * p) w)) → len ≡ sizeAt (n - p) (drop (pageWords * p) w)
-sized {w} {n} {p} i e = e ∙ ap (sizeAt (n - p)) (lent w n p (i .long) (i .within))
+sized {w} {n} {p} i e = cc (lent w n p (i .long) (i .within))
 
 pub check-end : {w : List ℕ} {n p : ℕ} {b : Bool} → Checking w n p b → n ≤ p → true ≡ legalSegments n w
 unfolding legalFrom
-check-end {w} {n} {p} {b} i h = sym (over (i .fuel)) ∙ i .same
+check-end {w} {n} {p} {b} i h = cc (over (i .fuel))
   where
     over : (f : ℕ) → legalFrom f (n - p) b (drop (pageWords * p) w) ≡ true
     over zero = eq-eqb (n - p) 0 (omega arith)

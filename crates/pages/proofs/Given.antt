@@ -73,7 +73,7 @@ apart-tail : (b : Bool) (x : Segment Zone) (r : List (Segment Zone)) → Apart b
 apart-tail b x r h = apart-from b (x ∷ []) r h
 
 apart-pos : (b : Bool) (x : Segment Zone) (r : List (Segment Zone)) → Apart b (x ∷ r) → runPages x ≡ 0 → isRun x ≡ false
-apart-pos b (run n) r h e = absurd (omega (arith, h .1))
+apart-pos b (run n) r h e = absurd (omega arith)
 apart-pos b (direct n g) r h e = refl
 apart-pos b (zone z) r h e = refl
 
@@ -82,20 +82,20 @@ ended b [] h = record { rest = []; is = refl; no-run = refl }
 ended b (x ∷ []) h = one (runPages x) refl
   where
     one : (k : ℕ) → runPages x ≡ k → Ended (x ∷ []) (runPages x)
-    one zero e = subst (Ended (x ∷ [])) (sym e) (record { rest = x ∷ []; is = refl; no-run = ends-cons false x [] ∙ apart-pos b x [] h e })
+    one zero e = rw e (record { rest = x ∷ []; is = refl; no-run = ends-cons false x [] ∙ apart-pos b x [] h e })
     one (suc k) e = record { rest = []; is = ended-one x .1 (omega arith); no-run = refl }
-ended b (x ∷ (y ∷ r)) h = more (ended (apart-tail b x (y ∷ r) h .0) (y ∷ r) (apart-tail b x (y ∷ r) h .1))
+ended b (x ∷ (y ∷ r)) h = more (ended _ (y ∷ r) (apart-tail b x (y ∷ r) h .1))
   where
     more : Ended (y ∷ r) (runAtEnd 0 (y ∷ r)) → Ended (x ∷ (y ∷ r)) (runAtEnd 0 (x ∷ (y ∷ r)))
-    more e = record { rest = x ∷ e .rest; is = ap (λ l. x ∷ l) (e .is); no-run = go (e .rest) refl }
+    more e = record { rest = x ∷ e .rest; is = cc; no-run = go (e .rest) refl }
       where
         go : (a : List (Segment Zone)) → e .rest ≡ a → endsRun false (x ∷ e .rest) ≡ false
-        go [] q = ap (λ l. endsRun false (x ∷ l)) q ∙ ends-cons false x [] ∙ alone (runAtEnd 0 (y ∷ r)) (e .is ∙ ap (λ l. l ++ withRun (runAtEnd 0 (y ∷ r)) []) q)
+        go [] q = ap (λ l. endsRun false (x ∷ l)) q ∙ ends-cons false x [] ∙ alone (runAtEnd 0 (y ∷ r)) (cc)
           where
             alone : (k : ℕ) → y ∷ r ≡ withRun k [] → isRun x ≡ false
             alone zero u = absurd (let z : _≡_ {A = ℕ} 0 1 = ap (λ l. length l) (sym u) ∙ omega (arith, ap (λ l. length l) u) in omega arith)
             alone (suc k) u = apart-two b x (suc k) [] (subst (λ l. Apart b (x ∷ l)) u h)
-        go (z ∷ a) q = ap (λ l. endsRun false (x ∷ l)) q ∙ ends-cons false x (z ∷ a) ∙ ends-any (isRun x) false z a ∙ ap (endsRun false) (sym q) ∙ e .no-run
+        go (z ∷ a) q = cc (ends-cons false x (z ∷ a), ends-any (isRun x) false z a)
 
 -- A list behind a segment that is no run, without the run that begins it.
 pub record Begun (l : List (Segment Zone)) (k : ℕ) : Type 0 where
@@ -105,7 +105,7 @@ pub record Begun (l : List (Segment Zone)) (k : ℕ) : Type 0 where
 
 pub begun : (l : List (Segment Zone)) → Apart false l → Begun l (runAtStart l)
 begun [] h = record { rest = []; is = refl; apart = tt }
-begun (run zero ∷ r) h = absurd (omega (arith, h .1))
+begun (run zero ∷ r) h = absurd (omega arith)
 begun (run (suc n) ∷ r) h = record { rest = r; is = refl; apart = h .2 }
 begun (direct n g ∷ r) h = record { rest = direct n g ∷ r; is = refl; apart = h }
 begun (zone z ∷ r) h = record { rest = zone z ∷ r; is = refl; apart = h }
@@ -129,53 +129,53 @@ module _ {w : List ℕ} {m : List (Segment Zone)} {n p b len : ℕ} {x : Segment
   all = subst (Apart false) (s .whole) ap-m
 
   left : Ended (s .before) (runAtEnd 0 (s .before))
-  left = ended false (s .before) (apart-front false (s .before) (x ∷ s .behind) all)
+  left = ended false (s .before) (apart-front false (s .before) _ all)
 
   right : Begun (s .behind) (runAtStart (s .behind))
-  right = let a = apart-from false (s .before) (x ∷ s .behind) all in begun (s .behind) (apart-past (a .0) x (s .behind) pos no (a .1))
+  right = let a = apart-from false (s .before) _ all in begun (s .behind) (apart-past (a .0) x (s .behind) pos no (a .1))
 
   abbrev after : ℕ
   after = runAtStart (s .behind)
 
   left-is : s .before ≡ left .rest ++ withRun b []
-  left-is = left .is ∙ ap (λ k. left .rest ++ withRun k []) (s .ends)
+  left-is = cc (left .is, s .ends)
 
   abbrev between : List (Segment Zone)
   between = withRun b (x ∷ withRun after [])
 
   whole-is : m ≡ left .rest ++ (between ++ right .rest)
-  whole-is = s .whole ∙ (λ i. left-is i ++ (x ∷ right .is i)) ∙ append-assoc (left .rest) (withRun b []) (x ∷ withRun after (right .rest)) ∙ ap (λ l. left .rest ++ l) (run-append b (x ∷ withRun after (right .rest)) ∙ join b)
+  whole-is = s .whole ∙ (λ i. left-is i ++ (x ∷ right .is i)) ∙ append-assoc (left .rest) _ _ ∙ ap (λ l. left .rest ++ l) (run-append b _ ∙ join b)
     where
       tail : x ∷ withRun after (right .rest) ≡ (x ∷ withRun after []) ++ right .rest
-      tail = ap (λ l. x ∷ l) (sym (run-append after (right .rest)))
+      tail = cc (run-append after (right .rest))
 
       join : (k : ℕ) → withRun k (x ∷ withRun after (right .rest)) ≡ withRun k (x ∷ withRun after []) ++ right .rest
       join zero = tail
-      join (suc k) = ap (λ l. run (suc k) ∷ l) tail
+      join (suc k) = cc tail
 
   starts : total (left .rest) ≡ p - b
-  starts = omega (arith, s .starts, ap (λ l. total l) left-is, total-append (left .rest) (withRun b []), total-withRun {Z = Zone} b [])
+  starts = omega (arith, ap (λ l. total l) left-is, total-append (left .rest) (withRun b []), total-withRun {Z = Zone} b [])
 
   between-size : total between ≡ b + len + after
-  between-size = omega (arith, total-withRun b (x ∷ withRun after []), total-withRun {Z = Zone} after [], size)
+  between-size = omega (arith, total-withRun b (x ∷ withRun after []), total-withRun {Z = Zone} after [])
 
   pub given-inside : (b ≤ p) × (p - b + (b + len + after) ≤ n) × (n ≤ mostPages) × (length w ≡ pageWords * n) × (0 < len)
   given-inside =
-      let q = part-inside h (left .rest) between (right .rest) whole-is (p - b) (b + len + after) starts between-size in
-      (omega (arith, s .starts, ap (λ l. total l) left-is, total-append (left .rest) (withRun b []), total-withRun {Z = Zone} b []), q .0, q .1, q .2, omega (arith, pos, size))
+      let q = part-inside h (left .rest) between _ whole-is (p - b) _ starts between-size in
+      (omega (arith, ap (λ l. total l) left-is, total-append (left .rest) (withRun b []), total-withRun {Z = Zone} b []), q .0, q .1, q .2, omega (arith, pos))
 
   pub given-words : (r : ℕ) → r ≡ after → take (pageWords * (p - b) + pageWords * (b + len + r) - pageWords * (p - b)) (drop (pageWords * (p - b)) w) ≡ segmentsEncoding (withRun b (x ∷ withRun r []))
-  given-words r e = subst (λ k. take (pageWords * (p - b) + pageWords * (b + len + k) - pageWords * (p - b)) (drop (pageWords * (p - b)) w) ≡ segmentsEncoding (withRun b (x ∷ withRun k []))) (sym e) (part-words h (left .rest) between (right .rest) whole-is (p - b) (b + len + after) starts between-size)
+  given-words r e = rw e (part-words h (left .rest) between (right .rest) whole-is (p - b) (b + len + after) starts between-size)
 
   -- The joined segments.
   joined-is : release (p * 4096) m ≡ left .rest ++ (run (b + len + after) ∷ right .rest)
   joined-is =
-      ap (joined (λ _. false) 0) (edit-stands s freePages pos ∙ (λ i. left-is i ++ (run (size i) ∷ right .is i)) ∙ append-assoc (left .rest) (withRun b []) (run len ∷ withRun after (right .rest)) ∙ ap (λ l. left .rest ++ l) (run-append b (run len ∷ withRun after (right .rest))))
-      ∙ joined-local (left .rest) (right .rest) b len after (omega (arith, pos, size)) (apart-front false (left .rest) (withRun b []) (subst (Apart false) left-is (apart-front false (s .before) (x ∷ s .behind) all))) (left .no-run) (right .apart)
+      ap (joined (λ _. false) 0) (edit-stands s freePages pos ∙ (λ i. left-is i ++ (run (size i) ∷ right .is i)) ∙ append-assoc (left .rest) _ _ ∙ ap (λ l. left .rest ++ l) (run-append b _))
+      ∙ joined-local (left .rest) _ b len after (omega (arith, pos)) (apart-front false (left .rest) _ (subst (Apart false) left-is (apart-front false (s .before) _ all))) (left .no-run) (right .apart)
 
   pub given-put : (r : ℕ) → r ≡ after → (v : List ℕ) → v ≡ segmentEncoding (run (b + len + r)) → putMid (pageWords * (p - b)) (pageWords * (p - b) + pageWords * (b + len + r) - pageWords * (p - b)) w v ≡ segmentsEncoding (release (p * 4096) m)
   given-put r e v f = subst (λ k. v ≡ segmentEncoding (run (b + len + k)) → putMid (pageWords * (p - b)) (pageWords * (p - b) + pageWords * (b + len + k) - pageWords * (p - b)) w v ≡ segmentsEncoding (release (p * 4096) m)) (sym e)
-      (λ g. part-put h (left .rest) between (right .rest) whole-is (p - b) (b + len + after) starts between-size (run (b + len + after) ∷ []) v (g ∙ sym (encoding-one (run (b + len + after)))) ∙ ap segmentsEncoding (sym joined-is)) f
+      (λ g. part-put h (left .rest) between _ whole-is (p - b) _ starts between-size _ v (g ∙ sym (encoding-one _)) ∙ ap segmentsEncoding (sym joined-is)) f
 
   -- The run that the pages are part of afterwards, and what stands before and behind it.
   pub given-run : Joined m p b len (s .behind)

@@ -9,13 +9,13 @@ use Rattle.lemmas.specs.Parts.{putMid}
 
 module _ (w front behind : List ℕ) (is : w ≡ front ++ behind) (a : ℕ) (size : length front ≡ a) where
   rest-is : drop a w ≡ behind
-  rest-is = ap (drop a) is ∙ drop-at front behind a size
+  rest-is = cc (drop-at front behind a size)
 
   count-is : length w - a ≡ length behind
-  count-is = omega (arith, ap length is, length-append front behind, size)
+  count-is = omega (arith, ap length is, length-append front behind)
 
   pub behind-part : take (length w - a) (drop a w) ≡ behind
-  behind-part = ap (λ k. take k (drop a w)) count-is ∙ ap (take (length behind)) rest-is ∙ take-all (length behind) behind (omega arith)
+  behind-part = cc (count-is, rest-is, take-all (length behind) behind (omega arith))
 
   pub behind-put : (v : List ℕ) → putMid a (length w - a) w v ≡ front ++ v
   behind-put v =

@@ -1,6 +1,6 @@
 -- What a segment is, by its kind, and the words of one that is a zone. Assumes nothing.
 use Prim.Native.Nat.{ℕ, _+_, _-_, _*_}
-use mathlib.Core.Path.{_≡_, refl, sym, ap, _∙_, subst}
+use mathlib.Core.Path.{_≡_, refl, sym, subst}
 use mathlib.Core.Bool.{true}
 use mathlib.Core.List.{List}
 use native.Mathlib.Omega.{arith}
@@ -24,7 +24,7 @@ run-by-kind (zone z) e = absurd (omega arith)
 
 -- A run's pages are those of the run, and another segment has none.
 pub run-size : (x : Segment Zone) → kindOf x ≡ kindRun → pages x ≡ runPages x
-run-size x e = sym (ap (λ y. runPages y) (run-by-kind x e))
+run-size x e = sym (cc (run-by-kind x e))
 
 pub no-run-size : (x : Segment Zone) → (kindOf x ≡ kindRun → ⊥) → 0 ≡ runPages x
 no-run-size (run n) f = absurd (f refl)
@@ -57,5 +57,5 @@ unfolding segmentEncoding
 zone-lent {w} {n} {p} {z} r =
     let count : pageWords * p + zoneWords - pageWords * p ≡ zoneWords = omega arith in
     let front = take-at (zoneEncoding z) (drop (pageWords * (p + zonePages)) w) zoneWords (length-encoding z) in
-    let part : lentZone p w ≡ zoneEncoding z = ap (λ k. take k (drop (pageWords * p) w)) count ∙ ap (take zoneWords) (r .words) ∙ front in
-    (ap isZone part ∙ encoding-zone z (r .ok .1), ap zoneOf part ∙ zone-decoded z (r .ok .1))
+    let part : lentZone p w ≡ zoneEncoding z = cc in
+    (cc (encoding-zone z (r .ok .1)), cc (zone-decoded z (r .ok .1)))

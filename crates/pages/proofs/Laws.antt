@@ -1,6 +1,6 @@
 -- Laws of the segments' words: their lengths, what their first words say, and what stands behind a segment. Assumes nothing.
 use Prim.Native.Nat.{ℕ, _+_, _-_, _*_, _≤_, _<_}
-use mathlib.Core.Path.{_≡_, refl, sym, ap, _∙_}
+use mathlib.Core.Path.{_≡_, refl, ap}
 use mathlib.Core.List.{List, [], _∷_, _++_, append-assoc, append-nil}
 use mathlib.Core.Bool.{Bool, true, false}
 use native.Mathlib.Omega.{arith}
@@ -29,11 +29,11 @@ length-segments (x ∷ r) h = omega (arith, length-append (segmentEncoding x) (s
 pub encoding-append : (a b : List (Segment Zone)) → segmentsEncoding (a ++ b) ≡ segmentsEncoding a ++ segmentsEncoding b
 unfolding segmentsEncoding
 encoding-append [] b = refl
-encoding-append (x ∷ a) b = ap (λ l. segmentEncoding x ++ l) (encoding-append a b) ∙ sym (append-assoc (segmentEncoding x) (segmentsEncoding a) (segmentsEncoding b))
+encoding-append (x ∷ a) b = cc (encoding-append a b, append-assoc (segmentEncoding x) (segmentsEncoding a) (segmentsEncoding b))
 
 pub encoding-one : (x : Segment Zone) → segmentsEncoding (x ∷ []) ≡ segmentEncoding x
 unfolding segmentsEncoding
-encoding-one x = append-nil (segmentEncoding x)
+encoding-one x = append-nil _
 
 -- The first words.
 pub kind-is : (x : Segment Zone) (w : List ℕ) → getD (segmentEncoding x ++ w) 0 0 ≡ kindOf x
@@ -67,7 +67,7 @@ pages-most x a b m e = omega (arith, ap (λ l. total l) e, total-append a (x ∷
 
 -- What stands behind a segment.
 pub drop-segment : (x : Segment Zone) (w : List ℕ) → 0 < pages x → drop (pageWords * pages x) (segmentEncoding x ++ w) ≡ w
-drop-segment x w h = drop-at (segmentEncoding x) w (pageWords * pages x) (length-segment x h)
+drop-segment x w h = drop-at (segmentEncoding x) w _ (length-segment x h)
 
 -- The parts of a sound list.
 pub each-left : (a b : List (Segment Zone)) → Each Writable (a ++ b) → Each Writable a

@@ -8,7 +8,7 @@ use lib.Dec.{eqb}
 use lib.ListN.{length, getD}
 use borrow.Author.Tests.{le-leb, lt-leb, lt-ltb, le-ltb, eq-eqb, ne-eqb}
 use Rattle.lemmas.proofs.Cases.{clash}
-use Rattle.model.specs.Numbers.{zonePages, mostPages, pageWords}
+use Rattle.model.specs.Numbers.{mostPages, pageWords}
 use Rattle.model.specs.Arena.{Segment, run, direct, zone, pages, total}
 use Rattle.model.specs.Zone.{Zone}
 use Rattle.model.specs.Pages.{firstFit, claim}
@@ -25,8 +25,8 @@ use Rattle.pages.proofs.Inverse.{run-by-kind, run-size, no-run-size}
 -- A run's pages, as the code has them.
 pub run-pages : (x : Segment Zone) (kind len : ℕ) → kind ≡ kindOf x → len ≡ pages x → cond (eqb kind 1) len 0 ≡ runPages x
 run-pages (run n) k l e f = rw (eq-eqb k 1 e) f
-run-pages (direct n g) k l e f = rw (ne-eqb k 1 (λ z. omega arith))
-run-pages (zone z) k l e f = rw (ne-eqb k 1 (λ z. omega arith))
+run-pages (direct n g) k l e f = rw (ne-eqb k 1 (omega arith))
+run-pages (zone z) k l e f = rw (ne-eqb k 1 (omega arith))
 
 -- The next run -------------------------------------------------------------------------------------------------------------------
 
@@ -53,10 +53,10 @@ module _ {w : List ℕ} {n p len : ℕ} {f : Found} (i : Seeking w n f p) (h : p
   k = next (i .1) h
 
   pub seek-past : {kind : ℕ} → kind ≡ kindOf (k .x) → (kind ≡ kindRun → ⊥) → Seeking w n f (p + len)
-  seek-past t e = subst (λ l. Seeking w n f (p + l)) (sym size) (runPages (k .x), past (i .1) k 0 (run-past p (k .x) (k .rest) (λ q. e (t ∙ q))))
+  seek-past t e = rw size (runPages (k .x), past (i .1) k 0 (run-past p (k .x) (k .rest) (λ q. e (t ∙ q))))
 
   pub seek-hit : {kind : ℕ} → kind ≡ kindOf (k .x) → kind ≡ kindRun → Run p len ≡ f
-  seek-hit t e = ap (Run p) size ∙ sym (run-here p (k .x) (k .rest) (sym t ∙ e)) ∙ at-it (i .1) k
+  seek-hit t e = cc (run-here p (k .x) (k .rest) (sym t ∙ e), at-it (i .1) k)
 
 -- The search ---------------------------------------------------------------------------------------------------------------------
 
@@ -76,7 +76,7 @@ no-run : (p need : ℕ) (l : List (Segment Zone)) → found (firstRun p l) ≡ N
 no-run p need [] e = refl
 no-run p need (run k ∷ r) e = let q : Run p k ≡ Nothing = sym (run-here p (run k) r refl) ∙ e in clash (cc)
 no-run p need (direct k g ∷ r) e = no-run (p + k) need r e
-no-run p need (zone z ∷ r) e = no-run (p + zonePages) need r e
+no-run p need (zone z ∷ r) e = no-run _ need r e
 
 -- The segments l, which begin at page p, up to their first run, and the search from there on.
 record Reaches (p need : ℕ) (l : List (Segment Zone)) (at len : ℕ) : Type 0 where
@@ -87,7 +87,7 @@ record Reaches (p need : ℕ) (l : List (Segment Zone)) (at len : ℕ) : Type 0 
   same : firstFit p need l ≡ firstFit at need (run len ∷ post)
 
 reaches-behind : {p need : ℕ} {r : List (Segment Zone)} {at len : ℕ} (x : Segment Zone) → firstFit p need (x ∷ r) ≡ firstFit (p + pages x) need r → Reaches (p + pages x) need r at len → Reaches p need (x ∷ r) at len
-reaches-behind x q h = record { pre = x ∷ h .pre; post = h .post; whole = ap (λ l. x ∷ l) (h .whole); starts = omega (arith, h .starts); same = q ∙ h .same }
+reaches-behind x q h = record { pre = x ∷ h .pre; post = h .post; whole = cc; starts = omega arith; same = q ∙ h .same }
 
 reaches : (p need : ℕ) (l : List (Segment Zone)) (at len : ℕ) → found (firstRun p l) ≡ Run at len → Reaches p need l at len
 reaches p need [] at len e = clash (cc)
@@ -95,24 +95,24 @@ reaches p need (run k ∷ r) at len e =
     let q : Run p k ≡ Run at len = sym (run-here p (run k) r refl) ∙ e in
     let a : p ≡ at = cc in
     let b : k ≡ len = cc in
-    record { pre = []; post = r; whole = ap (λ j. run j ∷ r) b; starts = omega arith; same = λ i. firstFit (a i) need (run (b i) ∷ r) }
+    record { pre = []; post = r; whole = cc; starts = omega arith; same = λ i. firstFit (a i) need (run (b i) ∷ r) }
 reaches p need (direct k g ∷ r) at len e = reaches-behind (direct k g) refl (reaches (p + k) need r at len e)
-reaches p need (zone z ∷ r) at len e = reaches-behind (zone z) refl (reaches (p + zonePages) need r at len e)
+reaches p need (zone z ∷ r) at len e = reaches-behind (zone z) refl (reaches _ need r at len e)
 
 -- A turn: the next run f behind page p.
 module _ {w : List ℕ} {n need p : ℕ} {f : Found} (i : Searching w n need p) (next-is : f ≡ found (firstRun p (i .1 .left))) where
   pub search-none : f ≡ Nothing → Nothing ≡ found (claim need (segmentsOf w))
-  search-none e = sym (no-run p need (i .1 .left) (sym next-is ∙ e)) ∙ i .1 .same
+  search-none e = cc (no-run p need (i .1 .left) (sym next-is ∙ e))
 
   module _ {at len : ℕ} (is : f ≡ Run at len) where
     stop : Reaches p need (i .1 .left) at len
-    stop = reaches p need (i .1 .left) at len (sym next-is ∙ is)
+    stop = reaches p need _ at len (sym next-is ∙ is)
 
     from-stop : Passed (segmentsOf w) at (runAtEnd (i .0) (stop .pre)) (run len ∷ stop .post)
     from-stop = passed-on (stop .pre) (stop .whole) (stop .starts) (i .1 .passed)
 
     pub run-inside : (0 < len) × (p ≤ at) × (at + len ≤ n) × (n ≤ mostPages)
-    run-inside = let r = read-at (i .1 .encodes) (passed-stands (run len) (stop .post) from-stop) in
+    run-inside = let r = read-at (i .1 .encodes) (passed-stands (run len) _ from-stop) in
         (r .ok .0, omega (arith, stop .starts), r .inside, r .few)
 
     pub search-hit : need ≤ len → Run at len ≡ found (claim need (segmentsOf w))
@@ -126,7 +126,7 @@ module _ {w : List ℕ} {n need p : ℕ} {f : Found} (i : Searching w n need p) 
         long = i .1 .long;
         few = i .1 .few;
         left = stop .post;
-        passed = passed-more (run len) (stop .post) from-stop;
+        passed = passed-more (run len) _ from-stop;
         same = sym (ap found (stop .same) ∙ rw (lt-leb need len h)) ∙ i .1 .same;
       },
     )
@@ -145,12 +145,12 @@ module _ (q : ℕ) {w : List ℕ} {n b p len kind : ℕ} (i : Locating w n q b p
 
   pub spot-past : (r : ℕ) → r ≡ cond (eqb kind 1) len 0 → p + len ≤ q → Locating w n q r (p + len)
   unfolding spotFrom
-  spot-past r e f = subst (λ l. Locating w n q r (p + l)) (sym size) (subst (λ y. Locating w n q y (p + pages (there .x))) (sym (e ∙ run-pages (there .x) kind len kind-is size))
+  spot-past r e f = rw size (subst (λ y. Locating w n q y (p + pages (there .x))) (sym (e ∙ run-pages (there .x) kind len kind-is size))
       (past i there 0 (rw (le-ltb q (p + pages (there .x)) (omega (arith, size))))))
 
   pub spot-here : q < p + len → At p kind len b ≡ spotFrom q 0 0 (segmentsOf w)
   unfolding spotFrom
-  spot-here f = (λ t. At p (kind-is t) (size t) b) ∙ sym (rw (lt-ltb q (p + pages (there .x)) (omega (arith, size)))) ∙ at-it i there
+  spot-here f = (λ t. At p (kind-is t) (size t) b) ∙ sym (rw (lt-ltb q (p + pages (there .x)) (omega arith))) ∙ at-it i there
 
 -- The run behind a segment --------------------------------------------------------------------------------------------------------
 
@@ -160,7 +160,7 @@ module _ {w : List ℕ} {n p b : ℕ} {x : Segment Zone} (h : Holds w n) (s : St
     where
       go : Behind w n p x (s .behind) → 0 ≡ runAtStart (s .behind)
       go (last q t) = ap runAtStart (sym q)
-      go (more y r q t) = absurd (omega (arith, t .ok .0, t .inside))
+      go (more y r q t) = absurd (omega arith)
 
   -- The words there can be read.
   pub read-behind : p + pages x < n → (pageWords * (p + pages x) + pageWords ≤ length w) × (n ≤ mostPages)
@@ -168,18 +168,18 @@ module _ {w : List ℕ} {n p b : ℕ} {x : Segment Zone} (h : Holds w n) (s : St
     where
       go : Behind w n p x (s .behind) → (pageWords * (p + pages x) + pageWords ≤ length w) × (n ≤ mostPages)
       go (last q t) = absurd (omega arith)
-      go (more y r q t) = (omega (arith, t .ok .0, t .inside, t .long), t .few)
+      go (more y r q t) = (omega arith, t .few)
 
   pub run-behind : p + pages x < n → getD w (pageWords * (p + pages x)) 0 ≡ kindRun → getD w (pageWords * (p + pages x) + 1) 0 ≡ runAtStart (s .behind)
   run-behind e k = go (behind-it h s)
     where
       go : Behind w n p x (s .behind) → getD w (pageWords * (p + pages x) + 1) 0 ≡ runAtStart (s .behind)
       go (last q t) = absurd (omega arith)
-      go (more y r q t) = let one : kindOf y ≡ 1 = sym (t .kind) ∙ k in t .size (λ z. omega arith) ∙ run-size y one ∙ ap runAtStart (sym q)
+      go (more y r q t) = let one : kindOf y ≡ 1 = sym (t .kind) ∙ k in cc (t .size (λ z. omega arith), run-size y one)
 
   pub other-behind : p + pages x < n → (getD w (pageWords * (p + pages x)) 0 ≡ kindRun → ⊥) → 0 ≡ runAtStart (s .behind)
   other-behind e k = go (behind-it h s)
     where
       go : Behind w n p x (s .behind) → 0 ≡ runAtStart (s .behind)
       go (last q t) = absurd (omega arith)
-      go (more y r q t) = no-run-size y (λ z. k (t .kind ∙ z)) ∙ ap runAtStart (sym q)
+      go (more y r q t) = cc (no-run-size y (λ z. k (t .kind ∙ z)))

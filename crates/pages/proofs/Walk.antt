@@ -18,7 +18,7 @@ use Rattle.pages.proofs.Laws.{length-segments, encoding-append, kind-is
 use Rattle.zone.specs.Encoding.{kindZone}
 
 pub encodes-length : {w : List ℕ} {m : List (Segment Zone)} {n : ℕ} → Encodes w m n → length w ≡ pageWords * n
-encodes-length {w} {m} {n} h = ap length (h .words) ∙ length-segments m (h .sound) ∙ ap (λ k. pageWords * k) (h .covers)
+encodes-length {w} {m} {n} h = cc (length-segments m (h .sound))
 
 -- What the words say of a segment x that begins at page p.
 pub record Read (w : List ℕ) (n p : ℕ) (x : Segment Zone) : Type 0 where
@@ -55,17 +55,17 @@ passed-none m = record { pre = []; whole = refl; starts = refl; ends = refl }
 
 pub run-at-end : (b : ℕ) (a : List (Segment Zone)) (x : Segment Zone) → runAtEnd b (a ++ (x ∷ [])) ≡ runPages x
 run-at-end b [] x = refl
-run-at-end b (y ∷ a) x = run-at-end (runPages y) a x
+run-at-end b (y ∷ a) x = run-at-end _ a x
 
 at-end-append : (b : ℕ) (a c : List (Segment Zone)) → runAtEnd b (a ++ c) ≡ runAtEnd (runAtEnd b a) c
 at-end-append b [] c = refl
-at-end-append b (x ∷ a) c = at-end-append (runPages x) a c
+at-end-append b (x ∷ a) c = at-end-append _ a c
 
 pub passed-more : {m : List (Segment Zone)} {p b : ℕ} (x : Segment Zone) (r : List (Segment Zone)) → Passed m p b (x ∷ r) → Passed m (p + pages x) (runPages x) r
 passed-more {m} {p} {b} x r h = record {
   pre = h .pre ++ (x ∷ []);
-  whole = h .whole ∙ sym (append-assoc (h .pre) (x ∷ []) r);
-  starts = omega (arith, total-append (h .pre) (x ∷ []), h .starts);
+  whole = cc (append-assoc (h .pre) (x ∷ []) r);
+  starts = omega (arith, total-append (h .pre) (x ∷ []));
   ends = run-at-end 0 (h .pre) x;
 }
 
@@ -73,16 +73,16 @@ passed-more {m} {p} {b} x r h = record {
 pub passed-on : {m : List (Segment Zone)} {p b at : ℕ} {l r : List (Segment Zone)} (a : List (Segment Zone)) → l ≡ a ++ r → p + total a ≡ at → Passed m p b l → Passed m at (runAtEnd b a) r
 passed-on {m} {p} {b} {at} {l} {r} a e s h = record {
   pre = h .pre ++ a;
-  whole = h .whole ∙ ap (λ k. h .pre ++ k) e ∙ sym (append-assoc (h .pre) a r);
-  starts = omega (arith, total-append (h .pre) a, h .starts);
-  ends = at-end-append 0 (h .pre) a ∙ ap (λ k. runAtEnd k a) (h .ends);
+  whole = cc (append-assoc (h .pre) a r);
+  starts = omega (arith, total-append (h .pre) a);
+  ends = cc (at-end-append 0 (h .pre) a);
 }
 
 pub passed-stands : {m : List (Segment Zone)} {p b : ℕ} (x : Segment Zone) (r : List (Segment Zone)) → Passed m p b (x ∷ r) → Stands m p b x
 passed-stands {m} {p} {b} x r h = record { before = h .pre; behind = r; whole = h .whole; starts = h .starts; ends = h .ends }
 
 pub passed-total : {m : List (Segment Zone)} {p b : ℕ} {post : List (Segment Zone)} → Passed m p b post → p + total post ≡ total m
-passed-total {m} {p} {b} {post} h = omega (arith, ap (λ l. total l) (h .whole), total-append (h .pre) post, h .starts)
+passed-total {m} {p} {b} {post} h = omega (arith, ap (λ l. total l) (h .whole), total-append (h .pre) post)
 
 -- A loop that goes from segment to segment computes f from the front: f, at page p behind a run of b pages and with the number a in
 -- hand, of the segments left is the result e of the whole.
@@ -100,7 +100,7 @@ module _ {A R : Type 0} {f : A → ℕ → ℕ → List (Segment Zone) → R} {w
   walk-from a {b} {p} {l} h q = record { encodes = h; long = encodes-length h; few = h .most; left = l; passed = q; same = refl }
 
   pub walk-start : (a : A) → Holds w n → Walk f w n (f a 0 0 (segmentsOf w)) a 0 0
-  walk-start a h = walk-from a h (passed-none (segmentsOf w))
+  walk-start a h = walk-from a h (passed-none _)
 
   -- The segment at the walk's page.
   pub record Next {e : R} {a : A} {b p : ℕ} (i : Walk f w n e a b p) : Type 0 where
@@ -114,9 +114,9 @@ module _ {A R : Type 0} {f : A → ℕ → ℕ → List (Segment Zone) → R} {w
   next {e} {a} {b} {p} i h = go (i .left) refl
     where
       go : (l : List (Segment Zone)) → i .left ≡ l → Next i
-      go [] q = absurd (omega (arith, passed-total (i .passed), ap (λ l. total l) q, i .encodes .covers))
+      go [] q = absurd (omega (arith, passed-total (i .passed), ap (λ l. total l) q))
       go (x ∷ r) q =
-          let s : Stands (segmentsOf w) p b x = passed-stands x r (subst (Passed (segmentsOf w) p b) q (i .passed)) in
+          let s : Stands (segmentsOf w) p b x = passed-stands x r (rw q at (i .passed)) in
           record { x = x; rest = r; left-is = q; stands = s; read = read-at (i .encodes) s }
 
   -- Past it, with another number in hand.
@@ -127,20 +127,20 @@ module _ {A R : Type 0} {f : A → ℕ → ℕ → List (Segment Zone) → R} {w
     few = i .few;
     left = k .rest;
     passed = passed-more (k .x) (k .rest) (subst (Passed (segmentsOf w) p b) (k .left-is) (i .passed));
-    same = sym g ∙ ap (f a b p) (sym (k .left-is)) ∙ i .same;
+    same = cc;
   }
 
   -- At the segment itself.
   pub at-it : {e : R} {a : A} {b p : ℕ} (i : Walk f w n e a b p) (k : Next i) → f a b p (k .x ∷ k .rest) ≡ e
-  at-it {e} {a} {b} {p} i k = ap (f a b p) (sym (k .left-is)) ∙ i .same
+  at-it {e} {a} {b} {p} i k = cc
 
   -- Behind the last one.
   pub walk-end : {e : R} {a : A} {b p : ℕ} (i : Walk f w n e a b p) → n ≤ p → f a b p [] ≡ e
   walk-end {e} {a} {b} {p} i h = go (i .left) refl
     where
       go : (l : List (Segment Zone)) → i .left ≡ l → f a b p [] ≡ e
-      go [] q = ap (f a b p) (sym q) ∙ i .same
-      go (x ∷ r) q = absurd (omega (arith, passed-total (i .passed), ap (λ l. total l) q, i .encodes .covers, (read-at (i .encodes) (passed-stands x r (subst (Passed (segmentsOf w) p b) q (i .passed)))) .ok .0))
+      go [] q = cc
+      go (x ∷ r) q = absurd (omega (arith, passed-total (i .passed), ap (λ l. total l) q, i .encodes .covers, (read-at (i .encodes) (passed-stands x r (rw q at (i .passed)))) .ok .0))
 
 -- What stands behind a segment: nothing at the arena's end, else another segment.
 pub data Behind (w : List ℕ) (n p : ℕ) (x : Segment Zone) (l : List (Segment Zone)) : Type 0 where
@@ -154,5 +154,5 @@ behind-it {w} {m} {n} {p} {b} {x} h s = go (s .behind) refl
     here = record { pre = s .before; whole = s .whole; starts = s .starts; ends = s .ends }
 
     go : (l : List (Segment Zone)) → s .behind ≡ l → Behind w n p x (s .behind)
-    go [] e = last e (omega (arith, passed-total here, h .covers, ap (λ l. total l) e))
-    go (y ∷ r) e = more y r e (read-at h (passed-stands y r (subst (λ l. Passed m (p + pages x) (runPages x) l) e (passed-more x (s .behind) here))))
+    go [] e = last e (omega (arith, passed-total here, ap (λ l. total l) e))
+    go (y ∷ r) e = more y r e (read-at h (passed-stands y r (rw e at (passed-more x (s .behind) here))))

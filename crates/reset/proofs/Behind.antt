@@ -42,20 +42,21 @@ module _ {v : List ℕ} {n p b len : ℕ} (good : Good v n) (m behind : List (Se
   run-stands = (runAtEnd 0 (j .pre), all, record { before = j .pre; behind = j .post; whole = run-segments; starts = j .starts; ends = refl })
 
   -- The walk, where the code goes on.
-  pub sweep-behind : (g : ℕ) (t : State) (c k next before : ℕ) → next ≡ p - b + (b + len + j .after) → before ≡ b + len + j .after → freedAll (offsetsAt g (p + len) behind) (decode v) ≡ t → k + length (offsetsAt g (p + len) behind) ≡ c → Sweep g t c v n next before k
+  pub sweep-behind : (g : ℕ) (t : State) (c k next before : ℕ) → next ≡ p - b + (b + len + j .after) → before ≡ b + len + j .after
+      → freedAll (offsetsAt g (p + len) behind) (decode v) ≡ t → k + length (offsetsAt g (p + len) behind) ≡ c → Sweep g t c v n next before k
   sweep-behind g t c k next before en eb rest counted = record {
     good = good;
     before = j .pre ++ (run all ∷ []);
     left = j .post;
-    whole = run-segments ∙ sym (append-assoc (j .pre) (run all ∷ []) (j .post));
-    starts = omega (arith, total-append (j .pre) (run all ∷ []), j .starts, en);
+    whole = cc (append-assoc (j .pre) (run all ∷ []) (j .post));
+    starts = omega (arith, total-append (j .pre) (run all ∷ []));
     ends = run-at-end 0 (j .pre) (run all) ∙ sym eb;
-    rest = ap (λ l. freedAll l (decode v)) (sym same) ∙ rest;
-    counted = ap (λ l. k + length l) (sym same) ∙ counted;
+    rest = cc (same, rest);
+    counted = cc (same, counted);
   }
     where
       same : offsetsAt g (p + len) behind ≡ offsetsAt g next (j .post)
-      same = ap (offsetsAt g (p + len)) (j .behind-is) ∙ at-free g (p + len) (j .post) (j .after) ∙ ap (λ q. offsetsAt g q (j .post)) (let e : p + len + j .after ≡ next = omega (arith, en, j .low) in e)
+      same = ap (offsetsAt g (p + len)) (j .behind-is) ∙ at-free g (p + len) (j .post) (j .after) ∙ ap (λ q. offsetsAt g q (j .post)) (let e : p + len + j .after ≡ next = omega arith in e)
 
   pub next-on : (next : ℕ) → 0 < len → next ≡ p - b + (b + len + j .after) → p < next
-  next-on next h e = omega (arith, e, j .low)
+  next-on next h e = omega arith

@@ -1,10 +1,9 @@
 -- The offsets of a group's blocks: the first of them, and the others. Assumes nothing.
 use Prim.Native.Nat.{ℕ, zero, suc, _+_, _*_, _≤_, _<_}
-use mathlib.Core.Path.{_≡_, refl, sym, ap, _∙_, subst}
+use mathlib.Core.Path.{_≡_, refl, sym, ap, _∙_}
 use mathlib.Core.List.{List, [], _∷_, _++_}
 use mathlib.Core.Bool.{true}
 use native.Mathlib.Omega.{arith}
-use native.Mathlib.Nat.{zero-mul}
 use lib.Dec.{eqb}
 use lib.ListN.{length, getD, set, drop, length-append}
 use lib.Seq.{drop-cons}
@@ -31,19 +30,19 @@ module _ (g p : ℕ) (r : List (Segment Zone)) where
   on k q e = omega arith
 
   pub at-run : (k : ℕ) → offsetsAt g p (run k ∷ r) ≡ offsetsAt g (p + k) r
-  at-run k = ap (λ q. offsetsFrom g q (shown r)) (sym (on k ((p + k) * 4096) refl))
+  at-run k = cc (on k ((p + k) * 4096) refl)
 
   pub at-other : (k h : ℕ) → (h ≡ g → ⊥) → offsetsAt g p (direct k h ∷ r) ≡ offsetsAt g (p + k) r
-  at-other k h f = rw (ne-eqb h g f) (ap (λ q. offsetsFrom g q (shown r)) (sym (on k ((p + k) * 4096) refl)))
+  at-other k h f = rw (ne-eqb h g f) (cc (on k ((p + k) * 4096) refl))
 
   pub at-direct : (k : ℕ) → offsetsAt g p (direct k g ∷ r) ≡ (p * 4096) ∷ offsetsAt g (p + k) r
-  at-direct k = rw (eq-eqb g g refl) (ap (λ q. (p * 4096) ∷ offsetsFrom g q (shown r)) (sym (on k ((p + k) * 4096) refl)))
+  at-direct k = rw (eq-eqb g g refl) (cc (on k ((p + k) * 4096) refl))
 
   pub at-zone : (z : Zone) → offsetsAt g p (zone z ∷ r) ≡ offsetsIn g p 0 z ++ offsetsAt g (p + zonePages) r
   at-zone z = λ j. chunkOffsets g (from j) (room (z .class)) (occupancy z .groups) ++ offsetsFrom g ((sym (on 8 ((p + zonePages) * 4096) refl)) j) (shown r)
     where
       from : p * 4096 ≡ p * 4096 + 0 * room (z .class)
-      from = omega (arith, zero-mul (room (z .class)))
+      from = omega arith
 
   pub at-free : (a : ℕ) → offsetsAt g p (withRun a r) ≡ offsetsAt g (p + a) r
   at-free zero = ap (λ q. offsetsAt g q r) (let e : p ≡ p + 0 = omega arith in e)
@@ -54,7 +53,7 @@ module _ (g p : ℕ) (r : List (Segment Zone)) where
 -- None of the group where no chunk is live.
 none-zero : (g o r : ℕ) (l : List ℕ) → 0 < g → allZero l ≡ true → chunkOffsets g o r l ≡ []
 none-zero g o r [] p t = refl
-none-zero g o r (zero ∷ l) p t = rw (ne-eqb 0 g (λ e. omega arith)) (none-zero g (o + r) r l p t)
+none-zero g o r (zero ∷ l) p t = rw (ne-eqb 0 g (omega arith)) (none-zero g (o + r) r l p t)
 none-zero g o r (suc x ∷ l) p t = true-false t refl
 
 zero-drop : (i : ℕ) (l : List ℕ) → allZero l ≡ true → allZero (drop i l) ≡ true
@@ -67,7 +66,7 @@ zero-drop (suc i) (suc x ∷ l) t = true-false t refl
 padded-past : (n : ℕ) (l : List ℕ) (i : ℕ) → length l ≤ i → allZero (drop i (padded n l)) ≡ true
 padded-past zero l zero h = refl
 padded-past zero l (suc i) h = refl
-padded-past (suc n) [] i h = zero-drop i (padded (suc n) []) (allZero-padded (suc n))
+padded-past (suc n) [] i h = zero-drop i _ (allZero-padded (suc n))
 padded-past (suc n) (x ∷ l) zero h = absurd (omega arith)
 padded-past (suc n) (x ∷ l) (suc i) h = padded-past n l i (omega arith)
 
@@ -85,7 +84,7 @@ module _ (g p i : ℕ) (z : Zone) (v : ValidZone z) where
   -- Chunk i, and those behind it.
   first : i < chunks (z .class) → offsetsIn g p i z ≡ putIf (eqb (getD (z .owners) i 0) g) (p * 4096 + i * r) (offsetsIn g p (i + 1) z)
   first h =
-      ap (chunkOffsets g (p * 4096 + i * r) r) (drop-cons (occupancy z .groups) i 0 (omega (arith, padded-length (chunks (z .class)) (z .owners))))
+      ap (chunkOffsets g (p * 4096 + i * r) r) (drop-cons _ i 0 (omega (arith, padded-length (chunks (z .class)) (z .owners))))
       ∙ (λ j. putIf (eqb (group-shown z v i j) g) (p * 4096 + i * r) (chunkOffsets g (next j) r (drop (suc-is j) (occupancy z .groups))))
     where
       next : p * 4096 + i * r + r ≡ p * 4096 + (i + 1) * r
@@ -95,19 +94,19 @@ module _ (g p i : ℕ) (z : Zone) (v : ValidZone z) where
       suc-is = omega arith
 
   pub in-skip : i < chunks (z .class) → (getD (z .owners) i 0 ≡ g → ⊥) → offsetsIn g p i z ≡ offsetsIn g p (i + 1) z
-  in-skip h f = first h ∙ rw (ne-eqb (getD (z .owners) i 0) g f)
+  in-skip h f = first h ∙ rw (ne-eqb _ g f)
 
   pub in-take : i < chunks (z .class) → getD (z .owners) i 0 ≡ g → offsetsIn g p i z ≡ (p * 4096 + i * room (z .class)) ∷ offsetsIn g p (i + 1) z
-  in-take h e = first h ∙ rw (eq-eqb (getD (z .owners) i 0) g e)
+  in-take h e = first h ∙ rw (eq-eqb _ g e)
 
   pub in-back : offsetsIn g p (i + 1) z ≡ offsetsIn g p (i + 1) (putBack i z)
-  in-back = ap (chunkOffsets g (p * 4096 + (i + 1) * r) r) (subst (λ k. drop k (occupancy z .groups) ≡ drop k (occupancy (putBack i z) .groups)) (let e : suc i ≡ i + 1 = omega arith in e) (sym (padded-behind (chunks (z .class)) (z .owners) i 0)))
+  in-back = ap (chunkOffsets g (p * 4096 + (i + 1) * r) r) (rw (let e : suc i ≡ i + 1 = omega arith in e) at (sym (padded-behind (chunks (z .class)) (z .owners) i 0)))
 
 pub in-past : (g p i : ℕ) (z : Zone) → 0 < g → length (z .owners) ≤ i → offsetsIn g p i z ≡ []
-in-past g p i z h k = none-zero g (p * 4096 + i * room (z .class)) (room (z .class)) (drop i (occupancy z .groups)) h (padded-past (chunks (z .class)) (z .owners) i k)
+in-past g p i z h k = none-zero g _ _ (drop i (occupancy z .groups)) h (padded-past (chunks (z .class)) (z .owners) i k)
 
 pub in-idle : (g p i : ℕ) (z : Zone) → 0 < g → idleZone z ≡ true → offsetsIn g p i z ≡ []
-in-idle g p i z h t = none-zero g (p * 4096 + i * room (z .class)) (room (z .class)) (drop i (occupancy z .groups)) h (zero-drop i (occupancy z .groups) t)
+in-idle g p i z h t = none-zero g _ _ (drop i (occupancy z .groups)) h (zero-drop i _ t)
 
 -- How many ------------------------------------------------------------------------------------------------------------------------
 
@@ -121,4 +120,5 @@ few-offsets g o (run k ∷ r) h = let e = few-offsets g (o + k * 4096) r (h .1) 
 few-offsets g o (direct k x ∷ r) h = let e = few-offsets g (o + k * 4096) r (h .1) in let p = h .0 .0 in bool (eqb x g) (λ t. rw t (omega arith)) (λ t. rw t (omega arith))
 few-offsets g o (zone z ∷ r) h =
     let e = few-offsets g (o + zonePages * 4096) r (h .1) in
-    omega (arith, length-append (chunkOffsets g o (room (z .class)) (occupancy z .groups)) (offsetsFrom g (o + zonePages * 4096) (shown r)), few-chunks g o (room (z .class)) (occupancy z .groups), padded-length (chunks (z .class)) (z .owners), chunks-most (z .class))
+    omega (arith, length-append (chunkOffsets g o (room (z .class)) (occupancy z .groups)) (offsetsFrom g (o + zonePages * 4096) (shown r)), few-chunks g o (room (z .class))
+        (occupancy z .groups), padded-length (chunks (z .class)) (z .owners), chunks-most (z .class))

@@ -1,5 +1,5 @@
 -- The walk of a reset: over the segments, and over the chunks of a zone. Assumes nothing.
-use Prim.Native.Nat.{ℕ, _+_, _-_, _*_, _%_, _≤_, _<_}
+use Prim.Native.Nat.{ℕ, _+_, _-_, _*_, _≤_, _<_}
 use mathlib.Core.Path.{_≡_, refl, sym, ap, _∙_, subst}
 use mathlib.Core.List.{List, [], _∷_, _++_, append-assoc}
 use mathlib.Core.Bool.{Bool, true, false}
@@ -9,10 +9,10 @@ use lib.ListN.{length, getD, length-set}
 use borrow.Author.Tests.{eq-eqb}
 use Rattle.model.specs.Numbers.{zonePages}
 use Rattle.model.specs.Sizes.{room, chunks}
-use Rattle.model.specs.Arena.{Segment, direct, zone, pages, total, Each}
+use Rattle.model.specs.Arena.{Segment, direct, zone, pages, total}
 use Rattle.model.specs.Zone.{Zone, touched, putBack}
 use Rattle.model.specs.State.{State, zoneAt, putZone}
-use Rattle.model.specs.PageMap.{pageMap, occupancy, idleZone, whole, chunkOf, blockAt}
+use Rattle.model.specs.PageMap.{pageMap, whole, chunkOf, blockAt}
 use Rattle.model.specs.Valid.{ValidZone, Valid}
 use Rattle.model.specs.Pages.{release}
 use Rattle.model.specs.Free.{chunkBack, freedIf, freedAll, offsetsOf}
@@ -22,7 +22,6 @@ use Rattle.model.proofs.Sizes.{room-pos, chunk-begins}
 use Rattle.model.proofs.Zones.{owned-touched, putBack-valid}
 use Rattle.model.proofs.ValidFree.{freed-valid}
 use Rattle.model.proofs.Blocks.{live-chunk}
-use Rattle.pages.specs.Encoding.{Writable}
 use Rattle.pages.proofs.Laws.{each-right}
 use Rattle.pages.specs.Places.{runPages, Stands}
 use Rattle.pages.proofs.Walk.{run-at-end}
@@ -51,18 +50,18 @@ sweep-start {w} {n} g h = record { good = h; before = []; left = decode w .segme
 
 -- A reset counts no more blocks than the arena has bytes.
 pub few-in-all : {w : List ℕ} {n : ℕ} (g : ℕ) → Good w n → length (offsetsOf g (decode w)) ≤ 1048576
-few-in-all {w} {n} g h = omega (arith, few-offsets g 0 (decode w .segments) (h .valid .sound), h .valid .most)
+few-in-all {w} {n} g h = omega (arith, few-offsets g 0 (decode w .segments) (h .valid .sound))
 
 -- Behind the last page everything has.
 pub sweep-end : {g c n p b k : ℕ} {t : State} {w : List ℕ} → Sweep g t c w n p b k → n ≤ p → (k ≡ c) × (w ≡ encode t)
 sweep-end {g} {c} {n} {p} {b} {k} {t} {w} i h = go (i .left) refl
   where
     go : (l : List (Segment Zone)) → i .left ≡ l → (k ≡ c) × (w ≡ encode t)
-    go [] e = (omega (arith, i .counted, ap (λ x. length (offsetsAt g p x)) e), i .good .lent .words ∙ ap encode (ap (λ x. freedAll (offsetsAt g p x) (decode w)) (sym e) ∙ i .rest))
-    go (x ∷ r) e = absurd (omega (arith, i .starts, i .good .pages, ap (λ l. total l) (i .whole), total-append (i .before) (i .left), ap (λ l. total l) e, positive x r e))
+    go [] e = (omega (arith, ap (λ x. length (offsetsAt g p x)) e), cc)
+    go (x ∷ r) e = absurd (omega (arith, ap (λ l. total l) (i .whole), total-append (i .before) (i .left), ap (λ l. total l) e, positive x r e))
       where
         positive : (x : Segment Zone) (r : List (Segment Zone)) → i .left ≡ x ∷ r → 0 < pages x
-        positive x r e = (each-right (i .before) (x ∷ r) (subst (λ l. Each Writable l) (i .whole ∙ ap (λ l. i .before ++ l) e) (i .good .lent .sound))) .0 .0
+        positive x r e = (each-right (i .before) (x ∷ r) (rw (i .whole ∙ ap (λ l. i .before ++ l) e) at (i .good .lent .sound))) .0 .0
 
 -- The segment at the walk's page.
 pub record Here {g c n p b k : ℕ} {t : State} {w : List ℕ} (i : Sweep g t c w n p b k) : Type 0 where
@@ -75,33 +74,34 @@ module _ {g c n p b k : ℕ} {t : State} {w : List ℕ} (i : Sweep g t c w n p b
   here h = go (i .left) refl
     where
       go : (l : List (Segment Zone)) → i .left ≡ l → Here i
-      go [] e = absurd (omega (arith, i .starts, i .good .pages, ap (λ l. total l) (i .whole), total-append (i .before) (i .left), ap (λ l. total l) e))
+      go [] e = absurd (omega (arith, ap (λ l. total l) (i .whole), total-append (i .before) (i .left), ap (λ l. total l) e))
       go (x ∷ r) e = record { x = x; rest = r; left-is = e }
 
   abbrev pub here-stands : (h : Here i) → Stands (decode w .segments) p b (h .x)
   here-stands h = record { before = i .before; behind = h .rest; whole = i .whole ∙ ap (λ l. i .before ++ l) (h .left-is); starts = i .starts; ends = i .ends }
 
   here-rest : (h : Here i) → freedAll (offsetsAt g p (h .x ∷ h .rest)) (decode w) ≡ t
-  here-rest h = ap (λ l. freedAll (offsetsAt g p l) (decode w)) (sym (h .left-is)) ∙ i .rest
+  here-rest h = cc
 
   here-counted : (h : Here i) → k + length (offsetsAt g p (h .x ∷ h .rest)) ≡ c
-  here-counted h = ap (λ l. k + length (offsetsAt g p l)) (sym (h .left-is)) ∙ i .counted
+  here-counted h = cc
 
   -- A segment that holds no block of the group.
-  pub sweep-past : (h : Here i) → offsetsAt g p (h .x ∷ h .rest) ≡ offsetsAt g (p + pages (h .x)) (h .rest) → (len next before j : ℕ) → len ≡ pages (h .x) → next ≡ p + len → before ≡ runPages (h .x) → j ≡ k → Sweep g t c w n next before j
+  pub sweep-past : (h : Here i) → offsetsAt g p (h .x ∷ h .rest) ≡ offsetsAt g (p + pages (h .x)) (h .rest) → (len next before j : ℕ) → len ≡ pages (h .x) → next ≡ p + len
+      → before ≡ runPages (h .x) → j ≡ k → Sweep g t c w n next before j
   sweep-past h e len next before j el en eb ej = record {
     good = i .good;
     before = i .before ++ (h .x ∷ []);
     left = h .rest;
-    whole = i .whole ∙ ap (λ l. i .before ++ l) (h .left-is) ∙ sym (append-assoc (i .before) (h .x ∷ []) (h .rest));
-    starts = omega (arith, total-append (i .before) (h .x ∷ []), i .starts, el, en);
+    whole = cc (append-assoc (i .before) (h .x ∷ []) (h .rest));
+    starts = omega (arith, total-append (i .before) (h .x ∷ []));
     ends = run-at-end 0 (i .before) (h .x) ∙ sym eb;
-    rest = ap (λ q. freedAll (offsetsAt g q (h .rest)) (decode w)) at ∙ ap (λ l. freedAll l (decode w)) (sym e) ∙ here-rest h;
+    rest = cc (here-rest h);
     counted = (λ y. ej y + length (offsetsAt g (at y) (h .rest))) ∙ ap (λ l. k + length l) (sym e) ∙ here-counted h;
   }
     where
       at : next ≡ p + pages (h .x)
-      at = omega (arith, el, en)
+      at = omega arith
 
 -- The state of the words w once chunk i of the zone at page p has come back, and what has become of the zone.
 abbrev pub returned : List ℕ → ℕ → ℕ → State
@@ -116,11 +116,11 @@ Rests y w p i = Remains y i p (zoneAt p (decode w .segments)) (decode w) (return
 pub chunk-told : (s : State) → Valid s → {p b : ℕ} (i g : ℕ) (z : Zone) → Stands (s .segments) p b (zone z) → getD (z .owners) i 0 ≡ g → 0 < g → Tells s (p * 4096 + i * room (z .class)) (Chunk p b (z .class) i g)
 chunk-told s v {p} {b} i g z st e h =
     let ok = zone-valid s p b z st v in
-    let low : i < chunks (z .class) = omega (arith, owned-touched (z .owners) i (omega (arith, e)), ok .fits) in
+    let low : i < chunks (z .class) = omega (arith, owned-touched (z .owners) i (omega (arith, e))) in
     let block : blockAt (pageMap s) (p * 4096 + i * room (z .class)) ≡ chunkOf (z .class) i g =
-    block-here s st (p * 4096 + i * room (z .class)) (i * room (z .class)) refl (chunk-begins (z .class) i low)
-    ∙ rw (eq-eqb (i * room (z .class) % room (z .class)) 0 (mul-mod-left i (room (z .class))))
-    (ap (λ q. chunkOf (z .class) q (getD (occupancy z .groups) q 0)) (mul-div-cancel i (room-pos (z .class))) ∙ ap (chunkOf (z .class) i) (group-shown z ok i ∙ e)) in
+    block-here s st _ (i * room (z .class)) refl (chunk-begins (z .class) i low)
+    ∙ rw (eq-eqb _ 0 (mul-mod-left i (room (z .class))))
+    (cc (mul-div-cancel i (room-pos (z .class)), group-shown z ok i)) in
     (block ∙ live-chunk (z .class) i g h, (z, st, refl, e), refl)
 
 module _ {g c n p b i k : ℕ} {t : State} {w : List ℕ} (h : InZone g t c w n p b i k) where
@@ -145,8 +145,8 @@ module _ {g c n p b i k : ℕ} {t : State} {w : List ℕ} (h : InZone g t c w n 
     good = h .good;
     z = z;
     stands = h .stands;
-    rest = ap (λ x. freedAll (x ++ tail) s) (sym e) ∙ h .rest;
-    counted = ap (λ x. k + length (x ++ tail)) (sym e) ∙ h .counted;
+    rest = cc;
+    counted = cc;
   }
 
   -- Behind the last chunk.
@@ -155,23 +155,23 @@ module _ {g c n p b i k : ℕ} {t : State} {w : List ℕ} (h : InZone g t c w n 
     good = h .good;
     before = h .stands .before ++ (zone z ∷ []);
     left = h .stands .behind;
-    whole = h .stands .whole ∙ sym (append-assoc (h .stands .before) (zone z ∷ []) (h .stands .behind));
-    starts = omega (arith, total-append (h .stands .before) (zone z ∷ []), h .stands .starts, en);
+    whole = cc (append-assoc (h .stands .before) (zone z ∷ []) (h .stands .behind));
+    starts = omega (arith, total-append (h .stands .before) (zone z ∷ []));
     ends = run-at-end 0 (h .stands .before) (zone z) ∙ sym eb;
-    rest = ap (λ q. freedAll (offsetsAt g q (h .stands .behind)) s) en ∙ ap (λ x. freedAll (x ++ tail) s) (sym e) ∙ h .rest;
+    rest = cc;
     counted = (λ y. ej y + length (offsetsAt g (en y) (h .stands .behind))) ∙ ap (λ x. k + length (x ++ tail)) (sym e) ∙ h .counted;
   }
 
   -- A chunk of the group comes back.
   module _ (pos : 0 < g) (mine : getD (h .z .owners) i 0 ≡ g) where
     zone-live : LiveChunk (decode w) p b i
-    zone-live = record { z = z; stands = h .stands; live = omega (arith, mine) }
+    zone-live = record { z = z; stands = h .stands; live = omega arith }
 
     is : zoneAt p (s .segments) ≡ z
     is = zone-is s p b z (h .stands)
 
     taken : offsetsIn g p i z ≡ (p * 4096 + i * room (z .class)) ∷ offsetsIn g p (i + 1) z
-    taken = in-take g p i z ok (inside (owned-touched (z .owners) i (omega (arith, mine)))) mine
+    taken = in-take g p i z ok (inside (owned-touched (z .owners) i (omega arith))) mine
 
     told : Tells s (p * 4096 + i * room (z .class)) (Chunk p b (z .class) i g)
     told = chunk-told s (h .good .valid) i g z (h .stands) mine pos
@@ -187,27 +187,27 @@ module _ {g c n p b i k : ℕ} {t : State} {w : List ℕ} (h : InZone g t c w n 
         ∙ h .rest
 
     left : k + 1 + length (offsetsIn g p (i + 1) z ++ tail) ≡ c
-    left = omega (arith, h .counted, ap (λ x. length (x ++ tail)) taken)
+    left = omega (arith, ap (λ x. length (x ++ tail)) taken)
 
     -- The zone with the chunk on its chain.
     put : Stands (putZone p (putBack i z) (s .segments)) p b (zone (putBack i z))
-    put = put-stands (putBack i z) (h .stands)
+    put = put-stands _ (h .stands)
 
     put-whole : putZone p (putBack i z) (s .segments) ≡ h .stands .before ++ (zone (putBack i z) ∷ h .stands .behind)
     put-whole = edit-stands (h .stands) (λ _. zone (putBack i z) ∷ []) (omega arith)
 
     put-total : total (putZone p (putBack i z) (s .segments)) ≡ total (s .segments)
-    put-total = put-size (s .segments) p z (putBack i z) (zone-begins s p b z (h .stands))
+    put-total = put-size (s .segments) p z _ (zone-begins s p b z (h .stands))
 
     same-zone : putZone p (putBack i (zoneAt p (s .segments))) (s .segments) ≡ putZone p (putBack i z) (s .segments)
-    same-zone = ap (λ y. putZone p (putBack i y) (s .segments)) is
+    same-zone = cc is
 
     module _ {v : List ℕ} (e : v ≡ encode (returned w p i)) where
       valid : Valid s′
       valid = back-valid (h .good) zone-live
 
       good : total (s′ .segments) ≡ total (decode w .segments) → Good v n
-      good size = good-of v s′ n valid e (h .good .pages ∙ sym size)
+      good size = good-of v s′ n valid e (cc)
 
       decoded : decode v ≡ s′
       decoded = good-decoded v s′ valid e
@@ -215,53 +215,49 @@ module _ {g c n p b i k : ℕ} {t : State} {w : List ℕ} (h : InZone g t c w n 
       -- The zone stands.
       pub zone-stays : Rests true w p i → InZone g t c v n p b (i + 1) (k + 1)
       zone-stays m = let as-put : s′ .segments ≡ putZone p (putBack i z) (s .segments) = m ∙ same-zone in record {
-        good = good (ap (λ l. total l) as-put ∙ put-total);
+        good = good (rw as-put put-total);
         z = putBack i z;
-        stands = record { before = h .stands .before; behind = h .stands .behind; whole = ap (λ y. y .segments) decoded ∙ as-put ∙ put-whole; starts = h .stands .starts; ends = h .stands .ends };
+        stands = record { before = h .stands .before; behind = h .stands .behind; whole = cc (decoded, as-put, put-whole); starts = h .stands .starts; ends = h .stands .ends };
         rest = (λ j. freedAll (sym (in-back g p i z ok) j ++ tail) (decoded j)) ∙ after;
-        counted = ap (λ x. k + 1 + length (x ++ tail)) (sym (in-back g p i z ok)) ∙ left;
+        counted = cc (in-back g p i z ok, left);
       }
 
       -- It has handed out as many chunks as before.
       pub stays-touched : Rests true w p i → touched (zoneAt p (decode v .segments)) ≡ touched (zoneAt p (decode w .segments))
       stays-touched m =
-          ap (λ y. touched (zoneAt p (y .segments))) decoded
-          ∙ ap (λ l. touched (zoneAt p l)) (m ∙ same-zone)
-          ∙ ap (λ y. touched y) (put-zone-at (s .segments) p z (putBack i z) (zone-begins s p b z (h .stands)))
-          ∙ length-set (z .owners) i 0
-          ∙ ap (λ y. touched y) (sym is)
+          cc (decoded, m, same-zone, put-zone-at (s .segments) p z (putBack i z) (zone-begins s p b z (h .stands)), length-set (z .owners) i 0, is)
 
       -- Its pages have come back.
       module _ (m : Rests false w p i) where
         freed-as : s′ .segments ≡ release (p * 4096) (putZone p (putBack i z) (s .segments))
-        freed-as = m .0 ∙ ap (release (p * 4096)) same-zone
+        freed-as = cc (m .0, same-zone)
 
         size : total (s′ .segments) ≡ total (s .segments)
-        size = ap (λ l. total l) freed-as ∙ release-total put (omega arith) ∙ put-total
+        size = cc (freed-as, release-total put (omega arith), put-total)
 
         pub gone-good : Good v n
         gone-good = good size
 
         pub gone-segments : decode v .segments ≡ release (p * 4096) (putZone p (putBack i (h .z)) (decode w .segments))
-        gone-segments = ap (λ y. y .segments) decoded ∙ freed-as
+        gone-segments = rw decoded freed-as
 
         pub gone-joined : Joined (putZone p (putBack i (h .z)) (decode w .segments)) p b 8 (h .stands .behind)
         gone-joined =
-            joined-run (putZone p (putBack i z) (s .segments)) p b (zone (putBack i z))
-            (put-apart (s .segments) p z (putBack i z) (zone-begins s p b z (h .stands)) (h .good .valid .apart))
-            (put-sound (s .segments) p z (putBack i z) (zone-begins s p b z (h .stands)) (putBack-valid i z ok (omega (arith, mine))) (h .good .valid .sound))
-            (omega (arith, put-total, h .good .valid .most))
+            joined-run _ p b _
+            (put-apart (s .segments) p z _ (zone-begins s p b z (h .stands)) (h .good .valid .apart))
+            (put-sound (s .segments) p z _ (zone-begins s p b z (h .stands)) (putBack-valid i z ok (omega arith)) (h .good .valid .sound))
+            (omega (arith, put-total))
             (record { before = h .stands .before; behind = h .stands .behind; whole = put-whole; starts = h .stands .starts; ends = h .stands .ends })
             refl
 
         none-left : offsetsIn g p (i + 1) z ≡ []
-        none-left = in-back g p i z ok ∙ in-idle g p (i + 1) (putBack i z) pos (ap (λ y. idleZone (putBack i y)) (sym is) ∙ m .1)
+        none-left = in-back g p i z ok ∙ in-idle g p (i + 1) (putBack i z) pos (cc (is, m .1))
 
         pub gone-rest : freedAll (offsetsAt g (p + zonePages) (h .stands .behind)) (decode v) ≡ t
-        gone-rest = ap (freedAll tail) decoded ∙ ap (λ x. freedAll (x ++ tail) s′) (sym none-left) ∙ after
+        gone-rest = cc (decoded, none-left, after)
 
         pub gone-counted : k + 1 + length (offsetsAt g (p + zonePages) (h .stands .behind)) ≡ c
-        gone-counted = ap (λ x. k + 1 + length (x ++ tail)) (sym none-left) ∙ left
+        gone-counted = cc (none-left, left)
 
 -- A direct block ------------------------------------------------------------------------------------------------------------------
 
@@ -270,35 +266,32 @@ module _ {g c n p b k len : ℕ} {t : State} {w : List ℕ} (i : Sweep g t c w n
   block = record { before = i .before; behind = behind; whole = i .whole ∙ ap (λ l. i .before ++ l) is; starts = i .starts; ends = i .ends }
 
   some-pages : 0 < len
-  some-pages = (each-right (i .before) (direct len g ∷ behind) (subst (λ l. Each Writable l) (i .whole ∙ ap (λ l. i .before ++ l) is) (i .good .lent .sound))) .0 .0
+  some-pages = (each-right (i .before) _ (rw (i .whole ∙ ap (λ l. i .before ++ l) is) at (i .good .lent .sound))) .0 .0
 
   block-told : Tells (decode w) (p * 4096) (Whole p len b g)
   block-told = found-whole (decode w) block (p * 4096) refl some-pages
 
   valid-after : Valid (released p (decode w))
-  valid-after = subst Valid (whole-freed (decode w) len block-told) (freed-valid (decode w) (i .good .valid) (p * 4096) (whole len g) (block-told .0))
+  valid-after = subst Valid (whole-freed (decode w) len block-told) (freed-valid (decode w) (i .good .valid) (p * 4096) _ (block-told .0))
 
   block-decoded : decode v ≡ released p (decode w)
-  block-decoded = good-decoded v (released p (decode w)) valid-after e
+  block-decoded = good-decoded v _ valid-after e
 
   pub block-good : Good v n
-  block-good = good-of v (released p (decode w)) n valid-after e (i .good .pages ∙ sym (release-total block some-pages))
+  block-good = good-of v _ n valid-after e (cc (release-total block some-pages))
 
   pub block-segments : decode v .segments ≡ release (p * 4096) (decode w .segments)
-  block-segments = ap (λ y. y .segments) block-decoded
+  block-segments = cc block-decoded
 
   pub block-joined : Joined (decode w .segments) p b len behind
-  block-joined = joined-run (decode w .segments) p b (direct len g) (i .good .valid .apart) (i .good .valid .sound) (i .good .valid .most) block refl
+  block-joined = joined-run _ p b _ (i .good .valid .apart) (i .good .valid .sound) (i .good .valid .most) block refl
 
   all-offsets : offsetsAt g p (i .left) ≡ (p * 4096) ∷ offsetsAt g (p + len) behind
-  all-offsets = ap (offsetsAt g p) is ∙ at-direct g p behind len
+  all-offsets = cc (at-direct g p behind len)
 
   pub block-rest : freedAll (offsetsAt g (p + len) behind) (decode v) ≡ t
   block-rest =
-      ap (freedAll (offsetsAt g (p + len) behind)) (block-decoded ∙ sym (whole-freed (decode w) len block-told))
-      ∙ ap (λ y. freedAll (offsetsAt g (p + len) behind) (freedIf (p * 4096) y (decode w))) (sym (block-told .0))
-      ∙ ap (λ l. freedAll l (decode w)) (sym all-offsets)
-      ∙ i .rest
+      cc (block-decoded, whole-freed (decode w) len block-told, block-told .0, all-offsets, i .rest)
 
   pub block-counted : k + 1 + length (offsetsAt g (p + len) behind) ≡ c
-  block-counted = omega (arith, i .counted, ap (λ l. length l) all-offsets)
+  block-counted = omega (arith, ap (λ l. length l) all-offsets)

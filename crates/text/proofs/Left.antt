@@ -2,7 +2,7 @@
 -- `left-all`, takes one `left-step` for each piece that it writes, has from `left-bounded` what the next writer requires, and
 -- ends with `left-done`. Assumes nothing.
 use Prim.Native.Nat.{ℕ, _+_, _<_}
-use mathlib.Core.Path.{_≡_, refl, sym, ap, _∙_, subst}
+use mathlib.Core.Path.{_≡_, refl, sym, ap, _∙_}
 use mathlib.Core.List.{List, [], _∷_, _++_, append-assoc, append-nil}
 use native.Mathlib.Omega.{arith}
 use lib.ListN.{length, drop, getD, length-append}

@@ -29,16 +29,16 @@ run-cons zero x r = refl
 run-cons (suc b) x r = refl
 
 pub run-then : (l : List (Segment Zone)) (b : ℕ) (r : List (Segment Zone)) → (l ++ withRun b []) ++ r ≡ l ++ withRun b r
-run-then l b r = append-assoc l (withRun b []) r ∙ ap (λ k. l ++ k) (run-append b r)
+run-then l b r = cc (append-assoc l (withRun b []) r, run-append b r)
 
 pub run-ends : (l : List (Segment Zone)) (b : ℕ) → runAtEnd 0 l ≡ 0 → runAtEnd 0 (l ++ withRun b []) ≡ b
-run-ends l zero h = ap (λ k. runAtEnd 0 k) (append-nil l) ∙ h
-run-ends l (suc b) h = run-at-end 0 l (run (suc b))
+run-ends l zero h = cc (append-nil l)
+run-ends l (suc b) h = run-at-end 0 l _
 
 -- Runs have pages: where the run at the end has none, there is no run at the end.
 no-run-ends : (c e : Bool) (k : ℕ) (l : List (Segment Zone)) → Apart c l → runAtEnd k l ≡ 0 → (k ≡ 0 → e ≡ false) → endsRun e l ≡ false
 no-run-ends c e k [] h q f = f q
-no-run-ends c e k (run n ∷ r) h q f = no-run-ends true true n r (h .2) q (λ z. absurd (omega (arith, h .1)))
+no-run-ends c e k (run n ∷ r) h q f = no-run-ends true true n r (h .2) q (λ z. absurd (omega arith))
 no-run-ends c e k (direct n g ∷ r) h q f = no-run-ends false false 0 r h q (λ _. refl)
 no-run-ends c e k (zone z ∷ r) h q f = no-run-ends false false 0 r h q (λ _. refl)
 
@@ -49,19 +49,19 @@ module _ {m : List (Segment Zone)} {p b a : ℕ} {z : Zone} (t : Between m p b a
   between-stands = record {
     before = t .before ++ withRun b [];
     behind = withRun a (t .behind);
-    whole = t .whole ∙ sym (run-then (t .before) b (zone z ∷ withRun a (t .behind)));
-    starts = omega (arith, t .starts, total-append (t .before) (withRun b []), total-withRun {Z = Zone} b []);
+    whole = t .whole ∙ sym (run-then (t .before) b _);
+    starts = omega (arith, total-append (t .before) (withRun b []), total-withRun {Z = Zone} b []);
     ends = run-ends (t .before) b (t .no-run);
   }
 
   module _ (h : Apart false m) where
     front : Apart false (t .before)
-    front = apart-front false (t .before) (withRun b (zone z ∷ withRun a (t .behind))) (subst (Apart false) (t .whole) h)
+    front = apart-front false (t .before) _ (subst (Apart false) (t .whole) h)
 
     pub between-released : release (p * 4096) m ≡ t .before ++ (run (b + zonePages + a) ∷ t .behind)
     unfolding between-stands
     between-released =
-        ap (joined (λ _. false) 0) (edit-stands between-stands freePages (omega arith) ∙ run-then (t .before) b (run 8 ∷ withRun a (t .behind)))
+        ap (joined (λ _. false) 0) (edit-stands between-stands freePages (omega arith) ∙ run-then (t .before) b _)
         ∙ joined-local (t .before) (t .behind) b 8 a (omega arith) front (no-run-ends false false 0 (t .before) front (t .no-run) (λ _. refl)) (t .apart)
 
     -- The run that they become part of.
@@ -70,6 +70,6 @@ module _ {m : List (Segment Zone)} {p b a : ℕ} {z : Zone} (t : Between m p b a
       before = t .before;
       behind = t .behind;
       whole = between-released;
-      starts = omega (arith, t .starts);
+      starts = omega arith;
       ends = t .no-run;
     }

@@ -72,7 +72,7 @@ count-run (suc a) r = refl
 
 swept-run : (p a q : ℕ) (r : List (Segment Zone)) (ls : List (List ℕ)) → p + a ≡ q → sweptLists p (withRun a r) ls ≡ sweptLists q r ls
 swept-run p zero q r ls e = ap (λ k. sweptLists k r ls) (omega arith)
-swept-run p (suc a) q r ls e = ap (λ k. sweptLists k r ls) e
+swept-run p (suc a) q r ls e = cc
 
 apart-zone : (c : Bool) (b : ℕ) (z : Zone) (r : List (Segment Zone)) → Apart c (withRun b (zone z ∷ r)) → Apart false r
 apart-zone c zero z r h = h
@@ -84,10 +84,10 @@ apart-runs c (suc b) n r h = true-false refl (h .2 .0)
 
 module _ {s₀ s : State} {n p b k : ℕ} (i : Sweeping s₀ s n p b k) where
   pages-left : p + total (i .left) ≡ n
-  pages-left = omega (arith, i .starts, i .size, ap (λ l. total l) (i .whole), total-append (i .before) (withRun b (i .left)), total-withRun b (i .left))
+  pages-left = omega (arith, ap (λ l. total l) (i .whole), total-append (i .before) (withRun b (i .left)), total-withRun b (i .left))
 
   behind-it : (c : Bool) × Apart c (withRun b (i .left))
-  behind-it = apart-from false (i .before) (withRun b (i .left)) (subst (Apart false) (i .whole) (i .apart))
+  behind-it = apart-from false (i .before) _ (subst (Apart false) (i .whole) (i .apart))
 
   -- The segment at page p.
   pub record Next : Type 0 where
@@ -106,78 +106,79 @@ module _ {s₀ s : State} {n p b k : ℕ} (i : Sweeping s₀ s n p b k) where
   next-stands t = record {
     before = i .before ++ withRun b [];
     behind = t .rest;
-    whole = i .whole ∙ ap (λ l. i .before ++ withRun b l) (t .left-is) ∙ sym (run-then (i .before) b (t .x ∷ t .rest));
-    starts = omega (arith, i .starts, total-append (i .before) (withRun b []), total-withRun {Z = Zone} b []);
+    whole = cc (run-then (i .before) b (t .x ∷ t .rest));
+    starts = omega (arith, total-append (i .before) (withRun b []), total-withRun {Z = Zone} b []);
     ends = run-ends (i .before) b (i .no-run);
   }
 
   -- ---- past a segment that stays
 
   -- It is no run.
-  past-solid : (x : Segment Zone) (r : List (Segment Zone)) → i .left ≡ x ∷ r → runPages x ≡ 0 → joined idleZone b (x ∷ r) ≡ withRun b (x ∷ joined idleZone 0 r) → idleCount (x ∷ r) ≡ idleCount r → sweptBy p x (s .lists) ≡ s .lists → Sweeping s₀ s n (p + pages x) 0 k
+  past-solid : (x : Segment Zone) (r : List (Segment Zone)) → i .left ≡ x ∷ r → runPages x ≡ 0 → joined idleZone b (x ∷ r) ≡ withRun b (x ∷ joined idleZone 0 r)
+      → idleCount (x ∷ r) ≡ idleCount r → sweptBy p x (s .lists) ≡ s .lists → Sweeping s₀ s n (p + pages x) 0 k
   past-solid x r e nr j c w = record {
     before = i .before ++ withRun b (x ∷ []);
     left = r;
-    whole = i .whole ∙ ap (λ l. i .before ++ withRun b l) e ∙ behind r;
-    starts = omega (arith, i .starts, total-append (i .before) (withRun b (x ∷ [])), total-withRun b (x ∷ []));
-    no-run = ap (λ l. runAtEnd 0 l) (sym (run-then (i .before) b (x ∷ []))) ∙ run-at-end 0 (i .before ++ withRun b []) x ∙ nr;
+    whole = cc (behind r);
+    starts = omega (arith, total-append (i .before) (withRun b (x ∷ [])), total-withRun b (x ∷ []));
+    no-run = cc (run-then (i .before) b (x ∷ []), run-at-end 0 (i .before ++ withRun b []) x);
     apart = i .apart;
     size = i .size;
-    few = omega (arith, i .few);
-    segments = sym (behind (joined idleZone 0 r)) ∙ ap (λ l. i .before ++ l) (sym j) ∙ ap (λ l. i .before ++ joined idleZone b l) (sym e) ∙ i .segments;
-    count = omega (arith, i .count, ap (λ l. idleCount l) e, c);
+    few = omega arith;
+    segments = cc (behind (joined idleZone 0 r));
+    count = omega (arith, ap (λ l. idleCount l) e);
     spare = i .spare;
-    lists = ap (sweptLists (p + pages x) r) (sym w) ∙ ap (λ l. sweptLists p l (s .lists)) (sym e) ∙ i .lists;
+    lists = cc;
   }
     where
       behind : (l : List (Segment Zone)) → i .before ++ withRun b (x ∷ l) ≡ (i .before ++ withRun b (x ∷ [])) ++ l
-      behind l = ap (λ y. i .before ++ y) (run-cons b x l) ∙ sym (append-assoc (i .before) (withRun b (x ∷ [])) l)
+      behind l = cc (run-cons b x l, append-assoc (i .before) (withRun b (x ∷ [])) l)
 
   -- It is a run: no other stands before it.
   past-run : (j : ℕ) (r : List (Segment Zone)) → i .left ≡ run j ∷ r → Sweeping s₀ s n (p + j) j k
   past-run j r e = record {
     before = i .before;
     left = r;
-    whole = i .whole ∙ ap (λ l. i .before ++ withRun b l) e ∙ ap (λ y. i .before ++ withRun y (run j ∷ r)) (alone .0) ∙ ap (λ l. i .before ++ l) (some-run j r (alone .1));
-    starts = omega (arith, i .starts, alone .0);
+    whole = cc (i .whole, e, alone .0, some-run j r (alone .1));
+    starts = omega (arith, alone .0);
     no-run = i .no-run;
     apart = i .apart;
     size = i .size;
-    few = omega (arith, i .few);
+    few = omega arith;
     segments = ap (λ y. i .before ++ joined idleZone y r) (let q : j ≡ b + j = omega (arith, alone .0) in q) ∙ ap (λ l. i .before ++ joined idleZone b l) (sym e) ∙ i .segments;
-    count = omega (arith, i .count, ap (λ l. idleCount l) e);
+    count = omega (arith, ap (λ l. idleCount l) e);
     spare = i .spare;
-    lists = ap (λ l. sweptLists p l (s .lists)) (sym e) ∙ i .lists;
+    lists = cc;
   }
     where
       alone : (b ≡ 0) × (0 < j)
-      alone = apart-runs (behind-it .0) b j r (subst (λ l. Apart (behind-it .0) (withRun b l)) e (behind-it .1))
+      alone = apart-runs _ b j r (subst (λ l. Apart (behind-it .0) (withRun b l)) e (behind-it .1))
 
   pub sweep-past : (t : Next) → idleSegment (t .x) ≡ false → Sweeping s₀ s n (p + pages (t .x)) (runPages (t .x)) k
   sweep-past t h = go (t .x) (t .left-is) h
     where
       go : (x : Segment Zone) → i .left ≡ x ∷ t .rest → idleSegment x ≡ false → Sweeping s₀ s n (p + pages x) (runPages x) k
       go (run j) e f = past-run j (t .rest) e
-      go (direct j g) e f = past-solid (direct j g) (t .rest) e refl refl refl refl
+      go (direct j g) e f = past-solid _ (t .rest) e refl refl refl refl
       go (zone z) e f = past-solid (zone z) (t .rest) e refl (rw f) (rw f) (rw f)
 
   -- ---- an idle zone is given back
 
   module _ (t : Next) (z : Zone) (e : t .x ≡ zone z) where
     at-zone : i .left ≡ zone z ∷ t .rest
-    at-zone = t .left-is ∙ ap (λ x. x ∷ t .rest) e
+    at-zone = cc
 
     after : Begun (t .rest) (runAtStart (t .rest))
-    after = begun (t .rest) (apart-zone (behind-it .0) b z (t .rest) (subst (λ l. Apart (behind-it .0) (withRun b l)) at-zone (behind-it .1)))
+    after = begun (t .rest) (apart-zone _ b z (t .rest) (subst (λ l. Apart (behind-it .0) (withRun b l)) at-zone (behind-it .1)))
 
     zone-left : i .left ≡ zone z ∷ withRun (runAtStart (t .rest)) (after .rest)
-    zone-left = at-zone ∙ ap (λ r. zone z ∷ r) (after .is)
+    zone-left = cc (at-zone, after .is)
 
     pub sweep-between : Between (s .segments) p b (runAtStart (t .rest)) z
     sweep-between = record {
       before = i .before;
       behind = after .rest;
-      whole = i .whole ∙ ap (λ l. i .before ++ withRun b l) zone-left;
+      whole = cc (i .whole, zone-left);
       starts = i .starts;
       no-run = i .no-run;
       apart = after .apart;
@@ -192,16 +193,16 @@ module _ {s₀ s : State} {n p b k : ℕ} (i : Sweeping s₀ s n p b k) where
       sweep-given = record {
         before = i .before;
         left = after .rest;
-        whole = between-released sweep-between (i .apart) ∙ ap (λ l. i .before ++ l) (some-run (b + zonePages + a) (after .rest) (omega arith));
-        starts = omega (arith, i .starts);
+        whole = cc (between-released sweep-between (i .apart), some-run (b + zonePages + a) (after .rest) (omega arith));
+        starts = omega arith;
         no-run = i .no-run;
         apart = joined-apart (λ _. false) 0 (edit (p * 4096) freePages (s .segments));
-        size = i .size ∙ sym (release-total (between-stands sweep-between) (omega arith));
-        few = omega (arith, i .few, i .starts);
-        segments = ap (λ l. i .before ++ l) (sym (joined-run (b + zonePages) a (after .rest)) ∙ idle-joins (withRun a (after .rest))) ∙ ap (λ l. i .before ++ joined idleZone b l) (sym zone-left) ∙ i .segments;
-        count = omega (arith, i .count, ap (λ l. idleCount l) zone-left, idle-counts (withRun a (after .rest)), count-run a (after .rest));
+        size = cc (release-total (between-stands sweep-between) (omega arith));
+        few = omega arith;
+        segments = cc (joined-run (b + zonePages) a (after .rest), idle-joins (withRun a (after .rest)), zone-left, i .segments);
+        count = omega (arith, ap (λ l. idleCount l) zone-left, idle-counts (withRun a (after .rest)), count-run a (after .rest));
         spare = i .spare;
-        lists = sym (swept-run (p + zonePages) a (p - b + (b + zonePages + a)) (after .rest) new (omega (arith, i .starts))) ∙ idle-sweeps (withRun a (after .rest)) ∙ ap (λ l. sweptLists p l (s .lists)) (sym zone-left) ∙ i .lists;
+        lists = cc (swept-run (p + zonePages) a (p - b + (b + zonePages + a)) (after .rest) new (omega (arith, i .starts)), idle-sweeps (withRun a (after .rest)), zone-left, i .lists);
       }
         where
           new : List (List ℕ)
@@ -223,7 +224,7 @@ module _ {s₀ s : State} {n p b k : ℕ} (i : Sweeping s₀ s n p b k) where
     where
       go : (l : List (Segment Zone)) → i .left ≡ l → (k ≡ idleCount (s₀ .segments)) × (s ≡ trimmed s₀)
       go [] e = (
-        omega (arith, i .count, ap (λ l. idleCount l) e),
+        omega (arith, ap (λ l. idleCount l) e),
         λ j. record {
           segments = (i .whole ∙ ap (λ l. i .before ++ withRun b l) e ∙ ap (λ l. i .before ++ joined idleZone b l) (sym e) ∙ i .segments) j;
           lists = (ap (λ l. sweptLists p l (s .lists)) (sym e) ∙ i .lists ∙ v) j;
@@ -233,4 +234,4 @@ module _ {s₀ s : State} {n p b k : ℕ} (i : Sweeping s₀ s n p b k) where
       go (x ∷ r) e = absurd (omega (arith, pages-left, ap (λ l. total l) e, some-pages))
         where
           some-pages : 0 < pages x
-          some-pages = (each-right (i .before ++ withRun b []) (x ∷ r) (subst (λ l. Each Writable l) (i .whole ∙ ap (λ l. i .before ++ withRun b l) e ∙ sym (run-then (i .before) b (x ∷ r))) w)) .0 .0
+          some-pages = (each-right (i .before ++ withRun b []) (x ∷ r) (rw (i .whole ∙ ap (λ l. i .before ++ withRun b l) e ∙ sym (run-then (i .before) b (x ∷ r))) at w)) .0 .0

@@ -32,7 +32,7 @@ use Rattle.zone.specs.Encoding.{kindZone}
 
 -- What holds of a state holds of the state that its words decode to.
 pub in-words {ℓ} : {w : List ℕ} {s : State} → Encodes w s → (P : State → Type ℓ) → P s → P (decode w)
-in-words h P k = subst P (sym (lent-decoded h)) k
+in-words h P k = rw (lent-decoded h) k
 
 -- ---- a segment that begins at page p
 
@@ -59,17 +59,17 @@ module _ {m : List (Segment Zone)} {p b : ℕ} {x : Segment Zone} (s : Stands m 
   kind-here = let q = zone-by-kind x k in zone-here {b = b} {z = q .0} (subst (λ y. Stands m p b y) (q .1) s)
 
   pub kind-idle : idleZone (zoneAt p m) ≡ idleSegment x
-  kind-idle = let q = zone-by-kind x k in ap (λ z. idleZone z) (zone-there {b = b} {z = q .0} (subst (λ y. Stands m p b y) (q .1) s)) ∙ ap (λ y. idleSegment y) (sym (q .1))
+  kind-idle = let q = zone-by-kind x k in rw (zone-there {b = b} {z = q .0} (subst (λ y. Stands m p b y) (q .1) s)) (ap (λ y. idleSegment y) (sym (q .1)))
 
 -- ---- a zone is given back
 
 -- A zone that begins at the page p: its class, and the page as a number for the lists.
 module _ {w : List ℕ} (h : Lent w) (p : ℕ) (b : ZoneHere (decode w) p) where
   pub class-low : zoneAt p (decode w .segments) .class < classCount
-  class-low = (zone-valid h p (zoneAt p (decode w .segments)) b) .class
+  class-low = (zone-valid h p _ b) .class
 
   pub page-low : p < mostPages
-  page-low = let r = zone-inside h p (zoneAt p (decode w .segments)) b in omega arith
+  page-low = let r = zone-inside h p _ b in omega arith
 
 each-behind : (b : ℕ) (r : List (Segment Zone)) → Each Writable (withRun b r) → Each Writable r
 each-behind zero r h = h
@@ -86,29 +86,29 @@ module _ {w : List ℕ} (h : Lent w) (apart : Apart false (decode w .segments)) 
   given-here = zone-here stands
 
   class-is : zoneAt p m .class ≡ z .class
-  class-is = ap (λ y. y .class) (zone-there stands)
+  class-is = cc (zone-there stands)
 
   listed-fits : Fits (total m) (decode w .spare) (unlisted (z .class) p (decode w) .lists)
-  listed-fits = fits-remove (h .fits) (z .class) p (subst (λ k. k < classCount) class-is (class-low h p given-here))
+  listed-fits = fits-remove (h .fits) (z .class) p (rw class-is at (class-low h p given-here))
 
   -- It has left its class's list.
   pub given-listed : {v : List ℕ} → v ≡ encode (unlisted (zoneAt p m .class) p (decode w)) → Encodes v (unlisted (z .class) p (decode w))
-  given-listed f = record { words = f ∙ ap (λ k. encode (unlisted k p (decode w))) class-is; fits = listed-fits; sound = h .sound }
+  given-listed f = record { words = cc (f, class-is); fits = listed-fits; sound = h .sound }
 
   sound-all : Each Writable (t .before ++ withRun b (zone z ∷ withRun a (t .behind)))
   sound-all = subst (λ l. Each Writable l) (t .whole) (h .sound)
 
   released-sound : Each Writable (release (p * 4096) m)
   released-sound = subst (λ l. Each Writable l) (sym (between-released t apart))
-      (each-append Writable (t .before) (run (b + zonePages + a) ∷ t .behind) (each-left (t .before) (withRun b (zone z ∷ withRun a (t .behind))) sound-all)
-      ((omega arith, tt), each-behind a (t .behind) (each-behind b (zone z ∷ withRun a (t .behind)) (each-right (t .before) (withRun b (zone z ∷ withRun a (t .behind))) sound-all) .1)))
+      (each-append Writable (t .before) _ (each-left (t .before) _ sound-all)
+      ((omega arith, tt), each-behind a (t .behind) (each-behind b _ (each-right (t .before) _ sound-all) .1)))
 
   -- Its pages have come back.
   pub given-back : (v : List ℕ) → v ≡ encode (released p (unlisted (z .class) p (decode w))) → Encodes v (released p (unlisted (z .class) p (decode w)))
-  given-back v e = record { words = e; fits = subst (λ k. Fits k (decode w .spare) (unlisted (z .class) p (decode w) .lists)) (sym (release-total stands (omega arith))) listed-fits; sound = released-sound }
+  given-back v e = record { words = e; fits = rw (release-total stands (omega arith)) listed-fits; sound = released-sound }
 
   pub given-after : {v₁ v₂ : List ℕ} → Encodes v₁ (unlisted (z .class) p (decode w)) → v₂ ≡ encode (released p (decode v₁)) → Encodes v₂ (released p (unlisted (z .class) p (decode w)))
-  given-after {v₁} {v₂} h₁ e = given-back v₂ (e ∙ ap (λ s. encode (released p s)) (lent-decoded h₁))
+  given-after {v₁} {v₂} h₁ e = given-back v₂ (cc (lent-decoded h₁))
 
   -- The run that they are now part of.
   pub run-there : {v : List ℕ} → Encodes v (released p (unlisted (z .class) p (decode w))) → Stands (decode v .segments) (p - b) 0 (run (b + zonePages + a))
@@ -116,7 +116,8 @@ module _ {w : List ℕ} (h : Lent w) (apart : Apart false (decode w .segments)) 
 
   -- What the steps on such words ask.
   module _ (n : ℕ) (all : n ≡ total m) {v : List ℕ} where
-    pub give-asks : Encodes v (unlisted (z .class) p (decode w)) → (Lent v × (n ≡ total (decode v .segments))) × (Apart false (decode v .segments) × ((x : Segment Zone) × Stands (decode v .segments) p b x × (pages x ≡ 8) × (runPages x ≡ 0)))
+    pub give-asks : Encodes v (unlisted (z .class) p (decode w)) → (Lent v × (n ≡ total (decode v .segments))) ×
+        (Apart false (decode v .segments) × ((x : Segment Zone) × Stands (decode v .segments) p b x × (pages x ≡ 8) × (runPages x ≡ 0)))
     give-asks k = ((lent k, in-words k (λ s. n ≡ total (s .segments)) all), (in-words k (λ s. Apart false (s .segments)) apart, (zone z, in-words k (λ s. Stands (s .segments) p b (zone z)) stands, refl, refl)))
 
     pub size-asks : Encodes v (released p (unlisted (z .class) p (decode w))) → (Lent v × (n ≡ total (decode v .segments))) × ((b′ : ℕ) × (x : Segment Zone) × Stands (decode v .segments) (p - b) b′ x)

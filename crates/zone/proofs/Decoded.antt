@@ -5,7 +5,7 @@ use mathlib.Core.Bool.{cond}
 use mathlib.Core.List.{List}
 use native.Mathlib.Omega.{arith}
 use lib.Dec.{eqb}
-use lib.ListN.{length, getD, take, drop, length-drop, length-map, List·getD-map, List·getD-eq-default}
+use lib.ListN.{length, getD, take, length-drop, length-map, List·getD-map, List·getD-eq-default}
 use lib.Seq.{getD-drop, getD-take, length-take-le}
 use borrow.Author.Tests.{ne-eqb, eqb-true, ltb-true, lt-ltb, le-ltb}
 use Rattle.lemmas.specs.Every.{count}

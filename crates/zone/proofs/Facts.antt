@@ -4,10 +4,8 @@ use mathlib.Core.Path.{_≡_}
 use mathlib.Core.Bool.{Bool, true, _&&_}
 use mathlib.Core.List.{List}
 use native.Mathlib.Omega.{arith}
-use lib.Dec.{ltb, leb, eqb}
 use lib.ListN.{length, getD, take, drop}
 use borrow.Author.Tests.{eq-eqb, eqb-true, lt-ltb, ltb-true, le-leb, leb-true}
-use Rattle.lemmas.specs.Below.{allBelow}
 use Rattle.lemmas.specs.Every.{every, count}
 use Rattle.lemmas.specs.Parts.{mid}
 use Rattle.lemmas.specs.Zeros.{isZero}
@@ -15,10 +13,10 @@ use Rattle.lemmas.proofs.Below.{all-at, all-of}
 use Rattle.lemmas.proofs.Cases.{and-left, and-right}
 use Rattle.model.specs.Numbers.{classCount}
 use Rattle.model.specs.Sizes.{chunks}
-use Rattle.zone.specs.Decoding.{slotsIn, stateIn, entryIn, isLive, isBare, inPlace, slotsLegal, headLegal, bodyLegal, isZone, classIn, touchedIn, chainedIn}
+use Rattle.zone.specs.Decoding.{slotsIn, isLive, isBare, inPlace, slotsLegal, headLegal, bodyLegal, isZone, classIn, touchedIn, chainedIn}
 use Rattle.zone.proofs.Places.{Placed}
 use Rattle.zone.proofs.Rooms.{chunks-most}
-use Rattle.zone.specs.Encoding.{headWords, headNumbers, headZeros, slotCount, zoneWords, kindZone, positionBase}
+use Rattle.zone.specs.Encoding.{headWords, headNumbers, headZeros, slotCount, zoneWords, kindZone}
 
 pub record Head (w : List ℕ) : Type 0 where
   pub size : length w ≡ zoneWords

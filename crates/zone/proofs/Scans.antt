@@ -1,8 +1,8 @@
 -- What each turn and each end of the check's scans says: one slot, the chunk at one position of the chain, the slots and the whole part
 -- by part. Assumes nothing.
-use Prim.Native.Nat.{ℕ, _+_, _-_, _*_, _≤_, _<_}
+use Prim.Native.Nat.{ℕ, _+_, _-_, _≤_, _<_}
 use mathlib.Core.Path.{_≡_, sym, ap, _∙_}
-use mathlib.Core.Bool.{Bool, true, false, _&&_}
+use mathlib.Core.Bool.{true, false, _&&_}
 use mathlib.Core.List.{List}
 use native.Mathlib.Omega.{arith}
 use lib.Bits.{bitOr, bitXor}
@@ -23,7 +23,7 @@ use Rattle.model.specs.Numbers.{classCount}
 use Rattle.model.specs.Sizes.{chunks}
 use Rattle.zone.specs.Decoding.{slotsIn, stateIn, entryIn, isLive, isBare, isNear, inPlace, slotsLegal, headLegal, bodyLegal, isZone, classIn, touchedIn, chainedIn}
 use Rattle.zone.proofs.Facts.{Head, head-of, head-most, slots-of}
-use Rattle.zone.specs.Encoding.{headWords, headNumbers, headZeros, slotCount, zoneWords, kindZone, positionBase, half}
+use Rattle.zone.specs.Encoding.{headWords, headNumbers, headZeros, slotCount, zoneWords, kindZone, positionBase}
 
 -- ---- one slot
 

@@ -15,7 +15,7 @@ cast-result c = omega (arith, lists-most (c .before .before .before .before .bef
 returns : tie.Need-returns
 returns c =
     let pre = c .before .before .before .before .before .pre in
-    cc (class-length (pre .0) _ (pre .1) _ _ (c .before .before .key .ensures) (c .before .key2 .ensures))
+    c .count-between .ensures ∙ class-length (pre .0) _ (pre .1) _ _ (c .before .before .key .ensures) (c .before .key2 .ensures)
 
 pub count-spec : {M : Type 1} → statement M
 count-spec =

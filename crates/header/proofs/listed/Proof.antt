@@ -13,7 +13,7 @@ cast-result : tie.Need-cast-result
 cast-result c = omega (arith, lists-most (c .before .before .before .pre) _ _ (c .count-between .ensures))
 
 returns : tie.Need-returns
-returns c = cc (listed-count (c .before .before .before .pre))
+returns c = c .count-between .ensures ∙ listed-count (c .before .before .before .pre)
 
 pub listed-spec : {M : Type 1} → statement M
 listed-spec =

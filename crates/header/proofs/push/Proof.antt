@@ -25,7 +25,7 @@ shift-in-requires c κs =
     let c₁ = c .before .before in
     let s = start (key c₁) in
     let pre = s .pre in
-    omega (arith, lists-most (pre .0) _ _ (c₁ .count-between .ensures))
+    omega (arith, lists-size (pre .0), lists-most (pre .0) _ _ (c₁ .count-between .ensures))
 
 returns : tie.Need-returns
 returns c =

@@ -13,7 +13,7 @@ cast-result : tie.Need-cast-result
 cast-result c = omega (arith, spare-most (c .before .before .before .pre) _ _ (c .count-between .ensures))
 
 returns : tie.Need-returns
-returns c = cc (spare-length (c .before .before .before .pre))
+returns c = c .count-between .ensures ∙ spare-length (c .before .before .before .pre)
 
 pub spare-count-spec : {M : Type 1} → statement M
 spare-count-spec =

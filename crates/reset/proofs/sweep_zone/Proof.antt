@@ -1,6 +1,7 @@
 -- `sweep_zone` meets its contract. Assumes nothing.
 use mathlib.Core.Path.{refl}
-use Rattle.reset.proofs.Steps.{walk-long, walk-gone-long, ZoneWalk, zone-begun, walk-start, walk-here, walk-good, walk-few, walk-done, walk-skip, walk-live, walk-stays, walk-low, walk-gone-good, walk-run, walk-gone}
+use Rattle.reset.proofs.Steps.{walk-long, walk-gone-long, ZoneWalk, zone-begun, walk-start, walk-here, walk-good, walk-few, walk-done, walk-skip}
+use Rattle.reset.proofs.Steps.{walk-live, walk-stays, walk-low, walk-gone-good, walk-run, walk-gone}
 use native.Mathlib.Omega.{arith}
 use Prim.Native.Nat.{_-_}
 use borrow.Author.Tests.{not-true, not-false}
@@ -110,7 +111,8 @@ behind-run-requires c κs =
     let a = l .loop .inv in
     let e = z .zone-owner .ensures in
     let d = c₁ .chunk-back .ensures in
-    (walk-gone-good (h .1 .3) a _ e (t .loop-test .taken) (h .0) (e₁ .if1 .left) (d .0) (c₁ .chunk-back .result) (not-true _ (c .before .if2 .taken)) (d .1), walk-run (h .1 .3) a _ e (t .loop-test .taken) (h .0) (e₁ .if1 .left) (d .0) (c₁ .chunk-back .result) (not-true _ (c .before .if2 .taken)) (d .1))
+    (walk-gone-good (h .1 .3) a _ e (t .loop-test .taken) (h .0) (e₁ .if1 .left) (d .0) (c₁ .chunk-back .result) (not-true _ (c .before .if2 .taken)) (d .1), walk-run
+        (h .1 .3) a _ e (t .loop-test .taken) (h .0) (e₁ .if1 .left) (d .0) (c₁ .chunk-back .result) (not-true _ (c .before .if2 .taken)) (d .1))
 
 same-length : tie.Need-same-length Inv-loop μ-loop
 same-length c =

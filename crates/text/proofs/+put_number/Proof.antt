@@ -96,7 +96,7 @@ put-number-put-byte-requires-2 : (t : ℕ) → put-number-lts.Need-put-byte-requ
   put-number-below t,
   put-number.Post,
 ) (put-number-at t) put-number.Post
-put-number-put-byte-requires-2 t c κs = omega (arith, more-length _ (c .before .before .before .before .before .if1 .left))
+put-number-put-byte-requires-2 t c κs = omega (arith, c .before .before .before .put-number .ensures .next, more-length _ (c .before .before .before .before .before .if1 .left))
 
 put-number-same-length-2 : (t : ℕ) → put-number-lts.Need-same-length-2 (
   put-byte-reads.Asked,

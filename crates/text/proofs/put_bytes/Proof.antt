@@ -39,7 +39,7 @@ loop-again : tie.Need-loop-again Inv-loop μ-loop
 loop-again c =
     let t = c .before .before .before .before .before in
     let l = loop-before-turn t in
-    (omega arith, cc, left-step (left-next _ _ (t .loop-test .taken) (l .loop .inv .2)) (c .before .before .put-byte .ensures))
+    (omega arith, c .before .before .put-byte .kept .0 ∙ l .loop .inv .1, left-step (left-next _ _ (t .loop-test .taken) (l .loop .inv .2)) (c .before .before .put-byte .ensures))
 
 same-length : tie.Need-same-length Inv-loop μ-loop
 same-length c = c .before .loop .inv .1

@@ -55,7 +55,7 @@ loop-again : tie.Need-loop-again Inv-loop μ-loop
 loop-again c =
     let t = c .before .before .before .before .before .before in
     let l = loop-before-turn t in
-    (omega arith, cc, left-step (left-number _ _ (t .loop-test .taken) (c .before .before .before .end-of .ensures) (l .loop .inv .2)) (c .before .before .put-field .ensures))
+    (omega arith, c .before .before .put-field .kept .0 ∙ l .loop .inv .1, left-step (left-number _ _ (t .loop-test .taken) (c .before .before .before .end-of .ensures) (l .loop .inv .2)) (c .before .before .put-field .ensures))
 
 same-length-2 : tie.Need-same-length-2 Inv-loop μ-loop
 same-length-2 c = c .before .loop .inv .1

@@ -46,7 +46,7 @@ loop-holds c =
     let s₁ = start e₁ in
     let e = sym (c .before .before .is-digit .ensures) ∙ not-false _ (c .before .if2 .left) in
     let d = digit-range (getD (s₁ .args .s .now) (s₁ .args .at) 0) e in
-    (omega arith, omega arith, begins _ _ (e₁ .if1 .left) e (c .value .ensures))
+    (omega arith, omega (arith, c .value .ensures, d .1), begins _ _ (e₁ .if1 .left) e (c .value .ensures))
 
 cast-t17 : tie.Need-cast-t17 Inv-loop μ-loop
 cast-t17 c = omega arith
@@ -55,14 +55,14 @@ returns-3 : tie.Need-returns-3 Inv-loop μ-loop
 returns-3 c =
     let t = turn (c .before) in
     let l = loop-before-turn t in
-    cc (on-stop _ _ _ (t .loop-test .taken) (sym (c .before .is-digit2 .ensures) ∙ not-true _ (c .if3 .taken)) (l .loop .inv .1))
+    on-stop _ _ _ (t .loop-test .taken) (sym (c .before .is-digit2 .ensures) ∙ not-true _ (c .if3 .taken)) (l .loop .inv .1) ∙ l .loop .inv .2
 
 returns-4 : tie.Need-returns-4 Inv-loop μ-loop
 returns-4 c =
     let i = c .before .before in
     let t = turn i in
     let l = loop-before-turn t in
-    on-zero _ _ _ (t .loop-test .taken) (sym (i .is-digit2 .ensures) ∙ not-false _ (c .before .if3 .left)) (omega arith) ∙ l .loop .inv .2
+    on-zero _ _ _ (t .loop-test .taken) (sym (i .is-digit2 .ensures) ∙ not-false _ (c .before .if3 .left)) (omega (arith, c .if4 .taken)) ∙ l .loop .inv .2
 
 mul-v : tie.Need-mul-v Inv-loop μ-loop
 mul-v c = omega arith
@@ -75,14 +75,14 @@ add-v c =
     let i₁ = c .before .before .before in
     let l = loop-before-turn (turn i₁) in
     let s₁ = start (else1 l) in
-    omega (arith, digit-range (getD (s₁ .args .s .now) (l .loop .i) 0) (sym (i₁ .is-digit2 .ensures) ∙ not-false _ (c .before .before .if3 .left)) .1)
+    omega (arith, c .value2 .ensures, digit-range (getD (s₁ .args .s .now) (l .loop .i) 0) (sym (i₁ .is-digit2 .ensures) ∙ not-false _ (c .before .before .if3 .left)) .1)
 
 returns-5 : tie.Need-returns-5 Inv-loop μ-loop
 returns-5 c =
     let i = c .before .before .before .before in
     let t = turn i in
     let l = loop-before-turn t in
-    on-large _ _ _ (t .loop-test .taken) (sym (i .is-digit2 .ensures) ∙ not-false _ (c .before .before .before .if3 .left)) (c .before .value2 .ensures) (omega arith)
+    on-large _ _ _ (t .loop-test .taken) (sym (i .is-digit2 .ensures) ∙ not-false _ (c .before .before .before .if3 .left)) (c .before .value2 .ensures) (omega (arith, c .if5 .taken))
     ∙ l .loop .inv .2
 
 loop-less : tie.Need-loop-less Inv-loop μ-loop
@@ -93,13 +93,13 @@ loop-again c =
     let i = c .before .before .before .before in
     let t = turn i in
     let l = loop-before-turn t in
-    (omega arith, omega arith, cc (on-more _ _ _ (t .loop-test .taken) (sym (i .is-digit2 .ensures) ∙ not-false _ (c .before .before .before .if3 .left)) (c .before .value2 .ensures) (c .before .before .if4 .left)))
+    (omega arith, omega arith, on-more _ _ _ (t .loop-test .taken) (sym (i .is-digit2 .ensures) ∙ not-false _ (c .before .before .before .if3 .left)) (c .before .value2 .ensures) (c .before .before .if4 .left) ∙ l .loop .inv .2)
 
 cast-t20 : tie.Need-cast-t20 Inv-loop μ-loop
 cast-t20 c = omega arith
 
 returns-6 : tie.Need-returns-6 Inv-loop μ-loop
-returns-6 c = cc (on-end _ _ _ (c .loop-test .left) (c .before .loop .inv .1))
+returns-6 c = on-end _ _ _ (c .loop-test .left) (c .before .loop .inv .1) ∙ c .before .loop .inv .2
 
 pub read-number-spec : {M : Type 1} → statement M
 read-number-spec =

@@ -27,7 +27,7 @@ returns : tie.Need-returns
 returns c =
     let done : tie.After-hand-out = c .before .before in
     let p = start (done .before .before .before) .pre in
-    let r = hand-out-words _ (p .0) _ (p .2) (p .3) (omega arith) in (r .1, cc)
+    let r = hand-out-words _ (p .0) _ (p .2) (p .3) (omega arith) in (r .1, done .hand-out .ensures ∙ r .2)
 
 take-last-requires : tie.Need-take-last-requires
 take-last-requires c κs = let p = start (c .before .before) .pre in (taken _ (p .0) _ (p .2) (p .3) (p .1) (omega arith) .asks, omega arith)
@@ -36,7 +36,7 @@ returns-2 : tie.Need-returns-2
 returns-2 c =
     let done : tie.After-take-last = c .before .before in
     let p = start (done .before .before .before) .pre in
-    let r = taken _ (p .0) _ (p .2) (p .3) (p .1) (omega arith) in (cc, cc (words-encoding (r .words-are)))
+    let r = taken _ (p .0) _ (p .2) (p .3) (p .1) (omega arith) in (done .take-last .ensures .0 ∙ r .chunk-is, done .take-last .ensures .1 ∙ words-encoding (r .words-are))
 
 pub grant-spec : {M : Type 1} → statement M
 grant-spec =

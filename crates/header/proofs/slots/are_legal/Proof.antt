@@ -32,7 +32,9 @@ returns c =
     let s = start-before-loop l in
     let start = s in
     let turn = l .loop in
-    cc (legal-zero (start .args .limit) (turn .class) (start .args .slots .now) (turn .i) (t .loop-test .taken) (c .before .before .if1 .taken))
+    c .is-zero .ensures
+    ∙ legal-zero _ _ _ (turn .i) (t .loop-test .taken) (c .before .before .if1 .taken)
+    ∙ turn .inv .1
 
 returns-2 : tie.Need-returns-2 Inv-loop μ-loop
 returns-2 c =

@@ -19,10 +19,10 @@ loop-again : tie.Need-loop-again Inv-loop μ-loop
 loop-again c =
     let turn = c .before .before .loop in
     let h : turn .i < length (turn .slots) = omega arith in
-    (omega arith, omega arith, simp length-set (turn .inv .2), cc (shift-more _ _ _ h))
+    (omega arith, omega arith, simp length-set (turn .inv .2), shift-more _ _ _ h ∙ turn .inv .3)
 
 returns : tie.Need-returns Inv-loop μ-loop
-returns c = let h : length (c .before .loop .slots) ≤ c .before .loop .i = omega arith in cc (shift-done _ _ _ h)
+returns c = let h : length (c .before .loop .slots) ≤ c .before .loop .i = omega arith in sym (shift-done _ _ _ h) ∙ c .before .loop .inv .3
 
 pub shift-in-spec : {M : Type 1} → statement M
 shift-in-spec =

@@ -14,19 +14,19 @@ mul-clear : tie.Need-mul-clear
 mul-clear c =
     let g = c .before .before in
     let s = start-before-gather g in
-    let start = s in omega (arith, length-remove (start .args .v) (start .args .slots .now))
+    let start = s in omega (arith, g .gather .ensures .0, length-remove (start .args .v) (start .args .slots .now))
 
 sub-clear : tie.Need-sub-clear
 sub-clear c =
     let g = c .before .before in
     let s = start-before-gather g in
-    let start = s in omega (arith, length-remove (start .args .v) (start .args .slots .now))
+    let start = s in omega (arith, g .gather .ensures .0, length-remove (start .args .v) (start .args .slots .now))
 
 part-clear-start : tie.Need-part-clear-start
 part-clear-start c =
     let g = c .before .before in
     let s = start-before-gather g in
-    let start = s in omega (arith, length-remove (start .args .v) (start .args .slots .now))
+    let start = s in omega (arith, g .gather .ensures .0, length-remove (start .args .v) (start .args .slots .now))
 
 returns : tie.Need-returns
 returns c =

@@ -47,13 +47,13 @@ unfolding ascii
 returns-2 c =
     let n = c .before .before .before .before in
     let a = answer2 n in
-    (wrote-as (says-refused (a .answer2 .given .1) (cc)) (c .before .before .put-named2 .ensures), named-short _ _ (c .before .before .put-named2 .ensures) (omega arith) (omega arith))
+    (wrote-as (says-refused (a .answer2 .given .1) (c .before .before .before .long2 .ensures ∙ n .number .ensures)) (c .before .before .put-named2 .ensures), named-short _ _ (c .before .before .put-named2 .ensures) (omega arith) (omega arith))
 
 returns-3 : tie.Need-returns-3
 unfolding ascii
 returns-3 c =
     let e = c .before .before .before .before .before in
-    (wrote-as (says-done (e .enum-told .given .1)) (c .before .before .put-bytes .ensures), omega arith)
+    (wrote-as (says-done (e .enum-told .given .1)) (c .before .before .put-bytes .ensures), omega (arith, c .before .before .put-bytes .ensures .next))
 
 returns-4 : tie.Need-returns-4
 unfolding ascii

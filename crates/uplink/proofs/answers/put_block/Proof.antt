@@ -1,5 +1,4 @@
 -- `uplink::put_block` meets its contract. Assumes nothing.
-use Prim.Native.Nat.{ℕ}
 use mathlib.Core.List.{[], _∷_}
 use mathlib.Core.Path.{ap, _∙_}
 use native.Mathlib.Omega.{arith}
@@ -27,7 +26,7 @@ returns c =
     let w = c .before .before .before .before .before in
     let w₁ = long w in
     let s = start w₁ in
-    (wrote-as (cc) (c .before .before .put-line .ensures), pair-short _ _ (c .before .before .put-line .ensures) (omega arith) (omega arith))
+    (wrote-as (ap (λ n. line (n ∷ w .long2 .result ∷ [])) (w₁ .long .ensures) ∙ ap (λ n. line (s .args .group ∷ n ∷ [])) (w .long2 .ensures)) (c .before .before .put-line .ensures), pair-short _ _ (c .before .before .put-line .ensures) (omega arith) (omega arith))
 
 pub put-block-spec : {M : Type 1} → statement M
 put-block-spec =

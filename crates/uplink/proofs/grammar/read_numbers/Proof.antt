@@ -23,14 +23,14 @@ returns-3 c =
     let r = c .before .before in
     let e = else2 r in
     let e₁ = else1 e in
-    first-missing _ _ (e₁ .if1 .left) (e .if2 .left) (cc)
+    first-missing _ _ (e₁ .if1 .left) (e .if2 .left) (sym (r .read-number .ensures) ∙ c .enum-told .given .1)
 
 returns-4 : tie.Need-returns-4
 returns-4 c =
     let r = c .before .before .before .before in
     let e = else2 r in
     let e₁ = else1 e in
-    c .read-second .ensures ∙ first-then _ _ (e₁ .if1 .left) (e .if2 .left) (cc)
+    c .read-second .ensures ∙ first-then _ _ (e₁ .if1 .left) (e .if2 .left) (sym (r .read-number .ensures) ∙ c .before .before .first .given .1)
 
 pub read-numbers-spec : {M : Type 1} → statement M
 read-numbers-spec =

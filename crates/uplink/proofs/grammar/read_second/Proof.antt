@@ -23,14 +23,14 @@ returns-3 c =
     let r = c .before .before .before .before in
     let e = else2 r in
     let e₁ = else1 e in
-    second-last _ _ _ (e₁ .if1 .left) (e .if2 .left) (cc) (c .if3 .taken)
+    second-last _ _ _ (e₁ .if1 .left) (e .if2 .left) (sym (r .read-number .ensures) ∙ c .before .before .second .given .1) (c .if3 .taken)
 
 returns-4 : tie.Need-returns-4
 returns-4 c =
     let r = c .before .before in
     let e = else2 r in
     let e₁ = else1 e in
-    second-missing _ _ _ (e₁ .if1 .left) (e .if2 .left) (cc)
+    second-missing _ _ _ (e₁ .if1 .left) (e .if2 .left) (sym (r .read-number .ensures) ∙ c .enum-told .given .1)
 
 returns-5 : tie.Need-returns-5
 returns-5 c =

@@ -13,13 +13,13 @@ returns c = (c .before .new-reader .ensures .0, c .before .new-reader .ensures .
 
 returns-2 : tie.Need-returns-2
 returns-2 c =
-    (c .before .before .new-reader .ensures .0, c .before .before .new-reader .ensures .1, last-none _ (c .before .if1 .left) (omega arith))
+    (c .before .before .new-reader .ensures .0, c .before .before .new-reader .ensures .1, last-none _ (c .before .if1 .left) (omega (arith, c .if2 .taken)))
 
 returns-3 : tie.Need-returns-3
 returns-3 c =
     let s = c .before .before .before .before in
     let h : length (s .args .reader .line) ≡ 64 = search needs in
-    (c .before .before .before .new-reader .ensures .0, c .before .before .before .new-reader .ensures .1, rw (c .held-line .ensures) (last-part _ (c .before .before .if1 .left) (c .before .if2 .left) (sym h) (s .pre)))
+    (c .before .before .before .new-reader .ensures .0, c .before .before .before .new-reader .ensures .1, ap Whole (c .held-line .ensures) ∙ last-part _ (c .before .before .if1 .left) (c .before .if2 .left) (sym h) (s .pre))
 
 pub finish-spec : {M : Type 1} → statement M
 finish-spec =

@@ -33,8 +33,8 @@ loop-again c =
     let live = c .before .is-live .ensures in (
       omega arith,
       ⊎-elim (omega arith) (omega arith) (c .if1 .came),
-      ⊎-elim (λ w. w .1 ∙ count-pass isLive s i 0 h (cc) (was .2))
-          (λ w. w .1 ∙ count-fail isLive s i 0 h (cc) (was .2)) (c .if1 .came),
+      ⊎-elim (λ w. w .1 ∙ count-pass isLive s i 0 h (sym live ∙ w .0 .taken) (was .2))
+          (λ w. w .1 ∙ count-fail isLive s i 0 h (sym live ∙ w .0 .left) (was .2)) (c .if1 .came),
       or-below-more 16 s i (turn .loop .seen) h (was .3),
       or-below-more 28 s i (turn .loop .seen) h (was .4),
     )

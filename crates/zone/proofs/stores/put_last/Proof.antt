@@ -24,7 +24,7 @@ abbrev entry : tie.After-slice-known4 → tie.After-set-entry
 entry c = c .before .before
 
 same-length : tie.Need-same-length
-same-length c = simp length-set (omega arith)
+same-length c = simp length-set (omega (arith, entry c .set-entry .ensures .1))
 
 returns : tie.Need-returns
 returns c =
@@ -32,7 +32,7 @@ returns c =
     let s = state e in
     let w : List ℕ = start s .args .part .now in
     let stated = s .set-state .ensures .0 in
-    cc
+    ap (λ l. set l 3 (chainedIn w + 1)) (e .set-entry .ensures .0 ∙ ap (withEntry (chainedIn w) (start s .args .chunk)) stated)
 
 pub put-last-spec : {M : Type 1} → statement M
 put-last-spec =

@@ -26,7 +26,7 @@ state c = c .before .before
 
 -- The chunk that the code reads is the last one of the chain.
 chunk-is : (c : tie.After-wide) → entryIn (getD (start c .args .part .now) (headWords + c .wide .result) 0) ≡ lastChunk (start c .args .part .now)
-chunk-is c = let w : List ℕ = start c .args .part .now in cc
+chunk-is c = let w : List ℕ = start c .args .part .now in ap (λ n. entryIn (getD w (headWords + n) 0)) (c .wide .ensures)
 
 set-state-requires : tie.Need-set-state-requires
 set-state-requires c κs =
@@ -37,7 +37,7 @@ set-state-requires c κs =
 same-length : tie.Need-same-length
 same-length c =
     let s = state c in
-    let p = start (last (entry (s .before .before))) .pre in simp length-set (omega arith)
+    let p = start (last (entry (s .before .before))) .pre in simp length-set (omega (arith, s .set-state .ensures .1, p .0 .size))
 
 returns : tie.Need-returns
 returns c =
@@ -49,7 +49,7 @@ returns c =
     let chunk : ℕ = entryIn (getD w (headWords + l .wide .result) 0) in
     let gone = ap (λ u. withState chunk group u) (e .set-entry .ensures .0) in
     let same = ap (λ n. withState n group (withEntry (chainedIn w - 1) 0 w)) (chunk-is l) in
-    (chunk-is l, cc)
+    (chunk-is l, ap (λ u. set u 3 (chainedIn w - 1)) (s .set-state .ensures .0 ∙ gone ∙ same))
 
 pub take-last-spec : {M : Type 1} → statement M
 take-last-spec =
