@@ -10,6 +10,7 @@ use lib.ListN.{length, getD}
 use lib.Seq.{ext-getD}
 use borrow.Author.Tests.{ltb-false, lt-ltb, le-ltb}
 use Rattle.lemmas.proofs.Cases.{bool, clash, none-some}
+use Rattle.model.specs.Numbers.{pageBytes, zoneBytes}
 use Rattle.model.specs.Sizes.{room, chunks}
 use Rattle.model.specs.Arena.{Segment, run, direct, zone, pages, bytes, total, Each}
 use Rattle.model.specs.PageMap.{Occupancy, PageMap, allZero, idle, Block, whole, chunk, chunkOf, blockIn, blockThere, blockAt}
@@ -36,10 +37,10 @@ back-le b (x ∷ r) o e = bool (ltb o (bytes x))
     (λ t. omega (arith, back-le b r _ (rw t at e)))
 
 -- behind a gap of k pages
-gap-le : (b : Block) (k : ℕ) (m : PageMap) (o : ℕ) → blockAt (run k ∷ m) o ≡ some b → k * 4096 + back b ≤ o
-gap-le b k m o e = bool (ltb o (k * 4096))
+gap-le : (b : Block) (k : ℕ) (m : PageMap) (o : ℕ) → blockAt (run k ∷ m) o ≡ some b → k * pageBytes + back b ≤ o
+gap-le b k m o e = bool (ltb o (k * pageBytes))
     (λ t. none-some (rw t at e))
-    (λ t. omega (arith, ltb-false, back-le b m (o - k * 4096) (rw t at e)))
+    (λ t. omega (arith, ltb-false, back-le b m (o - k * pageBytes) (rw t at e)))
 
 shift : (x : Segment Occupancy) (m : PageMap) (o : ℕ) → blockAt (x ∷ m) (bytes x + o) ≡ blockAt m o
 shift x m o = rw (le-ltb (bytes x + o) (bytes x) (omega arith)) (ap (blockAt m) (omega arith))
@@ -73,7 +74,7 @@ data Lead (g : ℕ) (xs : PageMap) : Type 0 where
   item : (k : ℕ) (x : Segment Occupancy) (r : PageMap) → Holds x → Sized x → Each Sized r → ((o : ℕ) → blockAt (run g ∷ xs) o ≡ blockAt (run k ∷ (x ∷ r)) o) → joined idle g xs ≡ withRun k (x ∷ joined idle 0 r) → g + total xs ≡ k + (pages x + total r) → length r < length xs → Lead g xs
 
 run-none : (g o : ℕ) → blockAt (run g ∷ []) o ≡ none
-run-none g o = bool (ltb o (g * 4096)) (λ t. rw t) (λ t. rw t)
+run-none g o = bool (ltb o (g * pageBytes)) (λ t. rw t) (λ t. rw t)
 
 runs-eq : (a b : ℕ) → a ≡ b → withRun {Z = Occupancy} a [] ≡ withRun b []
 runs-eq a b e = cc
@@ -94,7 +95,7 @@ lead g (zone l ∷ r) h = bool (idle l)
 -- Where the same blocks are seen, the gaps are the same.
 gap-same : (k k′ : ℕ) (x : Segment Occupancy) (r m : PageMap) → Holds x → ((o : ℕ) → blockAt (run k ∷ (x ∷ r)) o ≡ blockAt (run k′ ∷ m) o) → k′ ≤ k
 gap-same k k′ x r m w h =
-    let o = k * 4096 + w .away in
+    let o = k * pageBytes + w .away in
     let at : blockAt (run k ∷ (x ∷ r)) o ≡ some (w .block) = shift (run k) (x ∷ r) (w .away) ∙ rw (lt-ltb (w .away) (bytes x) (w .inside)) (w .there) in
     omega (arith, gap-le (w .block) k′ m o (sym (h o) ∙ at), back-away (w .block) (w .away) x (w .there))
 
@@ -104,7 +105,7 @@ chunkOf-inj c i zero (suc h) e = none-some e
 chunkOf-inj c i (suc g) zero e = none-some (sym e)
 chunkOf-inj c i (suc g) (suc h) e = cc
 
-same-groups : (c : ℕ) (a b : List ℕ) → length a ≡ chunks c → length b ≡ chunks c → ((d : ℕ) → d < 32768 → blockIn d (zone (record { class = c; groups = a })) ≡ blockIn d (zone (record { class = c; groups = b }))) → a ≡ b
+same-groups : (c : ℕ) (a b : List ℕ) → length a ≡ chunks c → length b ≡ chunks c → ((d : ℕ) → d < zoneBytes → blockIn d (zone (record { class = c; groups = a })) ≡ blockIn d (zone (record { class = c; groups = b }))) → a ≡ b
 same-groups c a b la lb h = ext-getD 0 a b (la ∙ sym lb) (λ i l. chunkOf-inj c i _ _ (sym (blockIn-at c i a) ∙ h _ (chunk-begins c i (omega arith)) ∙ blockIn-at c i b))
 
 class-of : Segment Occupancy → ℕ
@@ -112,7 +113,7 @@ class-of (run n) = 0
 class-of (direct n g) = 0
 class-of (zone l) = l .class
 
-same-class : (l l′ : Occupancy) → Holds (zone l) → ((d : ℕ) → d < 32768 → blockIn d (zone l) ≡ blockIn d (zone l′)) → l′ .class ≡ l .class
+same-class : (l l′ : Occupancy) → Holds (zone l) → ((d : ℕ) → d < zoneBytes → blockIn d (zone l) ≡ blockIn d (zone l′)) → l′ .class ≡ l .class
 unfolding class-of
 same-class l l′ w h = go (w .block) (w .there)
   where
@@ -120,7 +121,7 @@ same-class l l′ w h = go (w .block) (w .there)
     go (whole n g) e = let z : zone l ≡ direct n g = whole-there n g (w .away) (zone l) e .0 in clash (cc)
     go (chunk c i g) e = cc (chunk-there c i g (w .away) (zone l′) (sym (h (w .away) (w .inside)) ∙ e) .is-zone, chunk-there c i g (w .away) (zone l) e .is-zone)
 
-same-zone : (l l′ : Occupancy) → length (l .groups) ≡ chunks (l .class) → length (l′ .groups) ≡ chunks (l′ .class) → Holds (zone l) → ((d : ℕ) → d < 32768 → blockIn d (zone l) ≡ blockIn d (zone l′)) → _≡_ {A = Segment Occupancy} (zone l) (zone l′)
+same-zone : (l l′ : Occupancy) → length (l .groups) ≡ chunks (l .class) → length (l′ .groups) ≡ chunks (l′ .class) → Holds (zone l) → ((d : ℕ) → d < zoneBytes → blockIn d (zone l) ≡ blockIn d (zone l′)) → _≡_ {A = Segment Occupancy} (zone l) (zone l′)
 same-zone l l′ a b w h =
     let e = same-class l l′ w h in
     let p : l .groups ≡ l′ .groups = same-groups (l .class) (l .groups) _ a (b ∙ ap chunks e) (λ d k. cc (h d k)) in
@@ -147,7 +148,7 @@ tail-same k x r t h o = bare r o ∙ sym (two r) ∙ h _ ∙ two t ∙ sym (bare
     bare : (m : PageMap) (o : ℕ) → blockAt (run 0 ∷ m) o ≡ blockAt m o
     bare m o = zero-run blockThere none (λ d k. refl) m o
 
-    two : (m : PageMap) → blockAt (run k ∷ (x ∷ m)) (k * 4096 + (bytes x + o)) ≡ blockAt m o
+    two : (m : PageMap) → blockAt (run k ∷ (x ∷ m)) (k * pageBytes + (bytes x + o)) ≡ blockAt m o
     two m = shift (run k) (x ∷ m) _ ∙ shift x m o
 
 head-same : (k : ℕ) (xs ys : PageMap) → ((o : ℕ) → blockAt (run k ∷ xs) o ≡ blockAt (run k ∷ ys) o) → (o : ℕ) → blockAt xs o ≡ blockAt ys o

@@ -6,6 +6,7 @@ use mathlib.Core.List.{[], _∷_}
 use mathlib.Core.Option.{none}
 use Rattle.lemmas.specs.Keep.{keep}
 use Rattle.lemmas.specs.Times.{remove}
+use Rattle.model.specs.Numbers.{zoneBytes}
 use Rattle.model.specs.declared.Operation.{Operation}
 use Rattle.model.specs.declared.Operation.the-variants.{Allocate, Free, Reset}
 use Rattle.model.specs.declared.Answer.{Answer}
@@ -35,7 +36,7 @@ pub at-split : History Metadata self leaves says
 at-split = afterAll Metadata self leaves says (begun Metadata self leaves says (record { words = 13504; state = none }) 24) (ask 1 (Allocate 100) ∷ [])
 
 pub at-end : History Metadata self leaves says
-at-end = afterAll Metadata self leaves says at-split (ask 2 (Allocate 9000) ∷ ask 3 (Allocate 8000) ∷ init 300 ∷ ask 4 (Free 32768) ∷ ask 2 (Free 32768) ∷ act (query 0) ∷ ask 3 Reset ∷ act trim ∷ [])
+at-end = afterAll Metadata self leaves says at-split (ask 2 (Allocate 9000) ∷ ask 3 (Allocate 8000) ∷ init 300 ∷ ask 4 (Free zoneBytes) ∷ ask 2 (Free zoneBytes) ∷ act (query 0) ∷ ask 3 Reset ∷ act trim ∷ [])
 
 pub can-be-met : (at-split .live ≡ record { serial = 1; offset = 0; group = 1; room = 104 } ∷ []) × (at-end .live ≡ record { serial = 1; offset = 0; group = 1; room = 104 } ∷ [])
 unfolding step rounded classOf room chunks claim keep remove at-split at-end

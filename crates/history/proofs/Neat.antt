@@ -9,6 +9,7 @@ use native.Mathlib.Omega.{arith}
 use lib.Dec.{ltb, leb}
 use borrow.Author.Tests.{leb-true, leb-false, ltb-true, ltb-false, lt-ltb, le-ltb}
 use Rattle.lemmas.proofs.Cases.{bool, true-false, clash}
+use Rattle.model.specs.Numbers.{pageBytes, zoneBytes}
 use Rattle.model.specs.Arena.{Segment, run, direct, zone, pages, bytes, total, locate, edit, Each}
 use Rattle.model.specs.PageMap.{Occupancy, PageMap, idle, whole}
 use Rattle.model.specs.Pages.{FreeRun, claim, withRun, joined, freePages, release}
@@ -62,9 +63,9 @@ module _ (k n g : ℕ) (pos : 0 < n) where
 
   pub carve-neat : (b : Bool) (o : ℕ) (m : PageMap) → locate o m ≡ some (record { away = 0; segment = run k }) → Neat b m → Neat b (edit o (λ _. direct n g ∷ withRun (k - n) []) m)
   carve-neat b o [] e h = tt
-  carve-neat b o (run j ∷ r) e h = bool (ltb o (j * 4096)) (λ t. rw t (carve-here b (run j) r (same-segment (rw t at e)) h)) (λ t. rw t (h .0, h .1, carve-neat true _ r (rw t at e) (h .2)))
-  carve-neat b o (direct j i ∷ r) e h = bool (ltb o (j * 4096)) (λ t. rw t (carve-here b _ r (same-segment (rw t at e)) h)) (λ t. rw t (h .0, carve-neat false _ r (rw t at e) (h .1)))
-  carve-neat b o (zone l ∷ r) e h = bool (ltb o 32768) (λ t. rw t (carve-here b (zone l) r (same-segment (rw t at e)) h)) (λ t. rw t (h .0, carve-neat false (o - 32768) r (rw t at e) (h .1)))
+  carve-neat b o (run j ∷ r) e h = bool (ltb o (j * pageBytes)) (λ t. rw t (carve-here b (run j) r (same-segment (rw t at e)) h)) (λ t. rw t (h .0, h .1, carve-neat true _ r (rw t at e) (h .2)))
+  carve-neat b o (direct j i ∷ r) e h = bool (ltb o (j * pageBytes)) (λ t. rw t (carve-here b _ r (same-segment (rw t at e)) h)) (λ t. rw t (h .0, carve-neat false _ r (rw t at e) (h .1)))
+  carve-neat b o (zone l ∷ r) e h = bool (ltb o zoneBytes) (λ t. rw t (carve-here b (zone l) r (same-segment (rw t at e)) h)) (λ t. rw t (h .0, carve-neat false (o - zoneBytes) r (rw t at e) (h .1)))
 
 -- Rows and runs --------------------------------------------------------------------------------------------
 
@@ -72,12 +73,12 @@ module _ (k n g : ℕ) (pos : 0 < n) where
 front-taken : (m : PageMap) → Neat true m → Clear m 0 → ⊥
 front-taken [] h c = clash (cc)
 front-taken (run k ∷ r) h c = true-false refl (h .0)
-front-taken (direct k g ∷ r) h c = true-false (rw (lt-ltb 0 (k * 4096) (omega arith)) at c) refl
+front-taken (direct k g ∷ r) h c = true-false (rw (lt-ltb 0 (k * pageBytes) (omega arith)) at c) refl
 front-taken (zone l ∷ r) h c = true-false (sym (h .0) ∙ c) refl
 
 -- page q of a map, past its first segment
 clear-past : (x : Segment Occupancy) (r : PageMap) (q : ℕ) → Clear (x ∷ r) (pages x + q) → Clear r q
-clear-past x r q c = ap (λ k. clearThere (locate k r)) (let e : q * 4096 ≡ (pages x + q) * 4096 - bytes x = omega arith in e) ∙ rw (le-ltb ((pages x + q) * 4096) (bytes x) (omega arith)) at c
+clear-past x r q c = ap (λ k. clearThere (locate k r)) (let e : q * pageBytes ≡ (pages x + q) * pageBytes - bytes x = omega arith in e) ∙ rw (le-ltb ((pages x + q) * pageBytes) (bytes x) (omega arith)) at c
 
 row-past : (n p : ℕ) (x : Segment Occupancy) (r : PageMap) → pages x ≤ p → ((q : ℕ) → p ≤ q → q < p + n → Clear (x ∷ r) q) → Row n r
 row-past n p x r h c = (p - pages x, λ q a b. clear-past x r q (c _ (omega arith) (omega arith)))
@@ -87,7 +88,7 @@ later n x r h = (h .0, List·Memᴰ·tail (h .1), h .2)
 
 -- the page p is in the first segment
 clear-first : (x : Segment Occupancy) (r : PageMap) (p : ℕ) → p < pages x → Clear (x ∷ r) p → isClear x ≡ true
-clear-first x r p h c = rw (lt-ltb (p * 4096) (bytes x) (omega arith)) at c
+clear-first x r p h c = rw (lt-ltb (p * pageBytes) (bytes x) (omega arith)) at c
 
 -- In a neat map a row of n clear pages lies in one run.
 pub row-run : (n : ℕ) → 0 < n → (b : Bool) (m : PageMap) → Neat b m → Row n m → HasRun n m
@@ -112,8 +113,8 @@ found-row n m h pos e =
     let base : h .page ≡ total (S .before) = omega arith in (
       h .page,
       λ q a b.
-          let d = (q - h .page) * 4096 in
-          let at : q * 4096 ≡ total (S .before) * 4096 + d = omega arith in
-          let small : d < h .size * 4096 = omega arith in
-          ap (λ k. clearThere (locate k m)) at ∙ ap (λ l. clearThere (locate (total (S .before) * 4096 + d) l)) (S .whole) ∙ ap clearThere (locate-mid (S .before) (run (h .size) ∷ []) (S .behind) d (omega arith)) ∙ ap clearThere (let o : locate d (run (h .size) ∷ []) ≡ some (record { away = d; segment = run (h .size) }) = rw (lt-ltb d _ small) in o),
+          let d = (q - h .page) * pageBytes in
+          let at : q * pageBytes ≡ total (S .before) * pageBytes + d = omega arith in
+          let small : d < h .size * pageBytes = omega arith in
+          ap (λ k. clearThere (locate k m)) at ∙ ap (λ l. clearThere (locate (total (S .before) * pageBytes + d) l)) (S .whole) ∙ ap clearThere (locate-mid (S .before) (run (h .size) ∷ []) (S .behind) d (omega arith)) ∙ ap clearThere (let o : locate d (run (h .size) ∷ []) ≡ some (record { away = d; segment = run (h .size) }) = rw (lt-ltb d _ small) in o),
     )

@@ -8,6 +8,7 @@ use native.Mathlib.Omega.{arith}
 use lib.Dec.{eqb}
 use borrow.Author.Tests.{le-ltb}
 use Rattle.lemmas.proofs.Cases.{bool, either, true-false}
+use Rattle.model.specs.Numbers.{pageBytes}
 use Rattle.model.specs.declared.Operation.{Operation}
 use Rattle.model.specs.declared.Operation.the-variants.{Allocate, Free, Reset}
 use Rattle.model.specs.declared.Refusal.the-variants.{BadGroup, BadSize, NoRoom, NoBlock, OtherGroup}
@@ -35,7 +36,7 @@ mapDirect n g m (some h) = carve h n (direct n g) m
 
 abbrev sayDirect : Option FreeRun → Answer
 sayDirect none = Refused NoRoom
-sayDirect (some h) = Granted (h .page * 4096)
+sayDirect (some h) = Granted (h .page * pageBytes)
 
 abbrev mapFree : ℕ → ℕ → PageMap → Option Block → PageMap
 mapFree g o m none = m
@@ -157,5 +158,5 @@ request-exact s g n h k t u = go (claim (pagesFor n) m) refl (allocate-both s g 
     }
     go (some r) e x = record {
       refused = λ w. absurd (w (found-row _ m r pos e));
-      granted = λ _. (r .page * 4096, x ∙ ap sayDirect e);
+      granted = λ _. (r .page * pageBytes, x ∙ ap sayDirect e);
     }

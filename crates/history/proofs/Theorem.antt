@@ -10,7 +10,7 @@ use native.Mathlib.Omega.{arith}
 use lib.Dec.{ltb, leb}
 use borrow.Author.Tests.{leb-true}
 use Rattle.lemmas.proofs.Cases.{bool, true-false, and-left, and-right}
-use Rattle.model.specs.Numbers.{mostPages}
+use Rattle.model.specs.Numbers.{mostPages, pageBytes}
 use Rattle.model.specs.declared.Call.{Call}
 use Rattle.model.specs.declared.Operation.{Operation}
 use Rattle.model.specs.declared.Operation.the-variants.{Allocate, Free, Reset}
@@ -211,7 +211,7 @@ module _ (B : Type 0) (view : B → Metadata) (next : B → Command → B) (says
         entries = [];
         on = does b (init n) ∙ S .leaves;
         live = rw h;
-        agree = λ o. bool (ltb o (n * 4096)) (λ t. rw t) (λ t. rw t);
+        agree = λ o. bool (ltb o (n * pageBytes)) (λ t. rw t) (λ t. rw t);
         single = tt;
         size = omega arith;
         valid = fresh-valid n (S .least) (S .most);

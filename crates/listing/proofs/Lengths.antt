@@ -10,7 +10,7 @@ use lib.ListN.{length, length-append}
 use Rattle.lemmas.specs.Below.{sumBelow}
 use Rattle.lemmas.proofs.Below.{sum-none, sum-more, sum-split}
 use Rattle.lemmas.proofs.Every.{count-le-length}
-use Rattle.model.specs.Numbers.{zonePages, mostGroup, classCount, mostPages}
+use Rattle.model.specs.Numbers.{zonePages, mostGroup, classCount, mostPages, pageBytes}
 use Rattle.model.specs.Sizes.{chunks}
 use Rattle.model.specs.Arena.{Segment, run, direct, zone, total, Each}
 use Rattle.model.specs.Zone.{Zone}
@@ -121,7 +121,7 @@ longest-is n =
 
 -- ---- any segments
 
-live-most : (z : Zone) → ValidZone z → liveCount (padded (chunks (z .class)) (z .owners)) ≤ 4096
+live-most : (z : Zone) → ValidZone z → liveCount (padded (chunks (z .class)) (z .owners)) ≤ pageBytes
 unfolding liveChunks
 live-most z v = omega (arith, live-shown z v, count-le-length isGroup (z .owners), touched-most z v)
 

@@ -5,7 +5,7 @@ use mathlib.Core.Bool.{false}
 use mathlib.Core.List.{[]}
 use native.Mathlib.Omega.{arith}
 use lib.ListN.{length, replicate}
-use Rattle.model.specs.Numbers.{mostGroup, classCount, mostPages}
+use Rattle.model.specs.Numbers.{mostGroup, classCount, mostPages, pageBytes}
 use Rattle.model.specs.Arena.{Segment, run, direct, zone, total, Each}
 use Rattle.model.specs.Zone.{Zone}
 use Rattle.model.specs.State.{State, ZoneAt}
@@ -39,7 +39,7 @@ NoZone (direct n g) = Unit {0}
 NoZone (zone z) = ⊥
 
 singles-bare : (n p : ℕ) (z : Zone) → ZoneAt (singles n) p z → ⊥
-singles-bare n p z e = each-locate NoZone (singles n) (p * 4096) (singles-each NoZone tt n) e
+singles-bare n p z e = each-locate NoZone (singles n) (p * pageBytes) (singles-each NoZone tt n) e
 
 -- A valid state of n pages has a listing of `longest n` bytes.
 pub longest-met : (n : ℕ) → 0 < n → n ≤ mostPages → (s : State) × Valid s × (total (s .segments) ≡ n) × (length (listingText (pageMap s)) ≡ longest n)

@@ -13,6 +13,7 @@ use Rattle.lemmas.specs.Times.{times, Distinct}
 use Rattle.lemmas.proofs.Cases.{bool, and-left, and-right, and-both, some-inj, by-eq, none-some}
 use Rattle.lemmas.proofs.Times.{times-member, member-times, perm-of, perm-length, perm-member}
 use Rattle.lemmas.proofs.Distinct.{distinct-append, distinct-left, distinct-right, distinct-apart, distinct-times, times-distinct, distinct-perm, distinct-le}
+use Rattle.model.specs.Numbers.{pageBytes}
 use Rattle.model.specs.Arena.{Segment, run, direct, zone, pages, bytes, Place, locate}
 use Rattle.model.specs.Zone.{Zone, full}
 use Rattle.model.specs.State.{ZoneAt}
@@ -36,31 +37,31 @@ pub record Listed (m : List (Segment Zone)) (lists : List (List ℕ)) (spare : L
 
 -- The walk of the test, told: each zone fits, and the count is right.
 fit-told : (spare : List ℕ) (lists : List (List ℕ)) (k a p : ℕ) (m : List (Segment Zone)) → fitFrom spare lists k a p m ≡ true
-    → (a + sumOpen m ≡ k) × ((q : ℕ) (z : Zone) → locate (q * 4096) m ≡ some (record { away = 0; segment = zone z }) → zoneFits spare lists (p + q) z ≡ true)
+    → (a + sumOpen m ≡ k) × ((q : ℕ) (z : Zone) → locate (q * pageBytes) m ≡ some (record { away = 0; segment = zone z }) → zoneFits spare lists (p + q) z ≡ true)
 unfolding fitFrom sumOpen
 fit-told spare lists k a p [] t = (omega (arith, eqb-true), λ q z e. none-some e)
 fit-told spare lists k a p (x ∷ r) t =
     let f = and-left _ _ t in
     let g = fit-told spare lists k _ _ r (and-right (segmentFits spare lists p x) _ t) in (
       omega arith,
-      λ q z e. bool (ltb (q * 4096) (bytes x))
+      λ q z e. bool (ltb (q * pageBytes) (bytes x))
           (λ u. here q z f (some-inj (rw u at e)))
-          (λ u. rw (let w : p + pages x + (q - pages x) ≡ p + q = omega (arith, ltb-false (q * 4096) (bytes x) u) in w) at
-              (g .1 (q - pages x) z (ap (λ j. locate j r) (let w : (q - pages x) * 4096 ≡ q * 4096 - bytes x = omega (arith, ltb-false (q * 4096) (bytes x) u) in w) ∙ rw u at e))),
+          (λ u. rw (let w : p + pages x + (q - pages x) ≡ p + q = omega (arith, ltb-false (q * pageBytes) (bytes x) u) in w) at
+          (g .1 (q - pages x) z (ap (λ j. locate j r) (let w : (q - pages x) * pageBytes ≡ q * pageBytes - bytes x = omega (arith, ltb-false (q * pageBytes) (bytes x) u) in w) ∙ rw u at e))),
     )
   where
-    here : (q : ℕ) (z : Zone) → segmentFits spare lists p x ≡ true → _≡_ {A = Place Zone} (record { away = q * 4096; segment = x }) (record { away = 0; segment = zone z }) → zoneFits spare lists (p + q) z ≡ true
+    here : (q : ℕ) (z : Zone) → segmentFits spare lists p x ≡ true → _≡_ {A = Place Zone} (record { away = q * pageBytes; segment = x }) (record { away = 0; segment = zone z }) → zoneFits spare lists (p + q) z ≡ true
     here q z f u = subst (λ j. zoneFits spare lists j z ≡ true) (let w : p ≡ p + q = omega (arith, ap (λ y. y .away) u) in w) (rw (ap (λ y. y .segment) u) at f)
 
 told-fit : (spare : List ℕ) (lists : List (List ℕ)) (k a p : ℕ) (m : List (Segment Zone)) → a + sumOpen m ≡ k
-    → ((q : ℕ) (z : Zone) → locate (q * 4096) m ≡ some (record { away = 0; segment = zone z }) → zoneFits spare lists (p + q) z ≡ true) → fitFrom spare lists k a p m ≡ true
+    → ((q : ℕ) (z : Zone) → locate (q * pageBytes) m ≡ some (record { away = 0; segment = zone z }) → zoneFits spare lists (p + q) z ≡ true) → fitFrom spare lists k a p m ≡ true
 unfolding fitFrom sumOpen
 told-fit spare lists k a p [] c f = eq-eqb a k (omega arith)
 told-fit spare lists k a p (x ∷ r) c f = and-both _ _ (first x f)
     (told-fit spare lists k _ _ r (omega arith) (λ q z e. rw (let w : p + (pages x + q) ≡ p + pages x + q = omega arith in w) at
-        (f (pages x + q) z (rw (le-ltb ((pages x + q) * 4096) (bytes x) (omega arith)) (ap (λ j. locate j r) (let w : (pages x + q) * 4096 - bytes x ≡ q * 4096 = omega arith in w) ∙ e)))))
+    (f (pages x + q) z (rw (le-ltb ((pages x + q) * pageBytes) (bytes x) (omega arith)) (ap (λ j. locate j r) (let w : (pages x + q) * pageBytes - bytes x ≡ q * pageBytes = omega arith in w) ∙ e)))))
   where
-    first : (x : Segment Zone) → ((q : ℕ) (z : Zone) → locate (q * 4096) (x ∷ r) ≡ some (record { away = 0; segment = zone z }) → zoneFits spare lists (p + q) z ≡ true) → segmentFits spare lists p x ≡ true
+    first : (x : Segment Zone) → ((q : ℕ) (z : Zone) → locate (q * pageBytes) (x ∷ r) ≡ some (record { away = 0; segment = zone z }) → zoneFits spare lists (p + q) z ≡ true) → segmentFits spare lists p x ≡ true
     first (run n) g = refl
     first (direct n j) g = refl
     first (zone z) g = rw (let w : p + 0 ≡ p = omega arith in w) at (g 0 z refl)
@@ -90,7 +91,7 @@ module _ (m : List (Segment Zone)) (lists : List (List ℕ)) (spare : List ℕ) 
   class-once c k p ne i j =
       let a = h .listed c p i in
       let b = h .listed k p j in
-      ne (cc (one-zone m (p * 4096) (a .0) (b .0) (a .1) (b .1)))
+      ne (cc (one-zone m (p * pageBytes) (a .0) (b .0) (a .1) (b .1)))
 
   all-once : Distinct (all lists spare)
   all-once = distinct-append _ spare (single-entries lists (record { once = h .once; apart = class-once })) (h .once-spare) (λ p i j. let f = on-list lists p i in h .not-both (f .0) p (f .1) j)
@@ -114,7 +115,7 @@ module _ (m : List (Segment Zone)) (lists : List (List ℕ)) (spare : List ℕ) 
 
   zone-passes : (p : ℕ) (z : Zone) → ZoneAt m p z → zoneFits spare lists p z ≡ true
   zone-passes p z at = open-fits spare lists p z (λ f. (
-    λ i. let w = h .spared p i in cc (one-zone m (p * 4096) z (w .0) at (w .1)),
+    λ i. let w = h .spared p i in cc (one-zone m (p * pageBytes) z (w .0) at (w .1)),
     λ out. go f out (h .complete p z at f),
   ))
     where
@@ -127,7 +128,7 @@ module _ (m : List (Segment Zone)) (lists : List (List ℕ)) (spare : List ℕ) 
 
 -- Lists that pass are a valid state's.
 module _ (m : List (Segment Zone)) (lists : List (List ℕ)) (spare : List ℕ) (t : fitFrom spare lists (length (keysOf lists) + length spare) 0 0 m ≡ true) where
-  told : (0 + sumOpen m ≡ length (keysOf lists) + length spare) × ((q : ℕ) (z : Zone) → locate (q * 4096) m ≡ some (record { away = 0; segment = zone z }) → zoneFits spare lists (0 + q) z ≡ true)
+  told : (0 + sumOpen m ≡ length (keysOf lists) + length spare) × ((q : ℕ) (z : Zone) → locate (q * pageBytes) m ≡ some (record { away = 0; segment = zone z }) → zoneFits spare lists (0 + q) z ≡ true)
   told = fit-told spare lists _ 0 0 m t
 
   where-is : (p : ℕ) (z : Zone) → ZoneAt m p z → full z ≡ false → (List·Memᴰ p spare × (idleZone z ≡ true)) ⊎ List·Memᴰ p (getD lists (z .class) [])

@@ -11,7 +11,7 @@ use lib.ListN.{length}
 use borrow.Author.Tests.{ltb-false, lt-ltb, le-ltb}
 use Rattle.lemmas.specs.Times.{Distinct}
 use Rattle.lemmas.proofs.Cases.{bool, some-inj, clash, none-some}
-use Rattle.model.specs.Numbers.{zonePages}
+use Rattle.model.specs.Numbers.{zonePages, pageBytes, zoneBytes}
 use Rattle.model.specs.Arena.{Segment, run, direct, zone, pages, bytes, total, Place, locate}
 use Rattle.model.specs.Zone.{Zone, full}
 use Rattle.model.specs.State.{ZoneAt}
@@ -51,14 +51,14 @@ few-open (zone z ∷ r) = bool (full z) (λ t. rw t (omega (arith, few-open r)))
 -- A zone at page q behind p, of the segments from p on, is open: its page is there.
 record OpenZone (m : List (Segment Zone)) (p q : ℕ) : Type 0 where
   here : Zone
-  at : locate ((q - p) * 4096) m ≡ some (record { away = 0; segment = zone here })
+  at : locate ((q - p) * pageBytes) m ≡ some (record { away = 0; segment = zone here })
   not-full : full here ≡ false
   behind : p ≤ q
 
 past : (x : Segment Zone) (m : List (Segment Zone)) (p q : ℕ) → OpenZone m (p + pages x) q → OpenZone (x ∷ m) p q
 past x m p q o = record {
   here = o .here;
-  at = rw (le-ltb ((q - p) * 4096) (bytes x) (omega arith)) (ap (λ k. locate k m) (let e : (q - p) * 4096 - bytes x ≡ (q - (p + pages x)) * 4096 = omega arith in e) ∙ o .at);
+  at = rw (le-ltb ((q - p) * pageBytes) (bytes x) (omega arith)) (ap (λ k. locate k m) (let e : (q - p) * pageBytes - bytes x ≡ (q - (p + pages x)) * pageBytes = omega arith in e) ∙ o .at);
   not-full = o .not-full;
   behind = omega arith;
 }
@@ -73,28 +73,28 @@ open-zone p (zone z ∷ r) q i = bool (full z)
     (λ t. go t (List·Memᴰ·cases-cons (rw t at i)) (open-zone _ r q))
   where
     go : full z ≡ false → (q ≡ p) ⊎ List·Memᴰ q (openFrom (p + zonePages) r) → (List·Memᴰ q (openFrom (p + zonePages) r) → OpenZone r (p + zonePages) q) → OpenZone (zone z ∷ r) p q
-    go t (inl e) k = record { here = z; at = rw (lt-ltb ((q - p) * 4096) 32768 (omega arith)) (ap (λ a. some (record { away = a; segment = zone z })) (omega arith)); not-full = t; behind = omega arith }
+    go t (inl e) k = record { here = z; at = rw (lt-ltb ((q - p) * pageBytes) zoneBytes (omega arith)) (ap (λ a. some (record { away = a; segment = zone z })) (omega arith)); not-full = t; behind = omega arith }
     go t (inr e) k = past (zone z) r p q (k e)
 
-zone-open : (p : ℕ) (m : List (Segment Zone)) (q : ℕ) (z : Zone) → p ≤ q → locate ((q - p) * 4096) m ≡ some (record { away = 0; segment = zone z }) → full z ≡ false → List·Memᴰ q (openFrom p m)
+zone-open : (p : ℕ) (m : List (Segment Zone)) (q : ℕ) (z : Zone) → p ≤ q → locate ((q - p) * pageBytes) m ≡ some (record { away = 0; segment = zone z }) → full z ≡ false → List·Memᴰ q (openFrom p m)
 unfolding openFrom putOpen
 zone-open p [] q z h e f = none-some e
-zone-open p (run n ∷ r) q z h e f = bool (ltb ((q - p) * 4096) (n * 4096))
+zone-open p (run n ∷ r) q z h e f = bool (ltb ((q - p) * pageBytes) (n * pageBytes))
     (λ t. let u : run n ≡ zone z = same-segment (rw t at e) in clash (cc))
-    (λ t. zone-open (p + n) r q z (omega (arith, ltb-false)) (ap (λ k. locate k r) (let g : (q - (p + n)) * 4096 ≡ (q - p) * 4096 - n * 4096 = omega arith in g) ∙ rw t at e) f)
-zone-open p (direct n j ∷ r) q z h e f = bool (ltb ((q - p) * 4096) (n * 4096))
+    (λ t. zone-open (p + n) r q z (omega (arith, ltb-false)) (ap (λ k. locate k r) (let g : (q - (p + n)) * pageBytes ≡ (q - p) * pageBytes - n * pageBytes = omega arith in g) ∙ rw t at e) f)
+zone-open p (direct n j ∷ r) q z h e f = bool (ltb ((q - p) * pageBytes) (n * pageBytes))
     (λ t. let u : direct n j ≡ zone z = same-segment (rw t at e) in clash (cc))
-    (λ t. zone-open (p + n) r q z (omega (arith, ltb-false)) (ap (λ k. locate k r) (let g : (q - (p + n)) * 4096 ≡ (q - p) * 4096 - n * 4096 = omega arith in g) ∙ rw t at e) f)
-zone-open p (zone y ∷ r) q z h e f = bool (ltb ((q - p) * 4096) 32768)
+    (λ t. zone-open (p + n) r q z (omega (arith, ltb-false)) (ap (λ k. locate k r) (let g : (q - (p + n)) * pageBytes ≡ (q - p) * pageBytes - n * pageBytes = omega arith in g) ∙ rw t at e) f)
+zone-open p (zone y ∷ r) q z h e f = bool (ltb ((q - p) * pageBytes) zoneBytes)
     (λ t. here (some-inj (rw t at e)))
-    (λ t. later (zone-open _ r q z (omega (arith, ltb-false)) (ap (λ k. locate k r) (let g : (q - (p + zonePages)) * 4096 ≡ (q - p) * 4096 - 32768 = omega arith in g) ∙ rw t at e) f))
+    (λ t. later (zone-open _ r q z (omega (arith, ltb-false)) (ap (λ k. locate k r) (let g : (q - (p + zonePages)) * pageBytes ≡ (q - p) * pageBytes - zoneBytes = omega arith in g) ∙ rw t at e) f))
   where
     later : List·Memᴰ q (openFrom (p + zonePages) r) → List·Memᴰ q (putOpen (full y) p (openFrom (p + zonePages) r))
     later i = bool (full y) (λ t. rw t i) (λ t. rw t (List·Memᴰ·tail i))
 
-    here : _≡_ {A = Place Zone} (record { away = (q - p) * 4096; segment = zone y }) (record { away = 0; segment = zone z }) → List·Memᴰ q (putOpen (full y) p (openFrom (p + zonePages) r))
+    here : _≡_ {A = Place Zone} (record { away = (q - p) * pageBytes; segment = zone y }) (record { away = 0; segment = zone z }) → List·Memᴰ q (putOpen (full y) p (openFrom (p + zonePages) r))
     here u =
-        let a : (q - p) * 4096 ≡ 0 = ap (λ x. x .away) u in
+        let a : (q - p) * pageBytes ≡ 0 = ap (λ x. x .away) u in
         let s : zone y ≡ zone z = ap (λ x. x .segment) u in
         let w : y ≡ z = cc in
         rw (ap full w ∙ f) (let j : q ≡ p = omega arith in List·Memᴰ·head j)
@@ -114,10 +114,10 @@ abbrev pub openPages : List (Segment Zone) → List ℕ
 openPages m = openFrom 0 m
 
 pub open-told : (m : List (Segment Zone)) (q : ℕ) → List·Memᴰ q (openPages m) → (z : Zone) × ZoneAt m q z × (full z ≡ false)
-open-told m q i = let o = open-zone 0 m q i in (o .here, ap (λ k. locate k m) (let e : q * 4096 ≡ (q - 0) * 4096 = omega arith in e) ∙ o .at, o .not-full)
+open-told m q i = let o = open-zone 0 m q i in (o .here, ap (λ k. locate k m) (let e : q * pageBytes ≡ (q - 0) * pageBytes = omega arith in e) ∙ o .at, o .not-full)
 
 pub told-open : (m : List (Segment Zone)) (q : ℕ) (z : Zone) → ZoneAt m q z → full z ≡ false → List·Memᴰ q (openPages m)
-told-open m q z e f = zone-open 0 m q z (omega arith) (ap (λ k. locate k m) (let g : (q - 0) * 4096 ≡ q * 4096 = omega arith in g) ∙ e) f
+told-open m q z e f = zone-open 0 m q z (omega arith) (ap (λ k. locate k m) (let g : (q - 0) * pageBytes ≡ q * pageBytes = omega arith in g) ∙ e) f
 
 pub pages-distinct : (m : List (Segment Zone)) → Distinct (openPages m)
 pages-distinct m = open-distinct 0 m

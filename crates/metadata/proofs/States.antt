@@ -18,7 +18,7 @@ use Rattle.lemmas.proofs.Cases.{bool, refuted, true-false, and-left, and-right,
 use Rattle.lemmas.proofs.Times.{times-nil}
 use Rattle.lemmas.proofs.Parts.{length-mid}
 use Rattle.lemmas.proofs.Zeros.{getD-zeros, is-zeros}
-use Rattle.model.specs.Numbers.{headerWords, pageWords}
+use Rattle.model.specs.Numbers.{headerWords, pageWords, pageBytes}
 use Rattle.model.specs.Sizes.{chunks}
 use Rattle.model.specs.Arena.{Segment, run, direct, zone, total, Each}
 use Rattle.model.specs.Zone.{Zone, touched, full, isNil}
@@ -76,14 +76,14 @@ all-writable b (zone z ∷ r) a h = ((omega arith, h .0), all-writable false r a
 
 -- A zone begins inside the arena.
 zone-inside : (m : List (Segment Zone)) (p : ℕ) (z : Zone) → ZoneAt m p z → p < total m
-zone-inside m p z e = bool (ltb p (total m)) (λ t. ltb-true p (total m) t) (λ t. none-some (sym (locate-past m (p * 4096) (omega (arith, ltb-false))) ∙ e))
+zone-inside m p z e = bool (ltb p (total m)) (λ t. ltb-true p (total m) t) (λ t. none-some (sym (locate-past m (p * pageBytes) (omega (arith, ltb-false))) ∙ e))
 
 -- The lists of a valid state.
 lists-of : (s : State) → Valid s → Listed (s .segments) (s .lists) (s .spare)
 lists-of s v = record { listed = v .listed; complete = v .complete; spared = v .spared; once = v .once; once-spare = v .once-spare; not-both = v .not-both }
 
 idle-open : (s : State) → Valid s → (z : Zone) → idleZone z ≡ true → (p : ℕ) → ZoneAt (s .segments) p z → full z ≡ false
-idle-open s v z t p e = idle-not-full z (each-locate ValidSegment (s .segments) (p * 4096) (v .sound) e) t
+idle-open s v z t p e = idle-not-full z (each-locate ValidSegment (s .segments) (p * pageBytes) (v .sound) e) t
 
 pub valid-fits : (s : State) → Valid s → Fits (total (s .segments)) (s .spare) (s .lists)
 valid-fits s v = record {
@@ -203,7 +203,7 @@ pub state-begins : (w : List ℕ) → isState w ≡ true → BeginsWith w (decod
 state-begins w t =
     let r = state-read w t in
     rw (encoding-read w r) (begins-both w (headerPart w) (pagesPart w) headerWords (pageWords * pagesIn (headerPart w))
-        (front-long w headerWords (pageWords * pagesIn (headerPart w)) (r .long)) (length-mid headerWords (pageWords * pagesIn (headerPart w)) w (r .long)) refl refl)
+    (front-long w headerWords (pageWords * pagesIn (headerPart w)) (r .long)) (length-mid headerWords (pageWords * pagesIn (headerPart w)) w (r .long)) refl refl)
 
 -- The encoding of a valid state passes, and decodes to it -----------------------------------------------------------------------------
 

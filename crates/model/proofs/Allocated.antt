@@ -11,7 +11,7 @@ use lib.Dec.{ltb, leb}
 use lib.ListN.{getD}
 use borrow.Author.Tests.{ltb-true, ltb-false, leb-true, ne-eqb}
 use Rattle.lemmas.proofs.Cases.{bool, and-left, and-right}
-use Rattle.model.specs.Numbers.{mostGroup, classCount}
+use Rattle.model.specs.Numbers.{mostGroup, classCount, pageBytes}
 use Rattle.model.specs.declared.Refusal.{Refusal}
 use Rattle.model.specs.declared.Refusal.the-variants.{BadGroup, BadSize, NoRoom}
 use Rattle.model.specs.declared.Answer.the-variants.{Granted, Refused}
@@ -62,15 +62,15 @@ direct-alone : (n g d : ℕ) → (d ≡ 0 → ⊥) → blockIn d (direct n g) �
 direct-alone n g d h = rw (ne-eqb d 0 h)
 
 -- What is listed or spared at a page stands there in the page map.
-shown-at : (m : List (Segment Zone)) (p : ℕ) (z : Zone) → ZoneAt m p z → Begins (p * 4096) (map (retold occupancy) m) (zone (occupancy z))
-shown-at m p z e = cc (locate-retold occupancy (p * 4096) m)
+shown-at : (m : List (Segment Zone)) (p : ℕ) (z : Zone) → ZoneAt m p z → Begins (p * pageBytes) (map (retold occupancy) m) (zone (occupancy z))
+shown-at m p z e = cc (locate-retold occupancy (p * pageBytes) m)
 
 -- A zone of the class, shown by its owners.
 shown-zone : (c : ℕ) (z : Zone) → z .class ≡ c → occupancy z ≡ record { class = c; groups = padded (chunks c) (z .owners) }
 shown-zone c z e = cc
 
 module _ (s : State) where
-  direct-law : (n g : ℕ) → 0 < n → (h : Option FreeRun) → claim n (s .segments) ≡ h → Allocated s g (n * 4096) (directFrom n g s h)
+  direct-law : (n g : ℕ) → 0 < n → (h : Option FreeRun) → claim n (s .segments) ≡ h → Allocated s g (n * pageBytes) (directFrom n g s h)
   direct-law n g p none e = denies NoRoom refl refl
   direct-law n g p (some h) e =
       let found = claim-retold occupancy n _ ∙ e in
@@ -90,26 +90,26 @@ module _ (s : State) where
     spare-law v (q ∷ qs) e =
         let f = v .spared q (rw e (List·Memᴰ·head refl)) in
         let there = shown-at (s .segments) q (f .0) (f .1) in
-        gives (q * 4096) (chunk c 0 g) refl (put-fresh (q * 4096) (pageMap s) _ there (λ d. idle-blockIn d (occupancy (f .0)) (f .2))) refl refl
-        (rw (edit-retold occupancy (q * 4096) (λ _. zone (newZone c g) ∷ []) (λ _. zone (occupancy (newZone c g)) ∷ []) (λ _. refl) _, ← new-first c g class least)
-        (put-only (q * 4096) (pageMap s) _ _ 0 there refl (omega arith) (λ d. idle-blockIn d (occupancy (f .0)) (f .2)) (new-alone c g)))
+        gives (q * pageBytes) (chunk c 0 g) refl (put-fresh (q * pageBytes) (pageMap s) _ there (λ d. idle-blockIn d (occupancy (f .0)) (f .2))) refl refl
+        (rw (edit-retold occupancy (q * pageBytes) (λ _. zone (newZone c g) ∷ []) (λ _. zone (occupancy (newZone c g)) ∷ []) (λ _. refl) _, ← new-first c g class least)
+        (put-only (q * pageBytes) (pageMap s) _ _ 0 there refl (omega arith) (λ d. idle-blockIn d (occupancy (f .0)) (f .2)) (new-alone c g)))
 
     served-law : (p : ℕ) (ps : List ℕ) (z : Zone) → ZoneAt (s .segments) p z → z .class ≡ c → Grants g (nextChunk z) z (granted g z) → Allocated s g (room c) (served c g p ps s z)
     served-law p ps z e k G =
         let i = nextChunk z in
         let z′ = granted g z in
         let inside : i < chunks c = omega (arith, ap chunks k) in
-        let there : Begins (p * 4096) (pageMap s) (zone (record { class = c; groups = padded (chunks c) (z .owners) })) = shown-at (s .segments) p z e ∙ ap (λ y. some (record { away = 0; segment = zone y })) (shown-zone c z k) in
+        let there : Begins (p * pageBytes) (pageMap s) (zone (record { class = c; groups = padded (chunks c) (z .owners) })) = shown-at (s .segments) p z e ∙ ap (λ y. some (record { away = 0; segment = zone y })) (shown-zone c z k) in
         let new : chunkOf c i (getD (padded (chunks c) (z′ .owners)) i 0) ≡ some (chunk c i g) = cc (padded-in (chunks c) _ i inside, live-chunk c i g least) in
-        gives _ (chunk c i g) refl (chunk-fresh (p * 4096) (pageMap s) c i _ there (chunk-begins c i inside) (cc (padded-in (chunks c) (z .owners) i inside))) refl refl
-        (rw (edit-retold occupancy (p * 4096) (λ _. zone z′ ∷ []) (λ _. zone (occupancy z′) ∷ []) (λ _. refl) _, ← new)
-        (chunk-only (p * 4096) (λ _. zone (occupancy z′) ∷ []) (pageMap s) 0 c i _ _ there (ap (λ y. zone y ∷ []) (shown-zone c z′ (G .same-class ∙ k))) (chunk-begins c i inside) (padded-other (chunks c) (z .owners) _ i (G .others)) (p * 4096) (omega arith)))
+        gives _ (chunk c i g) refl (chunk-fresh (p * pageBytes) (pageMap s) c i _ there (chunk-begins c i inside) (cc (padded-in (chunks c) (z .owners) i inside))) refl refl
+        (rw (edit-retold occupancy (p * pageBytes) (λ _. zone z′ ∷ []) (λ _. zone (occupancy z′) ∷ []) (λ _. refl) _, ← new)
+        (chunk-only (p * pageBytes) (λ _. zone (occupancy z′) ∷ []) (pageMap s) 0 c i _ _ there (ap (λ y. zone y ∷ []) (shown-zone c z′ (G .same-class ∙ k))) (chunk-begins c i inside) (padded-other (chunks c) (z .owners) _ i (G .others)) (p * pageBytes) (omega arith)))
 
     chunk-law : Valid s → g ≤ mostGroup → (l : List ℕ) → listOf s c ≡ l → Allocated s g (room c) (chunkFrom c g s l)
     chunk-law v most [] e = spare-law v (s .spare) refl
     chunk-law v most (p ∷ ps) e =
         let f = v .listed c p (rw e (List·Memᴰ·head refl)) in
-        let ok : ValidZone (f .0) = each-locate ValidSegment (s .segments) (p * 4096) (v .sound) (f .1) in
+        let ok : ValidZone (f .0) = each-locate ValidSegment (s .segments) (p * pageBytes) (v .sound) (f .1) in
         rw (f .1) (served-law p ps (f .0) (f .1) (f .2) (grants g least most (f .0) ok (f .3)))
 
   pub allocated : Valid s → (g n : ℕ) → Allocated s g (roomFor n) (allocate g n s)

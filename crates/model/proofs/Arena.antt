@@ -10,6 +10,7 @@ use native.Mathlib.Omega.{arith}
 use lib.Dec.{ltb}
 use borrow.Author.Tests.{ltb-true, ltb-false, lt-ltb, le-ltb}
 use Rattle.lemmas.proofs.Cases.{bool, by-lt, some-inj, none-some}
+use Rattle.model.specs.Numbers.{pageBytes}
 use Rattle.model.specs.Arena.{Segment, run, direct, zone, pages, bytes, total, retold, Place, locate, edit, Each}
 use Rattle.model.specs.State.{Begins}
 
@@ -32,16 +33,16 @@ module _ {Z : Type 0} where
   total-append (x ∷ a) b = omega (arith, total-append a b)
 
   -- Where a byte of an append lies.
-  pub locate-left : (a b : List (Segment Z)) (o : ℕ) → o < total a * 4096 → locate o (a ++ b) ≡ locate o a
+  pub locate-left : (a b : List (Segment Z)) (o : ℕ) → o < total a * pageBytes → locate o (a ++ b) ≡ locate o a
   locate-left [] b o h = absurd (omega arith)
   locate-left (x ∷ a) b o h = bool (ltb o (bytes x)) (λ e. rw e) (λ e. rw e (locate-left a b _ (omega (arith, ltb-false))))
 
-  pub locate-right : (a b : List (Segment Z)) (o : ℕ) → locate (total a * 4096 + o) (a ++ b) ≡ locate o b
+  pub locate-right : (a b : List (Segment Z)) (o : ℕ) → locate (total a * pageBytes + o) (a ++ b) ≡ locate o b
   locate-right [] b o = ap (λ k. locate k b) (omega arith)
-  locate-right (x ∷ a) b o = rw (le-ltb ((pages x + total a) * 4096 + o) (bytes x) (omega arith))
-      (ap (λ k. locate k (a ++ b)) (let e : (pages x + total a) * 4096 + o - bytes x ≡ total a * 4096 + o = omega arith in e) ∙ locate-right a b o)
+  locate-right (x ∷ a) b o = rw (le-ltb ((pages x + total a) * pageBytes + o) (bytes x) (omega arith))
+      (ap (λ k. locate k (a ++ b)) (let e : (pages x + total a) * pageBytes + o - bytes x ≡ total a * pageBytes + o = omega arith in e) ∙ locate-right a b o)
 
-  pub locate-past : (a : List (Segment Z)) (o : ℕ) → total a * 4096 ≤ o → locate o a ≡ none
+  pub locate-past : (a : List (Segment Z)) (o : ℕ) → total a * pageBytes ≤ o → locate o a ≡ none
   locate-past [] o h = refl
   locate-past (x ∷ a) o h = rw (le-ltb o (bytes x) (omega arith)) (locate-past a _ (omega arith))
 
@@ -50,7 +51,7 @@ module _ {Z : Type 0} where
     pub before : List (Segment Z)
     pub behind : List (Segment Z)
     pub whole : m ≡ before ++ (pl .segment ∷ behind)
-    pub at : o ≡ total before * 4096 + pl .away
+    pub at : o ≡ total before * pageBytes + pl .away
     pub inside : pl .away < bytes (pl .segment)
     pub edits : (f : Segment Z → List (Segment Z)) → edit o f m ≡ before ++ (f (pl .segment) ++ behind)
 
@@ -79,19 +80,19 @@ module _ {Z : Type 0} where
   split o [] e = none-some e
   split o (x ∷ r) e = bool (ltb o (bytes x)) (λ t. rw (some-inj (rw t at e)) at (split-here o x r t)) (λ t. split-there o x r t (split _ r (rw t at e)))
 
-  pub locate-mid : (a y b : List (Segment Z)) (d : ℕ) → d < total y * 4096 → locate (total a * 4096 + d) (a ++ (y ++ b)) ≡ locate d y
+  pub locate-mid : (a y b : List (Segment Z)) (d : ℕ) → d < total y * pageBytes → locate (total a * pageBytes + d) (a ++ (y ++ b)) ≡ locate d y
   locate-mid a y b d h = locate-right a (y ++ b) d ∙ locate-left y b d h
 
-  pub locate-high : (a y b : List (Segment Z)) (d : ℕ) → locate (total a * 4096 + (total y * 4096 + d)) (a ++ (y ++ b)) ≡ locate d b
+  pub locate-high : (a y b : List (Segment Z)) (d : ℕ) → locate (total a * pageBytes + (total y * pageBytes + d)) (a ++ (y ++ b)) ≡ locate d b
   locate-high a y b d = locate-right a (y ++ b) _ ∙ locate-right y b d
 
   -- The middle x gives way to y of the same length. Where a view of locate agrees on x and y, it agrees on the whole.
   pub swap : {B : Type 0} (see : Option (Place Z) → B) (K : ℕ → Type 0) (a x y b : List (Segment Z)) → total y ≡ total x →
-      ((d : ℕ) → d < total y * 4096 → K (total a * 4096 + d) → see (locate d y) ≡ see (locate d x)) →
+      ((d : ℕ) → d < total y * pageBytes → K (total a * pageBytes + d) → see (locate d y) ≡ see (locate d x)) →
       (o : ℕ) → K o → see (locate o (a ++ (y ++ b))) ≡ see (locate o (a ++ (x ++ b)))
   swap see K a x y b e h o k = go (part _ _ o)
     where
-      go : Part (total a * 4096) (total y * 4096) o → see (locate o (a ++ (y ++ b))) ≡ see (locate o (a ++ (x ++ b)))
+      go : Part (total a * pageBytes) (total y * pageBytes) o → see (locate o (a ++ (y ++ b))) ≡ see (locate o (a ++ (x ++ b)))
       go (low l) = rw (locate-left a (y ++ b) o l, locate-left a (x ++ b) o l)
       go (middle d p l) = rw (p, locate-mid a y b d l, locate-mid a x b d (omega arith)) (h d l (rw p at k))
       go (high d p) = rw (p, locate-high a y b d) (ap see (sym (cc (locate-high a x b d))))
@@ -120,7 +121,7 @@ module _ {Z : Type 0} where
     -- .. the first of the others begins where the old one began, ..
     pub begins-new : (q : ℕ) (x : Segment Z) (r : List (Segment Z)) → q + pl .away ≡ o → f (pl .segment) ≡ x ∷ r → 0 < pages x → Begins q (edit o f m) x
     begins-new q x r a fe pos =
-        let at : q ≡ total (S .before) * 4096 + 0 = omega (arith, S .at) in
+        let at : q ≡ total (S .before) * pageBytes + 0 = omega (arith, S .at) in
         rw (at, S .edits f, fe) (locate-mid (S .before) (x ∷ r) (S .behind) 0 (omega arith) ∙ rw (lt-ltb 0 (bytes x) (omega arith)))
 
     -- .. and what begins afterwards began before, or is part of the others.
@@ -128,21 +129,21 @@ module _ {Z : Type 0} where
         → Begins q m y ⊎ ((d : ℕ) × (q + pl .away ≡ o + d) × (locate d (f (pl .segment)) ≡ some (record { away = 0; segment = y })))
     begins-back t q y h = go (part _ _ q) (rw (S .edits f) at h)
       where
-        go : Part (total (S .before) * 4096) (total (f (pl .segment)) * 4096) q → Begins q (S .before ++ (f (pl .segment) ++ S .behind)) y
+        go : Part (total (S .before) * pageBytes) (total (f (pl .segment)) * pageBytes) q → Begins q (S .before ++ (f (pl .segment) ++ S .behind)) y
             → Begins q m y ⊎ ((d : ℕ) × (q + pl .away ≡ o + d) × (locate d (f (pl .segment)) ≡ some (record { away = 0; segment = y })))
         go (low l) k = inl (rw (S .whole, locate-left (S .before) _ q l, ← locate-left (S .before) (f (pl .segment) ++ S .behind) q l) k)
         go (middle d u l) k = inr (d, omega (arith, S .at), rw (← locate-mid (S .before) _ (S .behind) d l, ← u) k)
         go (high d u) k =
-            let w : q ≡ total (S .before) * 4096 + (total (pl .segment ∷ []) * 4096 + d) = omega arith in
+            let w : q ≡ total (S .before) * pageBytes + (total (pl .segment ∷ []) * pageBytes + d) = omega arith in
             inl (rw (S .whole, w, locate-high (S .before) (pl .segment ∷ []) (S .behind) d, ← locate-high (S .before) (f (pl .segment)) (S .behind) d, ← u) k)
 
   -- Where the segment begins that holds a byte: at a page.
-  pub start-of : (m : List (Segment Z)) (o : ℕ) {pl : Place Z} → locate o m ≡ some pl → (p : ℕ) × (p * 4096 + pl .away ≡ o) × (pl .away < bytes (pl .segment)) × Begins (p * 4096) m (pl .segment)
+  pub start-of : (m : List (Segment Z)) (o : ℕ) {pl : Place Z} → locate o m ≡ some pl → (p : ℕ) × (p * pageBytes + pl .away ≡ o) × (pl .away < bytes (pl .segment)) × Begins (p * pageBytes) m (pl .segment)
   start-of m o {pl} e =
       let S = split o m e in
-      let z : total (S .before) * 4096 ≡ total (S .before) * 4096 + 0 = omega arith in
+      let z : total (S .before) * pageBytes ≡ total (S .before) * pageBytes + 0 = omega arith in
       let l : 0 < bytes (pl .segment) = omega arith in
-      (total (S .before), sym (S .at), S .inside, ap (locate (total (S .before) * 4096)) (S .whole) ∙ rw z (locate-mid (S .before) (pl .segment ∷ []) (S .behind) 0 (omega arith) ∙ rw (lt-ltb 0 _ l)))
+      (total (S .before), sym (S .at), S .inside, ap (locate (total (S .before) * pageBytes)) (S .whole) ∙ rw z (locate-mid (S .before) (pl .segment ∷ []) (S .behind) 0 (omega arith) ∙ rw (lt-ltb 0 _ l)))
 
   -- What holds of every segment.
   pub each-append : (P : Segment Z → Type 0) (a b : List (Segment Z)) → Each P a → Each P b → Each P (a ++ b)

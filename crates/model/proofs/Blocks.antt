@@ -11,6 +11,7 @@ use lib.Dec.{ltb, eqb}
 use lib.ListN.{length, getD, List·getD-eq-default}
 use borrow.Author.Tests.{ltb-true, ltb-false, eqb-true, lt-ltb}
 use Rattle.lemmas.proofs.Cases.{bool, true-false, cond-same}
+use Rattle.model.specs.Numbers.{pageBytes, zoneBytes}
 use Rattle.model.specs.Sizes.{room, chunks}
 use Rattle.model.specs.Arena.{Segment, run, direct, zone, pages, bytes, total, Place, locate, edit}
 use Rattle.model.specs.PageMap.{Occupancy, padded, PageMap, allZero, idle, Block, chunk, chunkOf, blockIn, blockThere, blockAt}
@@ -69,7 +70,7 @@ edited o f m {pl} e t = go (split o m e)
   where
     go : Split o m pl → Edited o f m pl
     go s = record {
-      base = total (s .before) * 4096;
+      base = total (s .before) * pageBytes;
       at = s .at;
       inside = s .inside;
       now = λ d h. rw (s .edits f) (ap blockThere (locate-mid (s .before) (f _) (s .behind) d (omega arith)));
@@ -88,7 +89,7 @@ Still m m′ = ((q : ℕ) → blockAt m′ q ≡ blockAt m q) × (total m′ ≡
 
 runs-none : (k d : ℕ) → blockAt (withRun k []) d ≡ none
 runs-none zero d = refl
-runs-none (suc k) d = bool (ltb d (suc k * 4096)) (λ t. rw t) (λ t. rw t)
+runs-none (suc k) d = bool (ltb d (suc k * pageBytes)) (λ t. rw t) (λ t. rw t)
 
 -- A segment without blocks gives way to one whose one block begins at its start, and free pages.
 pub put-only : (o : ℕ) (m : PageMap) (x₀ x : Segment Occupancy) (k : ℕ) → locate o m ≡ some (record { away = 0; segment = x₀ }) → pages x + k ≡ pages x₀ → 0 < pages x → ((d : ℕ) → blockIn d x₀ ≡ none) → ((d : ℕ) → (d ≡ 0 → ⊥) → blockIn d x ≡ none) → Only m (edit o (λ _. x ∷ withRun k []) m) o (blockIn 0 x)
@@ -101,7 +102,7 @@ put-only o m x₀ x k e p pos bare alone =
     )
 
 -- Pages taken from a run.
-pub carve-only : (m : PageMap) (h : FreeRun) (n : ℕ) (x : Segment Occupancy) → 0 < n → claim n m ≡ some h → pages x ≡ n → ((d : ℕ) → (d ≡ 0 → ⊥) → blockIn d x ≡ none) → Only m (carve h n x m) (h .page * 4096) (blockIn 0 x)
+pub carve-only : (m : PageMap) (h : FreeRun) (n : ℕ) (x : Segment Occupancy) → 0 < n → claim n m ≡ some h → pages x ≡ n → ((d : ℕ) → (d ≡ 0 → ⊥) → blockIn d x ≡ none) → Only m (carve h n x m) (h .page * pageBytes) (blockIn 0 x)
 carve-only m h n x pos e p alone =
     let f = claim-found n m h pos e in
     put-only _ m _ x (h .size - n) (f .0) (omega arith) (omega arith) (λ d. refl) alone
@@ -138,7 +139,7 @@ padded-other n l l′ i h j ne = bool (ltb j n)
 -- The zone at a place gives way to another of its class whose owners differ at chunk i only.
 pub chunk-only : (o : ℕ) (f : Segment Occupancy → List (Segment Occupancy)) (m : PageMap) (d c i : ℕ) (l l′ : List ℕ) → locate o m ≡ some (record { away = d; segment = zone (record { class = c; groups = l }) }) →
     f (zone (record { class = c; groups = l })) ≡ zone (record { class = c; groups = l′ }) ∷ [] →
-    i * room c < 32768 → ((j : ℕ) → (j ≡ i → ⊥) → getD l′ j 0 ≡ getD l j 0) →
+    i * room c < zoneBytes → ((j : ℕ) → (j ≡ i → ⊥) → getD l′ j 0 ≡ getD l j 0) →
     (b : ℕ) → o ≡ b + d → Only m (edit o f m) (b + i * room c) (chunkOf c i (getD l′ i 0))
 chunk-only o f m d c i l l′ e fe h other b at =
     let E = edited o f m e (ap total fe) in
@@ -149,7 +150,7 @@ chunk-only o f m d c i l l′ e fe h other b at =
     )
 
 -- An idle zone gives way to any segment of 8 pages without a block, or is set up anew.
-pub idle-still : (o : ℕ) (f : Segment Occupancy → List (Segment Occupancy)) (m : PageMap) (d : ℕ) (l : Occupancy) → locate o m ≡ some (record { away = d; segment = zone l }) → idle l ≡ true → total (f (zone l)) ≡ 8 → ((k : ℕ) → k < 32768 → blockAt (f (zone l)) k ≡ none) → Still m (edit o f m)
+pub idle-still : (o : ℕ) (f : Segment Occupancy → List (Segment Occupancy)) (m : PageMap) (d : ℕ) (l : Occupancy) → locate o m ≡ some (record { away = d; segment = zone l }) → idle l ≡ true → total (f (zone l)) ≡ 8 → ((k : ℕ) → k < zoneBytes → blockAt (f (zone l)) k ≡ none) → Still m (edit o f m)
 idle-still o f m d l e i t h =
     let E = edited o f m e t in
     (λ q. E .rest (λ _. Unit {0}) (λ k u v. h k u ∙ sym (idle-blockIn k l i)) q tt, E .size)

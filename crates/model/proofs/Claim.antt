@@ -10,6 +10,7 @@ use native.Mathlib.Omega.{arith}
 use lib.Dec.{leb}
 use borrow.Author.Tests.{leb-true, leb-false, lt-ltb, le-ltb}
 use Rattle.lemmas.proofs.Cases.{bool, some-inj, clash, none-some}
+use Rattle.model.specs.Numbers.{pageBytes}
 use Rattle.model.specs.Arena.{Segment, run, direct, zone, pages, bytes, retold, locate}
 use Rattle.model.specs.Pages.{FreeRun, firstFit, claim}
 
@@ -18,27 +19,27 @@ module _ {Z : Type 0} where
   pub record Found (p n : ℕ) (m : List (Segment Z)) (h : FreeRun) : Type 0 where
     pub skip : ℕ
     pub page-is : h .page ≡ p + skip
-    pub run-there : locate (skip * 4096) m ≡ some (record { away = 0; segment = run (h .size) })
+    pub run-there : locate (skip * pageBytes) m ≡ some (record { away = 0; segment = run (h .size) })
     pub enough : n ≤ h .size
 
   found-later : (p n : ℕ) (x : Segment Z) (r : List (Segment Z)) (h : FreeRun) → Found (p + pages x) n r h → Found p n (x ∷ r) h
   found-later p n x r h f = record {
     skip = pages x + f .skip;
     page-is = omega arith;
-    run-there = rw (le-ltb ((pages x + f .skip) * 4096) (bytes x) (omega arith)) (ap (λ k. locate k r) (omega arith) ∙ f .run-there);
+    run-there = rw (le-ltb ((pages x + f .skip) * pageBytes) (bytes x) (omega arith)) (ap (λ k. locate k r) (omega arith) ∙ f .run-there);
     enough = f .enough;
   }
 
   firstFit-found : (p n : ℕ) (m : List (Segment Z)) (h : FreeRun) → 0 < n → firstFit p n m ≡ some h → Found p n m h
   firstFit-found p n [] h pos e = none-some e
-  firstFit-found p n (run k ∷ r) h pos e = bool (leb n k) (λ t. subst (Found p n (run k ∷ r)) (some-inj (rw t at e)) (record { skip = 0; page-is = omega arith; run-there = rw (lt-ltb 0 (k * 4096) (omega (arith, leb-true))); enough = leb-true n k t })) (λ t. found-later p n (run k) r h (firstFit-found (p + k) n r h pos (rw t at e)))
+  firstFit-found p n (run k ∷ r) h pos e = bool (leb n k) (λ t. subst (Found p n (run k ∷ r)) (some-inj (rw t at e)) (record { skip = 0; page-is = omega arith; run-there = rw (lt-ltb 0 (k * pageBytes) (omega (arith, leb-true))); enough = leb-true n k t })) (λ t. found-later p n (run k) r h (firstFit-found (p + k) n r h pos (rw t at e)))
   firstFit-found p n (direct k g ∷ r) h pos e = found-later p n _ r h (firstFit-found (p + k) n r h pos e)
   firstFit-found p n (zone z ∷ r) h pos e = found-later p n (zone z) r h (firstFit-found _ n r h pos e)
 
   -- Found: a run begins there and is long enough.
-  pub claim-found : (n : ℕ) (m : List (Segment Z)) (h : FreeRun) → 0 < n → claim n m ≡ some h → (locate (h .page * 4096) m ≡ some (record { away = 0; segment = run (h .size) })) × (n ≤ h .size)
+  pub claim-found : (n : ℕ) (m : List (Segment Z)) (h : FreeRun) → 0 < n → claim n m ≡ some h → (locate (h .page * pageBytes) m ≡ some (record { away = 0; segment = run (h .size) })) × (n ≤ h .size)
   unfolding claim
-  claim-found n m h pos e = let f = firstFit-found 0 n m h pos e in (ap (λ k. locate (k * 4096) m) (let q : h .page ≡ f .skip = omega arith in q) ∙ f .run-there, f .enough)
+  claim-found n m h pos e = let f = firstFit-found 0 n m h pos e in (ap (λ k. locate (k * pageBytes) m) (let q : h .page ≡ f .skip = omega arith in q) ∙ f .run-there, f .enough)
 
   abbrev pub HasRun : ℕ → List (Segment Z) → Type 0
   HasRun n m = (k : ℕ) × List·Memᴰ (run k) m × (n ≤ k)

@@ -9,6 +9,7 @@ use lib.Dec.{ltb}
 use lib.ListN.{length}
 use borrow.Author.Tests.{ltb-true, ltb-false}
 use Rattle.lemmas.proofs.Cases.{bool, some-inj, clash, none-some, by-eq}
+use Rattle.model.specs.Numbers.{pageBytes}
 use Rattle.model.specs.Sizes.{room, chunks}
 use Rattle.model.specs.Arena.{Segment, run, direct, zone, bytes, total, retold, Each}
 use Rattle.model.specs.Zone.{Zone}
@@ -67,7 +68,7 @@ segment-apart x d e (chunk c i g) (chunk k j h) p q l = go (chunk-there c i g d 
 
 -- In the whole page map -----------------------------------------------------------------------------------------------------
 
-map-inside : (m : PageMap) → Each Sized m → (o : ℕ) (b : Block) → blockAt m o ≡ some b → o + roomOf b ≤ total m * 4096
+map-inside : (m : PageMap) → Each Sized m → (o : ℕ) (b : Block) → blockAt m o ≡ some b → o + roomOf b ≤ total m * pageBytes
 map-inside [] h o b e = none-some e
 map-inside (x ∷ r) h o b e = bool (ltb o (bytes x))
     (λ t. omega (arith, segment-inside x (h .0) o b (rw t at e)))
@@ -84,7 +85,7 @@ map-apart (x ∷ r) h o q b c e f l = bool (ltb o (bytes x))
     (λ u. omega (arith, ltb-false, map-apart r (h .1) _ _ b c (rw t at e) (rw u at f) (omega (arith, ltb-false)))))
 
 -- A live block lies inside the arena.
-pub inside-arena : (s : State) → Valid s → (o : ℕ) (b : Block) → blockAt (pageMap s) o ≡ some b → o + roomOf b ≤ total (s .segments) * 4096
+pub inside-arena : (s : State) → Valid s → (o : ℕ) (b : Block) → blockAt (pageMap s) o ≡ some b → o + roomOf b ≤ total (s .segments) * pageBytes
 inside-arena s v o b e = omega (arith, map-inside (pageMap s) (all-sized (s .segments) (v .sound)) o b e, total-retold occupancy (s .segments))
 
 -- A byte x that two live blocks hold is held by one block.

@@ -11,7 +11,7 @@ use lib.ListN.{length, getD, set, List·getD-eq-default}
 use lib.Seq.{getD-set-other}
 use borrow.Author.Tests.{ltb-true, ltb-false}
 use Rattle.lemmas.proofs.Cases.{bool, either, and-left, clash}
-use Rattle.model.specs.Numbers.{mostSpare}
+use Rattle.model.specs.Numbers.{mostSpare, pageBytes}
 use Rattle.model.specs.Sizes.{room, chunks}
 use Rattle.model.specs.Arena.{Segment, run, direct, zone, retold, locate, edit}
 use Rattle.model.specs.Zone.{Zone, full, putBack}
@@ -50,8 +50,8 @@ pub record ChunkAt (s : State) (o c i g : ℕ) : Type 0 where
   pub page : ℕ
   pub here : Zone
   pub there : ZoneAt (s .segments) page here
-  pub at : page * 4096 + i * room c ≡ o
-  pub page-is : (o - i * room c) / 4096 ≡ page
+  pub at : page * pageBytes + i * room c ≡ o
+  pub page-is : (o - i * room c) / pageBytes ≡ page
   pub class : here .class ≡ c
   pub inside : i < chunks c
   pub owner : getD (here .owners) i 0 ≡ g
@@ -78,7 +78,7 @@ chunk-at s o c i g e =
       here = z;
       there = S .3;
       at = omega arith;
-      page-is = let q : o ≡ S .0 * 4096 + i * room c = omega arith in omega arith;
+      page-is = let q : o ≡ S .0 * pageBytes + i * room c = omega arith in omega arith;
       class = class;
       inside = omega (arith, ap chunks class);
       owner = sym (padded-in _ (z .owners) i inside) ∙ shows;
@@ -91,7 +91,7 @@ chunk-at s o c i g e =
 settled-still : (c p : ℕ) (l : List ℕ) (z : Zone) (s : State) → ZoneAt (s .segments) p z → Still (pageMap s) (pageMap (settled c p l z s))
 settled-still c p l z s there = either P (idleZone z && ltb 1 (length l)) _ _
     (λ t. either P (ltb (length (s .spare)) mostSpare) _ _ (λ _. same)
-    (λ _. rw (release-retold occupancy (p * 4096) _) (release-still (p * 4096) (pageMap s) 0 (occupancy z) (cc (locate-retold occupancy (p * 4096) _)) (and-left _ _ t))))
+    (λ _. rw (release-retold occupancy (p * pageBytes) _) (release-still (p * pageBytes) (pageMap s) 0 (occupancy z) (cc (locate-retold occupancy (p * pageBytes) _)) (and-left _ _ t))))
     (λ _. same)
   where
     P : State → Type 0
@@ -102,7 +102,7 @@ settled-still c p l z s there = either P (idleZone z && ltb 1 (length l)) _ _
 
 -- The zone with the chunk put back stands at its page.
 pub put-back-at : (s : State) (p : ℕ) (z z′ : Zone) → ZoneAt (s .segments) p z → ZoneAt (putZone p z′ (s .segments)) p z′
-put-back-at s p z z′ there = begins-new (p * 4096) (λ _. zone z′ ∷ []) (s .segments) there (p * 4096) (zone z′) [] (omega arith) refl (omega arith)
+put-back-at s p z z′ there = begins-new (p * pageBytes) (λ _. zone z′ ∷ []) (s .segments) there (p * pageBytes) (zone z′) [] (omega arith) refl (omega arith)
 
 back-only : (s : State) (o c i g : ℕ) (C : ChunkAt s o c i g) → Only (pageMap s) (pageMap (chunkBack c i (C .page) (C .here) s)) o none
 back-only s o c i g C =
@@ -111,12 +111,12 @@ back-only s o c i g C =
     let z′ = putBack i z in
     let t : State = arranged s (putZone p z′ (s .segments)) (s .lists) (s .spare) in
     let as-c : (y : Zone) → y .class ≡ c → occupancy y ≡ record { class = c; groups = padded (chunks c) (y .owners) } = λ y e. ap (λ k. record { class = k; groups = padded (chunks k) (y .owners) }) e in
-    let there : Begins (p * 4096) (pageMap s) (zone (record { class = c; groups = padded (chunks c) (z .owners) })) = locate-retold occupancy (p * 4096) (s .segments) ∙ ap (retoldPlace occupancy) (C .there) ∙ ap (λ y. some (record { away = 0; segment = zone y })) (as-c z (C .class)) in
+    let there : Begins (p * pageBytes) (pageMap s) (zone (record { class = c; groups = padded (chunks c) (z .owners) })) = locate-retold occupancy (p * pageBytes) (s .segments) ∙ ap (retoldPlace occupancy) (C .there) ∙ ap (λ y. some (record { away = 0; segment = zone y })) (as-c z (C .class)) in
     let gone : chunkOf c i (getD (padded (chunks c) (set (z .owners) i 0)) i 0) ≡ none = ap (chunkOf c i) (padded-in (chunks c) _ i (C .inside) ∙ set-zero (z .owners) i) in
-    let R = chunk-only (p * 4096) (λ _. zone (occupancy z′) ∷ []) (pageMap s) 0 c i _ _ there (ap (λ y. zone y ∷ []) (as-c z′ (C .class))) (chunk-begins c i (C .inside)) (padded-other (chunks c) (z .owners) _ i (λ j ne. getD-set-other (z .owners) i j 0 0 ne)) (p * 4096) (omega arith) in
-    let one : Only (pageMap s) (edit (p * 4096) (λ _. zone (occupancy z′) ∷ []) (pageMap s)) o none = subst (λ k. Only (pageMap s) (edit (p * 4096) (λ _. zone (occupancy z′) ∷ []) (pageMap s)) k none) (C .at) (rw gone at R) in
+    let R = chunk-only (p * pageBytes) (λ _. zone (occupancy z′) ∷ []) (pageMap s) 0 c i _ _ there (ap (λ y. zone y ∷ []) (as-c z′ (C .class))) (chunk-begins c i (C .inside)) (padded-other (chunks c) (z .owners) _ i (λ j ne. getD-set-other (z .owners) i j 0 0 ne)) (p * pageBytes) (omega arith) in
+    let one : Only (pageMap s) (edit (p * pageBytes) (λ _. zone (occupancy z′) ∷ []) (pageMap s)) o none = subst (λ k. Only (pageMap s) (edit (p * pageBytes) (λ _. zone (occupancy z′) ∷ []) (pageMap s)) k none) (C .at) (rw gone at R) in
     still-only (pageMap s) (pageMap t) (pageMap (chunkBack c i p z s)) o none
-    (rw (edit-retold occupancy (p * 4096) (λ _. zone z′ ∷ []) (λ _. zone (occupancy z′) ∷ []) (λ _. refl) _) one)
+    (rw (edit-retold occupancy (p * pageBytes) (λ _. zone z′ ∷ []) (λ _. zone (occupancy z′) ∷ []) (λ _. refl) _) one)
     (settled-still c p (cond (full z) (p ∷ listOf s c) (listOf s c)) z′ t (put-back-at s p z z′ (C .there)))
 
 -- The state after a chunk came back, by its zone.

@@ -9,7 +9,7 @@ use native.Mathlib.Omega.{arith}
 use lib.Dec.{ltb}
 use borrow.Author.Tests.{ltb-true, ltb-false, lt-ltb, le-ltb}
 use Rattle.lemmas.proofs.Cases.{bool, some-inj, clash, none-some}
-use Rattle.model.specs.Numbers.{zonePages}
+use Rattle.model.specs.Numbers.{zonePages, pageBytes}
 use Rattle.model.specs.Arena.{Segment, run, direct, zone, pages, bytes, total, retold, Place, locate, edit, Each}
 use Rattle.model.specs.State.{Begins}
 use Rattle.model.specs.Valid.{Apart}
@@ -25,10 +25,10 @@ module _ {Z : Type 0} where
 
     -- a part that is seen as v joins the run before it
     pub absorb : (n : ℕ) (x : Segment Z) (r : List (Segment Z)) → ((d : ℕ) → see (some (record { away = d; segment = x })) ≡ v) → (o : ℕ) → see (locate o (run (n + pages x) ∷ r)) ≡ see (locate o (run n ∷ (x ∷ r)))
-    absorb n x r h o = bool (ltb o (n * 4096)) (λ t. rw (t, lt-ltb o ((n + pages x) * 4096) (omega (arith, ltb-true))) (runs o _ ∙ sym (runs o n)))
-        (λ t. bool (ltb (o - n * 4096) (bytes x))
-        (λ u. rw (t, u, lt-ltb o ((n + pages x) * 4096) (omega (arith, ltb-true))) (runs o _ ∙ sym (h _)))
-        (λ u. rw (t, u, le-ltb o ((n + pages x) * 4096) (omega (arith, ltb-false))) (ap (λ k. see (locate k r)) (omega arith))))
+    absorb n x r h o = bool (ltb o (n * pageBytes)) (λ t. rw (t, lt-ltb o ((n + pages x) * pageBytes) (omega (arith, ltb-true))) (runs o _ ∙ sym (runs o n)))
+        (λ t. bool (ltb (o - n * pageBytes) (bytes x))
+        (λ u. rw (t, u, lt-ltb o ((n + pages x) * pageBytes) (omega (arith, ltb-true))) (runs o _ ∙ sym (h _)))
+        (λ u. rw (t, u, le-ltb o ((n + pages x) * pageBytes) (omega (arith, ltb-false))) (ap (λ k. see (locate k r)) (omega arith))))
 
     cons-see : (x : Segment Z) (r r′ : List (Segment Z)) → ((o : ℕ) → see (locate o r) ≡ see (locate o r′)) → (o : ℕ) → see (locate o (x ∷ r)) ≡ see (locate o (x ∷ r′))
     cons-see x r r′ h o = bool (ltb o (bytes x)) (λ t. rw t) (λ t. rw t (h _))
@@ -67,7 +67,7 @@ module _ {Z : Type 0} where
     where
       no-zone : (k d : ℕ) → locate d (withRun k []) ≡ some (record { away = 0; segment = zone z }) → ⊥
       no-zone zero d u = none-some u
-      no-zone (suc k) d u = bool (ltb d (suc k * 4096))
+      no-zone (suc k) d u = bool (ltb d (suc k * pageBytes))
           (λ t. let q : run (suc k) ≡ zone z = same-segment (rw t at u) in clash (cc))
           (λ t. none-some (rw t at u))
 

@@ -13,7 +13,7 @@ use lib.Seq.{getD-set-same, getD-set-other}
 use borrow.Author.Tests.{ltb-true, ltb-false, eqb-true, eqb-false}
 use Rattle.lemmas.specs.Times.{Distinct}
 use Rattle.lemmas.proofs.Cases.{bool, clash, by-eq}
-use Rattle.model.specs.Numbers.{classCount}
+use Rattle.model.specs.Numbers.{classCount, pageBytes}
 use Rattle.model.specs.Arena.{Segment, run, zone, total, locate, Each}
 use Rattle.model.specs.Zone.{Zone, full}
 use Rattle.model.specs.State.{State, listOf, arranged, Begins, ZoneAt, putZone}
@@ -124,7 +124,7 @@ rearranged s m c p l sp h v = record {
 }
   where
     class-of : (q : ℕ) (y : Zone) → ZoneAt m q y → y .class < classCount
-    class-of q y b = let k : ValidZone y = each-locate ValidSegment m (q * 4096) (v .sound) b in k .class
+    class-of q y b = let k : ValidZone y = each-locate ValidSegment m (q * pageBytes) (v .sound) b in k .class
 
     comp-here : (y : Zone) → y .class < classCount → ((y .class ≡ c) × List·Memᴰ p l) ⊎ List·Memᴰ p sp → List·Memᴰ p (getD (set (s .lists) c l) (y .class) []) ⊎ List·Memᴰ p sp
     comp-here y u (inl a) = inl (subst (λ k. List·Memᴰ p (getD (set (s .lists) c l) k [])) (sym (a .0)) (in-here (s .lists) c p l (omega arith) (a .1)))
@@ -159,29 +159,29 @@ rearranged s m c p l sp h v = record {
 
 module _ (m : List (Segment Zone)) (p : ℕ) (z z′ : Zone) (b : ZoneAt m p z) where
   pub put-size : total (putZone p z′ m) ≡ total m
-  put-size = total-edit (p * 4096) (λ _. zone z′ ∷ []) m b refl
+  put-size = total-edit (p * pageBytes) (λ _. zone z′ ∷ []) m b refl
 
   pub put-kept : (q : ℕ) (y : Zone) → ZoneAt m q y → (q ≡ p → ⊥) → ZoneAt (putZone p z′ m) q y
-  put-kept q y a ne = begins-kept (p * 4096) (λ _. zone z′ ∷ []) m b refl (q * 4096) (zone y) a (λ e. ne (omega arith))
+  put-kept q y a ne = begins-kept (p * pageBytes) (λ _. zone z′ ∷ []) m b refl (q * pageBytes) (zone y) a (λ e. ne (omega arith))
 
   pub put-new : ZoneAt (putZone p z′ m) p z′
-  put-new = begins-new (p * 4096) (λ _. zone z′ ∷ []) m b (p * 4096) (zone z′) [] (omega arith) refl (omega arith)
+  put-new = begins-new (p * pageBytes) (λ _. zone z′ ∷ []) m b (p * pageBytes) (zone z′) [] (omega arith) refl (omega arith)
 
   pub put-sound : ValidZone z′ → Each ValidSegment m → Each ValidSegment (putZone p z′ m)
-  put-sound k h = each-edit ValidSegment (p * 4096) (λ _. zone z′ ∷ []) (λ _ _. (k, tt)) m h
+  put-sound k h = each-edit ValidSegment (p * pageBytes) (λ _. zone z′ ∷ []) (λ _ _. (k, tt)) m h
 
   pub put-back : (q : ℕ) (y : Zone) → ZoneAt (putZone p z′ m) q y → (q ≡ p → ⊥) → ZoneAt m q y
-  put-back q y a ne = go (begins-back (p * 4096) (λ _. zone z′ ∷ []) m b refl (q * 4096) (zone y) a)
+  put-back q y a ne = go (begins-back (p * pageBytes) (λ _. zone z′ ∷ []) m b refl (q * pageBytes) (zone y) a)
     where
-      go : ZoneAt m q y ⊎ ((d : ℕ) × (q * 4096 + 0 ≡ p * 4096 + d) × (locate d (zone z′ ∷ []) ≡ some (record { away = 0; segment = zone y }))) → ZoneAt m q y
+      go : ZoneAt m q y ⊎ ((d : ℕ) × (q * pageBytes + 0 ≡ p * pageBytes + d) × (locate d (zone z′ ∷ []) ≡ some (record { away = 0; segment = zone y }))) → ZoneAt m q y
       go (inl x) = x
       go (inr x) = absurd (ne (omega (arith, cut-zone (zone z′) 0 (x .0) y (x .2) .0)))
 
   pub put-apart : Apart false m → Apart false (putZone p z′ m)
-  put-apart h = edit-apart false (p * 4096) (λ _. zone z′ ∷ []) m b (λ c r k. k) h
+  put-apart h = edit-apart false (p * pageBytes) (λ _. zone z′ ∷ []) m b (λ c r k. k) h
 
   pub put-is : (y : Zone) → ZoneAt (putZone p z′ m) p y → y ≡ z′
-  put-is y a = one-zone (putZone p z′ m) (p * 4096) y z′ a put-new
+  put-is y a = one-zone (putZone p z′ m) (p * pageBytes) y z′ a put-new
 
 -- No run begins where a zone does.
 pub not-run : (m : List (Segment Zone)) (q k : ℕ) (z : Zone) → Begins q m (run k) → Begins q m (zone z) → ⊥

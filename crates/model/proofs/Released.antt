@@ -11,6 +11,7 @@ use lib.Dec.{eqb}
 use lib.ListN.{getD}
 use borrow.Author.Tests.{eqb-true, ne-eqb}
 use Rattle.lemmas.proofs.Cases.{bool, clash, none-some}
+use Rattle.model.specs.Numbers.{pageBytes, zoneBytes}
 use Rattle.model.specs.Sizes.{room}
 use Rattle.model.specs.Arena.{Segment, run, direct, zone, Place, locate, edit}
 use Rattle.model.specs.PageMap.{Occupancy, PageMap, idle, Block, whole, chunk, chunkOf, blockIn, blockThere, blockAt}
@@ -92,10 +93,10 @@ release-still o m d l e i =
 pub put-fresh : (o : ℕ) (m : PageMap) (x₀ : Segment Occupancy) → locate o m ≡ some (record { away = 0; segment = x₀ }) → ((d : ℕ) → blockIn d x₀ ≡ none) → blockAt m o ≡ none
 put-fresh o m x₀ e bare = cc (bare 0)
 
-pub carve-fresh : (m : PageMap) (h : FreeRun) (n : ℕ) → 0 < n → claim n m ≡ some h → blockAt m (h .page * 4096) ≡ none
+pub carve-fresh : (m : PageMap) (h : FreeRun) (n : ℕ) → 0 < n → claim n m ≡ some h → blockAt m (h .page * pageBytes) ≡ none
 carve-fresh m h n pos e = put-fresh _ m _ (claim-found n m h pos e .0) (λ d. refl)
 
-pub chunk-fresh : (o : ℕ) (m : PageMap) (c i : ℕ) (l : List ℕ) → locate o m ≡ some (record { away = 0; segment = zone (record { class = c; groups = l }) }) → i * room c < 32768 → getD l i 0 ≡ 0 → blockAt m (o + i * room c) ≡ none
+pub chunk-fresh : (o : ℕ) (m : PageMap) (c i : ℕ) (l : List ℕ) → locate o m ≡ some (record { away = 0; segment = zone (record { class = c; groups = l }) }) → i * room c < zoneBytes → getD l i 0 ≡ 0 → blockAt m (o + i * room c) ≡ none
 chunk-fresh o m c i l e h z =
     let E = edited o (λ x. x ∷ []) m e (omega arith) in
     ap (blockAt m) (let q : o + i * room c ≡ E .base + i * room c = omega arith in q) ∙ E .was _ h ∙ blockIn-at c i l ∙ ap (chunkOf c i) z

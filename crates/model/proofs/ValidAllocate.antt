@@ -11,7 +11,7 @@ use lib.ListN.{length}
 use borrow.Author.Tests.{ltb-true, ltb-false}
 use Rattle.lemmas.specs.Times.{Distinct}
 use Rattle.lemmas.proofs.Cases.{bool, either, clash}
-use Rattle.model.specs.Numbers.{mostGroup, classCount}
+use Rattle.model.specs.Numbers.{mostGroup, classCount, pageBytes}
 use Rattle.model.specs.Sizes.{classOf, pagesFor}
 use Rattle.model.specs.Arena.{Segment, run, direct, zone, pages, total, locate, Each}
 use Rattle.model.specs.Zone.{Zone, full, newZone, nextChunk, granted}
@@ -42,7 +42,7 @@ module _ (m : List (Segment Zone)) (n : ℕ) (x : Segment Zone) (h : FreeRun) (p
   abbrev carved : List (Segment Zone)
   carved = carve h n x m
 
-  there : Begins (h .page * 4096) m (run (h .size))
+  there : Begins (h .page * pageBytes) m (run (h .size))
   there = claim-found n m h pos e .0
 
   fills : pages x + total (withRun {Z = Zone} (h .size - n) []) ≡ h .size
@@ -55,17 +55,17 @@ module _ (m : List (Segment Zone)) (n : ℕ) (x : Segment Zone) (h : FreeRun) (p
   carved-sound k ok = each-edit ValidSegment _ (λ _. x ∷ withRun (h .size - n) []) (λ _ _. (k, each-run ValidSegment (λ _. tt) (h .size - n) [] tt)) m ok
 
   carved-kept : (q : ℕ) (y : Zone) → ZoneAt m q y → ZoneAt carved q y
-  carved-kept q y b = begins-kept _ (λ _. x ∷ withRun (h .size - n) []) m there fills (q * 4096) (zone y) b
-      (λ z. not-run m (q * 4096) (h .size) y (rw (let w : h .page * 4096 ≡ q * 4096 = omega arith in w) at there) b)
+  carved-kept q y b = begins-kept _ (λ _. x ∷ withRun (h .size - n) []) m there fills (q * pageBytes) (zone y) b
+      (λ z. not-run m (q * pageBytes) (h .size) y (rw (let w : h .page * pageBytes ≡ q * pageBytes = omega arith in w) at there) b)
 
-  carved-new : Begins (h .page * 4096) carved x
+  carved-new : Begins (h .page * pageBytes) carved x
   carved-new = begins-new _ (λ _. x ∷ withRun (h .size - n) []) m there _ x _ (omega arith) refl (omega arith)
 
   -- A zone that begins after the carving began before it, or is what was put in.
   carved-back : (q : ℕ) (y : Zone) → ZoneAt carved q y → ZoneAt m q y ⊎ ((q ≡ h .page) × (x ≡ zone y))
-  carved-back q y b = go (begins-back _ (λ _. x ∷ withRun (h .size - n) []) m there fills (q * 4096) (zone y) b)
+  carved-back q y b = go (begins-back _ (λ _. x ∷ withRun (h .size - n) []) m there fills (q * pageBytes) (zone y) b)
     where
-      go : ZoneAt m q y ⊎ ((d : ℕ) × (q * 4096 + 0 ≡ h .page * 4096 + d) × (locate d (x ∷ withRun (h .size - n) []) ≡ some (record { away = 0; segment = zone y }))) → ZoneAt m q y ⊎ ((q ≡ h .page) × (x ≡ zone y))
+      go : ZoneAt m q y ⊎ ((d : ℕ) × (q * pageBytes + 0 ≡ h .page * pageBytes + d) × (locate d (x ∷ withRun (h .size - n) []) ≡ some (record { away = 0; segment = zone y }))) → ZoneAt m q y ⊎ ((q ≡ h .page) × (x ≡ zone y))
       go (inl a) = inl a
       go (inr a) = let c = cut-zone x (h .size - n) (a .0) y (a .2) in inr (omega arith, c .1)
 
@@ -98,7 +98,7 @@ module _ (s : State) (h : Valid s) (g : ℕ) (least : 0 < g) (most : g ≤ mostG
         let m = carve o 8 new (s .segments) in
         let run-there = claim-found 8 _ o (omega arith) e .0 in
         let begun : ZoneAt m p (newZone c g) = carved-new _ 8 new o (omega arith) refl e in
-        let no-zone : (z : Zone) → ZoneAt (s .segments) p z → ⊥ = λ z. not-run (s .segments) (p * 4096) (o .size) z run-there in
+        let no-zone : (z : Zone) → ZoneAt (s .segments) p z → ⊥ = λ z. not-run (s .segments) (p * pageBytes) (o .size) z run-there in
         rearranged s m c p (p ∷ []) (s .spare) h (record {
           size = carved-size _ 8 new o (omega arith) refl e;
           apart = carved-apart _ 8 new o (omega arith) refl e (λ k r a. a) (h .apart);
@@ -108,7 +108,7 @@ module _ (s : State) (h : Valid s) (g : ℕ) (least : 0 < g) (most : g ≤ mostG
           alone = λ k ne i. let w = h .listed k p i in no-zone (w .0) (w .1);
           here-listed = λ _. (newZone c g, begun, refl, new-open c g class);
           here-spared = λ i. absurd (let w = h .spared p i in no-zone (w .0) (w .1));
-          here-complete = λ y b _. inl (cc (one-zone m (p * 4096) y _ b begun), List·Memᴰ·head refl);
+          here-complete = λ y b _. inl (cc (one-zone m (p * pageBytes) y _ b begun), List·Memᴰ·head refl);
           here-once = λ _ i. let w = h .spared p i in no-zone (w .0) (w .1);
           list-old = λ q ne i. absurd (ne (List·Memᴰ·eq-of-singleton i));
           list-kept = λ q ne i. absurd (List·Memᴰ·not-nil (rw el at i));
@@ -165,7 +165,7 @@ module _ (s : State) (h : Valid s) (g : ℕ) (least : 0 < g) (most : g ≤ mostG
           sound = put-sound m p z z′ b (G .stays-valid) (h .sound);
           kept = put-kept m p z z′ b;
           back = put-back m p z z′ b;
-          alone = λ n ne j. let w = h .listed n p j in ne (cc (one-zone m (p * 4096) (w .0) z (w .1) b));
+          alone = λ n ne j. let w = h .listed n p j in ne (cc (one-zone m (p * pageBytes) (w .0) z (w .1) b));
           here-listed = bool (full z′) (λ t. rw t (λ j. absurd (nd .0 j))) (λ t _. (z′, put-new m p z z′ b, G .same-class ∙ k, t));
           here-spared = λ j. absurd (h .not-both c p inn j);
           here-complete = λ y a f. let y-is = put-is m p z z′ b y a in
@@ -184,7 +184,7 @@ module _ (s : State) (h : Valid s) (g : ℕ) (least : 0 < g) (most : g ≤ mostG
     chunk-valid [] e = spare-valid e (s .spare) refl
     chunk-valid (p ∷ ps) e =
         let w = h .listed c p (rw e (List·Memᴰ·head refl)) in
-        let ok : ValidZone (w .0) = each-locate ValidSegment (s .segments) (p * 4096) (h .sound) (w .1) in
+        let ok : ValidZone (w .0) = each-locate ValidSegment (s .segments) (p * pageBytes) (h .sound) (w .1) in
         rw (w .1) (served-valid p ps (w .0) e (w .1) (w .2) (grants g least most (w .0) ok (w .3)))
 
 pub allocate-valid : (s : State) → Valid s → (g n : ℕ) → Valid ((allocate g n s) .after)

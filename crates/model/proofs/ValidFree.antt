@@ -12,7 +12,7 @@ use borrow.Author.Tests.{ltb-true}
 use Rattle.lemmas.specs.Times.{Distinct, remove}
 use Rattle.lemmas.proofs.Cases.{bool, either, true-false, and-left, clash}
 use Rattle.lemmas.proofs.Distinct.{remove-in, remove-keeps, remove-gone, remove-distinct}
-use Rattle.model.specs.Numbers.{mostSpare}
+use Rattle.model.specs.Numbers.{mostSpare, pageBytes}
 use Rattle.model.specs.Sizes.{chunks}
 use Rattle.model.specs.Arena.{Segment, run, direct, zone, pages, total, locate, edit, Each}
 use Rattle.model.specs.Zone.{Zone, full, putBack}
@@ -44,19 +44,19 @@ module _ (m : List (Segment Zone)) (o : ℕ) (x : Segment Zone) (b : Begins o m 
   released-apart : Apart false (release o m)
   released-apart = joined-apart (λ _. false) 0 opened
 
-  released-kept : (q : ℕ) (y : Zone) → ZoneAt m q y → (q * 4096 ≡ o → ⊥) → ZoneAt (release o m) q y
-  released-kept q y a ne = joined-begins (λ _. false) opened (q * 4096) y refl (begins-kept o freePages m b (omega arith) (q * 4096) (zone y) a (λ e. ne (omega arith)))
+  released-kept : (q : ℕ) (y : Zone) → ZoneAt m q y → (q * pageBytes ≡ o → ⊥) → ZoneAt (release o m) q y
+  released-kept q y a ne = joined-begins (λ _. false) opened (q * pageBytes) y refl (begins-kept o freePages m b (omega arith) (q * pageBytes) (zone y) a (λ e. ne (omega arith)))
 
   released-back : (q : ℕ) (y : Zone) → ZoneAt (release o m) q y → ZoneAt m q y
-  released-back q y a = go (begins-back o freePages m b (omega arith) (q * 4096) (zone y) (joined-back (λ _. false) opened (q * 4096) y refl a))
+  released-back q y a = go (begins-back o freePages m b (omega arith) (q * pageBytes) (zone y) (joined-back (λ _. false) opened (q * pageBytes) y refl a))
     where
-      go : ZoneAt m q y ⊎ ((d : ℕ) × (q * 4096 + 0 ≡ o + d) × (locate d (run (pages x) ∷ []) ≡ some (record { away = 0; segment = zone y }))) → ZoneAt m q y
+      go : ZoneAt m q y ⊎ ((d : ℕ) × (q * pageBytes + 0 ≡ o + d) × (locate d (run (pages x) ∷ []) ≡ some (record { away = 0; segment = zone y }))) → ZoneAt m q y
       go (inl a) = a
       go (inr a) = let u : run (pages x) ≡ zone y = cut-zone _ 0 (a .0) y (a .2) .1 in clash (cc)
 
   -- No zone is left there.
-  released-gone : 0 < pages x → (q : ℕ) → q * 4096 ≡ o → (y : Zone) → ZoneAt (release o m) q y → ⊥
-  released-gone pos q e y a = not-run opened (q * 4096) (pages x) y (begins-new o freePages m b (q * 4096) _ [] (omega arith) refl pos) (joined-back (λ _. false) opened (q * 4096) y refl a)
+  released-gone : 0 < pages x → (q : ℕ) → q * pageBytes ≡ o → (y : Zone) → ZoneAt (release o m) q y → ⊥
+  released-gone pos q e y a = not-run opened (q * pageBytes) (pages x) y (begins-new o freePages m b (q * pageBytes) _ [] (omega arith) refl pos) (joined-back (λ _. false) opened (q * pageBytes) y refl a)
 
 -- A chunk comes back -------------------------------------------------------------------------------------------------
 
@@ -78,7 +78,7 @@ module _ (s : State) (h : Valid s) (o c i g : ℕ) (C : ChunkAt s o c i g) where
   relisted = cond (full z) (p ∷ listOf s c) (listOf s c)
 
   z-valid : ValidZone z
-  z-valid = each-locate ValidSegment (s .segments) (p * 4096) (h .sound) (C .there)
+  z-valid = each-locate ValidSegment (s .segments) (p * pageBytes) (h .sound) (C .there)
 
   z′-valid : ValidZone z′
   z′-valid = putBack-valid i z z-valid (omega arith)
@@ -87,7 +87,7 @@ module _ (s : State) (h : Valid s) (o c i g : ℕ) (C : ChunkAt s o c i g) where
   not-spare : List·Memᴰ p (s .spare) → ⊥
   not-spare j =
       let w = h .spared p j in
-      let e = one-zone (s .segments) (p * 4096) (w .0) z (w .1) (C .there) in
+      let e = one-zone (s .segments) (p * pageBytes) (w .0) z (w .1) (C .there) in
       let inside : i < chunks (z .class) = omega (arith, ap chunks (C .class)) in
       omega (arith, allZero-getD (padded (chunks (z .class)) (z .owners)) (cc) i, padded-in _ (z .owners) i inside)
 
@@ -95,7 +95,7 @@ module _ (s : State) (h : Valid s) (o c i g : ℕ) (C : ChunkAt s o c i g) where
   own-class : (k : ℕ) → List·Memᴰ p (listOf s k) → (k ≡ c) × (full z ≡ false)
   own-class k j =
       let w = h .listed k p j in
-      let e = one-zone (s .segments) (p * 4096) (w .0) z (w .1) (C .there) in
+      let e = one-zone (s .segments) (p * pageBytes) (w .0) z (w .1) (C .there) in
       (cc, cc)
 
   relisted-once : Distinct relisted
@@ -170,17 +170,17 @@ module _ (s : State) (h : Valid s) (o c i g : ℕ) (C : ChunkAt s o c i g) where
       go q ne (inr e) = e
 
   -- .. or it is given back to the runs.
-  returns : Move s (release (p * 4096) chained) c p (remove p relisted) (s .spare)
+  returns : Move s (release (p * pageBytes) chained) c p (remove p relisted) (s .spare)
   returns = let new = put-new (s .segments) p z z′ (C .there) in record {
-    size = released-size chained (p * 4096) (zone z′) new ∙ stays .size;
-    apart = released-apart chained (p * 4096) (zone z′) new;
-    sound = released-sound chained (p * 4096) (zone z′) new (stays .sound);
-    kept = λ q y b ne. released-kept chained (p * 4096) (zone z′) new q y (stays .kept q y b ne) (λ e. ne (omega arith));
-    back = λ q y a ne. stays .back q y (released-back chained (p * 4096) (zone z′) new q y a) ne;
+    size = released-size chained (p * pageBytes) (zone z′) new ∙ stays .size;
+    apart = released-apart chained (p * pageBytes) (zone z′) new;
+    sound = released-sound chained (p * pageBytes) (zone z′) new (stays .sound);
+    kept = λ q y b ne. released-kept chained (p * pageBytes) (zone z′) new q y (stays .kept q y b ne) (λ e. ne (omega arith));
+    back = λ q y a ne. stays .back q y (released-back chained (p * pageBytes) (zone z′) new q y a) ne;
     alone = stays .alone;
     here-listed = λ j. absurd (remove-gone p relisted j);
     here-spared = λ j. absurd (not-spare j);
-    here-complete = λ y a _. absurd (released-gone chained (p * 4096) (zone z′) new (omega arith) p refl y a);
+    here-complete = λ y a _. absurd (released-gone chained (p * pageBytes) (zone z′) new (omega arith) p refl y a);
     here-once = λ j _. remove-gone p relisted j;
     list-old = λ q ne j. relisted-old q ne (remove-in p relisted j .1);
     list-kept = λ q ne j. remove-keeps p (λ e. ne (sym e)) (relisted-kept q j);

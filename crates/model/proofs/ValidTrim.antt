@@ -11,6 +11,7 @@ use Rattle.lemmas.specs.Keep.{keep}
 use Rattle.lemmas.proofs.Cases.{true-false}
 use Rattle.lemmas.proofs.Keep.{keep-in, keep-keeps}
 use Rattle.lemmas.proofs.Distinct.{distinct-keep}
+use Rattle.model.specs.Numbers.{pageBytes}
 use Rattle.model.specs.Arena.{Segment}
 use Rattle.model.specs.Zone.{Zone, full}
 use Rattle.model.specs.State.{State, listOf, ZoneAt, zoneAt}
@@ -35,7 +36,7 @@ trimmed-valid s h = record {
   sound = each-joined ValidSegment (λ _. tt) idleZone 0 (s .segments) (h .sound);
   classes = cc (length-map (s .lists) _);
   listed = λ c p i. stays c p (keep-in test _ (rw (lists-are c) at i));
-  complete = λ p z b f. found p z (live p z b) (joined-back idleZone (s .segments) (p * 4096) z (live p z b) b) f;
+  complete = λ p z b f. found p z (live p z b) (joined-back idleZone (s .segments) (p * pageBytes) z (live p z b) b) f;
   few = omega arith;
   spared = λ p i. absurd (List·Memᴰ·not-nil i);
   once = λ c. rw (lists-are c) (distinct-keep test (listOf s c) (h .once c));
@@ -51,16 +52,16 @@ trimmed-valid s h = record {
 
     -- a zone that is left has a live chunk
     live : (p : ℕ) (z : Zone) → ZoneAt (joined idleZone 0 (s .segments)) p z → idleZone z ≡ false
-    live p z b = each-locate _ (joined idleZone 0 (s .segments)) (p * 4096) (not-freed idleZone 0 (s .segments)) b
+    live p z b = each-locate _ (joined idleZone 0 (s .segments)) (p * pageBytes) (not-freed idleZone 0 (s .segments)) b
 
     stays : (c p : ℕ) → (test p ≡ true) × List·Memᴰ p (listOf s c) → OpenAt (joined idleZone 0 (s .segments)) c p
     stays c p f =
         let w = h .listed c p (f .1) in
-        (w .0, joined-begins idleZone (s .segments) (p * 4096) (w .0) (not-true _ (cc (busy-test _ p (w .0) (w .1)))) (w .1), w .2, w .3)
+        (w .0, joined-begins idleZone (s .segments) (p * pageBytes) (w .0) (not-true _ (cc (busy-test _ p (w .0) (w .1)))) (w .1), w .2, w .3)
 
     found : (p : ℕ) (z : Zone) → idleZone z ≡ false → ZoneAt (s .segments) p z → full z ≡ false → List·Memᴰ p (listOf (trimmed s) (z .class)) ⊎ List·Memᴰ p []
     found p z n a f = go (h .complete p z a f)
       where
         go : List·Memᴰ p (listOf s (z .class)) ⊎ List·Memᴰ p (s .spare) → List·Memᴰ p (listOf (trimmed s) (z .class)) ⊎ List·Memᴰ p []
         go (inl x) = inl (rw (lists-are (z .class)) (keep-keeps test (busy-test (s .segments) p z a ∙ ap not n) x))
-        go (inr x) = absurd (let w = h .spared p x in true-false (w .2) (cc (one-zone (s .segments) (p * 4096) (w .0) z (w .1) a)))
+        go (inr x) = absurd (let w = h .spared p x in true-false (w .2) (cc (one-zone (s .segments) (p * pageBytes) (w .0) z (w .1) a)))

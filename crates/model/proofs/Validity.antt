@@ -9,7 +9,7 @@ use lib.Dec.{ltb, leb, eqb}
 use lib.ListN.{length, getD, replicate, length-replicate, getD-replicate, List·getD-eq-default}
 use borrow.Author.Tests.{ltb-true, ltb-false, leb-true}
 use Rattle.lemmas.proofs.Cases.{bool, true-false, and-left, and-right, clash}
-use Rattle.model.specs.Numbers.{classCount, mostPages}
+use Rattle.model.specs.Numbers.{classCount, mostPages, pageBytes}
 use Rattle.model.specs.declared.Refusal.{Refusal}
 use Rattle.model.specs.declared.Operation.{Operation}
 use Rattle.model.specs.declared.Operation.the-variants.{Allocate, Free, Reset}
@@ -54,7 +54,7 @@ bare-valid m least most apart sound bare = record {
 
 pub fresh-valid : (n : ℕ) → 0 < n → n ≤ mostPages → Valid (freshState n)
 fresh-valid n least most = bare-valid _ (omega arith) (omega arith) (refl, least, tt) (tt, tt)
-    (λ p z b. let u : run n ≡ zone z = cut-zone (run n) 0 (p * 4096) z b .1 in clash (cc))
+    (λ p z b. let u : run n ≡ zone z = cut-zone (run n) 0 (p * pageBytes) z b .1 in clash (cc))
 
 -- Calls on a valid state ------------------------------------------------------------------------------------------------
 

@@ -7,7 +7,7 @@ use native.Mathlib.Omega.{arith}
 use lib.ListN.{length, take, drop}
 use Rattle.lemmas.specs.Parts.{putMid}
 use Rattle.lemmas.proofs.Cases.{true-false}
-use Rattle.model.specs.Numbers.{mostPages, pageWords}
+use Rattle.model.specs.Numbers.{mostPages, pageWords, pageBytes}
 use Rattle.model.specs.Arena.{Segment, run, direct, zone, pages, total}
 use Rattle.model.specs.Zone.{Zone}
 use Rattle.model.specs.Valid.{Apart}
@@ -116,7 +116,7 @@ pub record Joined (m : List (Segment Zone)) (p b len : ℕ) (behind : List (Segm
   pub pre : List (Segment Zone)
   pub post : List (Segment Zone)
   pub after : ℕ
-  pub whole : release (p * 4096) m ≡ pre ++ (run (b + len + after) ∷ post)
+  pub whole : release (p * pageBytes) m ≡ pre ++ (run (b + len + after) ∷ post)
   pub starts : total pre ≡ p - b
   pub low : b ≤ p
   pub behind-is : behind ≡ withRun after post
@@ -168,13 +168,13 @@ module _ {w : List ℕ} {m : List (Segment Zone)} {n p b len : ℕ} {x : Segment
   given-words r e = rw e (part-words h (left .rest) between (right .rest) whole-is (p - b) (b + len + after) starts between-size)
 
   -- The joined segments.
-  joined-is : release (p * 4096) m ≡ left .rest ++ (run (b + len + after) ∷ right .rest)
+  joined-is : release (p * pageBytes) m ≡ left .rest ++ (run (b + len + after) ∷ right .rest)
   joined-is =
       ap (joined (λ _. false) 0) (edit-stands s freePages pos ∙ (λ i. left-is i ++ (run (size i) ∷ right .is i)) ∙ append-assoc (left .rest) _ _ ∙ ap (λ l. left .rest ++ l) (run-append b _))
       ∙ joined-local (left .rest) _ b len after (omega (arith, pos)) (apart-front false (left .rest) _ (subst (Apart false) left-is (apart-front false (s .before) _ all))) (left .no-run) (right .apart)
 
-  pub given-put : (r : ℕ) → r ≡ after → (v : List ℕ) → v ≡ segmentEncoding (run (b + len + r)) → putMid (pageWords * (p - b)) (pageWords * (p - b) + pageWords * (b + len + r) - pageWords * (p - b)) w v ≡ segmentsEncoding (release (p * 4096) m)
-  given-put r e v f = subst (λ k. v ≡ segmentEncoding (run (b + len + k)) → putMid (pageWords * (p - b)) (pageWords * (p - b) + pageWords * (b + len + k) - pageWords * (p - b)) w v ≡ segmentsEncoding (release (p * 4096) m)) (sym e)
+  pub given-put : (r : ℕ) → r ≡ after → (v : List ℕ) → v ≡ segmentEncoding (run (b + len + r)) → putMid (pageWords * (p - b)) (pageWords * (p - b) + pageWords * (b + len + r) - pageWords * (p - b)) w v ≡ segmentsEncoding (release (p * pageBytes) m)
+  given-put r e v f = subst (λ k. v ≡ segmentEncoding (run (b + len + k)) → putMid (pageWords * (p - b)) (pageWords * (p - b) + pageWords * (b + len + k) - pageWords * (p - b)) w v ≡ segmentsEncoding (release (p * pageBytes) m)) (sym e)
       (λ g. part-put h (left .rest) between _ whole-is (p - b) _ starts between-size _ v (g ∙ sym (encoding-one _)) ∙ ap segmentsEncoding (sym joined-is)) f
 
   -- The run that the pages are part of afterwards, and what stands before and behind it.

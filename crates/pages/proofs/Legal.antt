@@ -89,11 +89,25 @@ module _ (n : ℕ) (w : List ℕ) (long : Long n w) where
       as-direct k f =
           let len = getD w 1 0 in
           let g = getD w 2 0 in
-          let gs = and-left (groupIn w) _ (f .2) in
-          (direct len g, record { ok = (f .0, (f .0, leb-true 1 g (and-left (leb 1 g) _ gs), leb-true g mostGroup
-              (and-right (leb 1 g) _ gs))); within = f .1; words = direct-words _ len g
-              (blank 3 len n w long (f .0) (f .1) (zero-is 3 len w (omega arith) (omega arith) (and-right (groupIn w) _ (f .2)))) (front len 0 w (omega arith) ∙ k)
-              (front len 1 w (omega arith)) (front len 2 w (omega arith)) }, f .3)
+          let gs = and-left (groupIn w) _ (f .2) in (
+            direct len g,
+            record {
+              ok = (
+                f .0,
+                (
+                  f .0,
+                  leb-true 1 g (and-left (leb 1 g) _ gs),
+                  leb-true g mostGroup
+                      (and-right (leb 1 g) _ gs),
+                ),
+              );
+              within = f .1;
+              words = direct-words _ len g
+                  (blank 3 len n w long (f .0) (f .1) (zero-is 3 len w (omega arith) (omega arith) (and-right (groupIn w) _ (f .2)))) (front len 0 w (omega arith) ∙ k)
+                  (front len 1 w (omega arith)) (front len 2 w (omega arith));
+            },
+            f .3,
+          )
 
   -- Such a segment is found.
   pub leads-size : (x : Segment Zone) → Leads n w x → sizeAt n w ≡ pages x

@@ -7,7 +7,7 @@ use lib.ListN.{length, take, drop}
 use borrow.Author.Tests.{lt-ltb, le-ltb}
 use Rattle.lemmas.specs.Parts.{putMid}
 use Rattle.lemmas.proofs.Parts.{mid-at, put-at}
-use Rattle.model.specs.Numbers.{mostPages, pageWords}
+use Rattle.model.specs.Numbers.{mostPages, pageWords, pageBytes}
 use Rattle.model.specs.Arena.{Segment, run, pages, bytes, total, edit, Each}
 use Rattle.model.specs.Zone.{Zone}
 use Rattle.model.specs.Pages.{withRun, carve}
@@ -47,12 +47,12 @@ module _ {w : List ℕ} {m : List (Segment Zone)} {n : ℕ} (h : Encodes w m n) 
       ∙ sym (encoding-append a (new ++ c))
 
 -- An edit of the segment that begins behind a.
-pub edit-behind : (a : List (Segment Zone)) (x : Segment Zone) (c : List (Segment Zone)) (f : Segment Zone → List (Segment Zone)) (o : ℕ) → o ≡ total a * 4096 → 0 < pages x → edit o f (a ++ (x ∷ c)) ≡ a ++ (f x ++ c)
+pub edit-behind : (a : List (Segment Zone)) (x : Segment Zone) (c : List (Segment Zone)) (f : Segment Zone → List (Segment Zone)) (o : ℕ) → o ≡ total a * pageBytes → 0 < pages x → edit o f (a ++ (x ∷ c)) ≡ a ++ (f x ++ c)
 edit-behind [] x c f o e p = rw (lt-ltb o (bytes x) (omega arith))
 edit-behind (y ∷ a) x c f o e p = rw (le-ltb o (bytes y) (omega arith)) (cc (edit-behind a x c f (o - bytes y) (omega arith) p))
 
-pub edit-stands : {m : List (Segment Zone)} {p b : ℕ} {x : Segment Zone} (s : Stands m p b x) (f : Segment Zone → List (Segment Zone)) → 0 < pages x → edit (p * 4096) f m ≡ s .before ++ (f x ++ s .behind)
-edit-stands {m} {p} {b} {x} s f pos = cc (edit-behind (s .before) x (s .behind) f (p * 4096) (omega (arith, s .starts)) pos)
+pub edit-stands : {m : List (Segment Zone)} {p b : ℕ} {x : Segment Zone} (s : Stands m p b x) (f : Segment Zone → List (Segment Zone)) → 0 < pages x → edit (p * pageBytes) f m ≡ s .before ++ (f x ++ s .behind)
+edit-stands {m} {p} {b} {x} s f pos = cc (edit-behind (s .before) x (s .behind) f (p * pageBytes) (omega (arith, s .starts)) pos)
 
 -- A run gives way to a segment in its low pages and the rest.
 module _ {w : List ℕ} {m : List (Segment Zone)} {n p b len : ℕ} (h : Encodes w m n) (s : Stands m p b (run len)) (pos : 0 < len) where

@@ -9,7 +9,7 @@ use borrow.Author.Tests.{ltb-true, ltb-false, lt-ltb}
 use lib.ListN.{getD, drop}
 use lib.Seq.{getD-drop}
 use Rattle.lemmas.proofs.Cases.{bool}
-use Rattle.model.specs.Numbers.{pageWords}
+use Rattle.model.specs.Numbers.{pageWords, pageBytes}
 use Rattle.model.specs.Arena.{Segment, direct, pages, bytes, total, locate}
 use Rattle.model.specs.Zone.{Zone}
 use Rattle.model.proofs.Arena.{locate-right}
@@ -36,10 +36,10 @@ pub spotted : (m : List (Segment Zone)) (q : ℕ) → Spotted m q (spotFrom q 0 
 spotted m q = spotted-from q 0 0 m (omega arith) (passed-none m)
 
 -- A byte d behind the start of a segment is held by it.
-pub stands-locate : {m : List (Segment Zone)} {p b : ℕ} {x : Segment Zone} (s : Stands m p b x) (o d : ℕ) → o ≡ p * 4096 + d → d < bytes x → locate o m ≡ some (record { away = d; segment = x })
+pub stands-locate : {m : List (Segment Zone)} {p b : ℕ} {x : Segment Zone} (s : Stands m p b x) (o d : ℕ) → o ≡ p * pageBytes + d → d < bytes x → locate o m ≡ some (record { away = d; segment = x })
 stands-locate {m} {p} {b} {x} s o d e h =
     ap (λ l. locate o l) (s .whole)
-    ∙ ap (λ k. locate k (s .before ++ (x ∷ s .behind))) (let q : o ≡ total (s .before) * 4096 + d = omega arith in q)
+    ∙ ap (λ k. locate k (s .before ++ (x ∷ s .behind))) (let q : o ≡ total (s .before) * pageBytes + d = omega arith in q)
     ∙ locate-right (s .before) _ d
     ∙ rw (lt-ltb d (bytes x) h)
 

@@ -5,7 +5,7 @@ use mathlib.Core.List.{List, [], _∷_, _++_, append-assoc}
 use mathlib.Core.Bool.{false}
 use native.Mathlib.Omega.{arith}
 use lib.ListN.{length}
-use Rattle.model.specs.Numbers.{mostPages}
+use Rattle.model.specs.Numbers.{mostPages, pageBytes}
 use Rattle.model.specs.Arena.{Segment, run, pages, total, Each}
 use Rattle.model.specs.Zone.{Zone}
 use Rattle.model.specs.State.{State}
@@ -30,7 +30,7 @@ joined-run m p b x a v h s e =
     let k : Encodes (segmentsEncoding m) m (total m) = record { words = refl; sound = all-writable false m a v; covers = refl; most = h } in
     given-run k a s refl e
 
-module _ {v : List ℕ} {n p b len : ℕ} (good : Good v n) (m behind : List (Segment Zone)) (is : decode v .segments ≡ release (p * 4096) m) (j : Joined m p b len behind) where
+module _ {v : List ℕ} {n p b len : ℕ} (good : Good v n) (m behind : List (Segment Zone)) (is : decode v .segments ≡ release (p * pageBytes) m) (j : Joined m p b len behind) where
   abbrev all : ℕ
   all = b + len + j .after
 

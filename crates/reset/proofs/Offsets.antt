@@ -9,7 +9,7 @@ use lib.ListN.{length, getD, set, drop, length-append}
 use lib.Seq.{drop-cons}
 use borrow.Author.Tests.{eq-eqb, ne-eqb}
 use Rattle.lemmas.proofs.Cases.{bool, true-false}
-use Rattle.model.specs.Numbers.{zonePages}
+use Rattle.model.specs.Numbers.{zonePages, pageBytes}
 use Rattle.model.specs.Sizes.{room, chunks}
 use Rattle.model.specs.Arena.{Segment, run, direct, zone, total, Each}
 use Rattle.model.specs.Zone.{Zone, putBack}
@@ -26,22 +26,22 @@ use Rattle.reset.specs.Sweep.{offsetsAt, offsetsIn}
 -- In segments --------------------------------------------------------------------------------------------------------------------
 
 module _ (g p : ℕ) (r : List (Segment Zone)) where
-  on : (k q : ℕ) → q ≡ (p + k) * 4096 → q ≡ p * 4096 + k * 4096
+  on : (k q : ℕ) → q ≡ (p + k) * pageBytes → q ≡ p * pageBytes + k * pageBytes
   on k q e = omega arith
 
   pub at-run : (k : ℕ) → offsetsAt g p (run k ∷ r) ≡ offsetsAt g (p + k) r
-  at-run k = cc (on k ((p + k) * 4096) refl)
+  at-run k = cc (on k ((p + k) * pageBytes) refl)
 
   pub at-other : (k h : ℕ) → (h ≡ g → ⊥) → offsetsAt g p (direct k h ∷ r) ≡ offsetsAt g (p + k) r
-  at-other k h f = rw (ne-eqb h g f) (cc (on k ((p + k) * 4096) refl))
+  at-other k h f = rw (ne-eqb h g f) (cc (on k ((p + k) * pageBytes) refl))
 
-  pub at-direct : (k : ℕ) → offsetsAt g p (direct k g ∷ r) ≡ (p * 4096) ∷ offsetsAt g (p + k) r
-  at-direct k = rw (eq-eqb g g refl) (cc (on k ((p + k) * 4096) refl))
+  pub at-direct : (k : ℕ) → offsetsAt g p (direct k g ∷ r) ≡ (p * pageBytes) ∷ offsetsAt g (p + k) r
+  at-direct k = rw (eq-eqb g g refl) (cc (on k ((p + k) * pageBytes) refl))
 
   pub at-zone : (z : Zone) → offsetsAt g p (zone z ∷ r) ≡ offsetsIn g p 0 z ++ offsetsAt g (p + zonePages) r
-  at-zone z = λ j. chunkOffsets g (from j) (room (z .class)) (occupancy z .groups) ++ offsetsFrom g ((sym (on 8 ((p + zonePages) * 4096) refl)) j) (shown r)
+  at-zone z = λ j. chunkOffsets g (from j) (room (z .class)) (occupancy z .groups) ++ offsetsFrom g ((sym (on 8 ((p + zonePages) * pageBytes) refl)) j) (shown r)
     where
-      from : p * 4096 ≡ p * 4096 + 0 * room (z .class)
+      from : p * pageBytes ≡ p * pageBytes + 0 * room (z .class)
       from = omega arith
 
   pub at-free : (a : ℕ) → offsetsAt g p (withRun a r) ≡ offsetsAt g (p + a) r
@@ -82,12 +82,12 @@ module _ (g p i : ℕ) (z : Zone) (v : ValidZone z) where
   r = room (z .class)
 
   -- Chunk i, and those behind it.
-  first : i < chunks (z .class) → offsetsIn g p i z ≡ putIf (eqb (getD (z .owners) i 0) g) (p * 4096 + i * r) (offsetsIn g p (i + 1) z)
+  first : i < chunks (z .class) → offsetsIn g p i z ≡ putIf (eqb (getD (z .owners) i 0) g) (p * pageBytes + i * r) (offsetsIn g p (i + 1) z)
   first h =
-      ap (chunkOffsets g (p * 4096 + i * r) r) (drop-cons _ i 0 (omega (arith, padded-length (chunks (z .class)) (z .owners))))
-      ∙ (λ j. putIf (eqb (group-shown z v i j) g) (p * 4096 + i * r) (chunkOffsets g (next j) r (drop (suc-is j) (occupancy z .groups))))
+      ap (chunkOffsets g (p * pageBytes + i * r) r) (drop-cons _ i 0 (omega (arith, padded-length (chunks (z .class)) (z .owners))))
+      ∙ (λ j. putIf (eqb (group-shown z v i j) g) (p * pageBytes + i * r) (chunkOffsets g (next j) r (drop (suc-is j) (occupancy z .groups))))
     where
-      next : p * 4096 + i * r + r ≡ p * 4096 + (i + 1) * r
+      next : p * pageBytes + i * r + r ≡ p * pageBytes + (i + 1) * r
       next = omega arith
 
       suc-is : suc i ≡ i + 1
@@ -96,11 +96,11 @@ module _ (g p i : ℕ) (z : Zone) (v : ValidZone z) where
   pub in-skip : i < chunks (z .class) → (getD (z .owners) i 0 ≡ g → ⊥) → offsetsIn g p i z ≡ offsetsIn g p (i + 1) z
   in-skip h f = first h ∙ rw (ne-eqb _ g f)
 
-  pub in-take : i < chunks (z .class) → getD (z .owners) i 0 ≡ g → offsetsIn g p i z ≡ (p * 4096 + i * room (z .class)) ∷ offsetsIn g p (i + 1) z
+  pub in-take : i < chunks (z .class) → getD (z .owners) i 0 ≡ g → offsetsIn g p i z ≡ (p * pageBytes + i * room (z .class)) ∷ offsetsIn g p (i + 1) z
   in-take h e = first h ∙ rw (eq-eqb _ g e)
 
   pub in-back : offsetsIn g p (i + 1) z ≡ offsetsIn g p (i + 1) (putBack i z)
-  in-back = ap (chunkOffsets g (p * 4096 + (i + 1) * r) r) (rw (let e : suc i ≡ i + 1 = omega arith in e) at (sym (padded-behind (chunks (z .class)) (z .owners) i 0)))
+  in-back = ap (chunkOffsets g (p * pageBytes + (i + 1) * r) r) (rw (let e : suc i ≡ i + 1 = omega arith in e) at (sym (padded-behind (chunks (z .class)) (z .owners) i 0)))
 
 pub in-past : (g p i : ℕ) (z : Zone) → 0 < g → length (z .owners) ≤ i → offsetsIn g p i z ≡ []
 in-past g p i z h k = none-zero g _ _ (drop i (occupancy z .groups)) h (padded-past (chunks (z .class)) (z .owners) i k)
@@ -114,11 +114,17 @@ few-chunks : (g o r : ℕ) (l : List ℕ) → length (chunkOffsets g o r l) ≤ 
 few-chunks g o r [] = omega arith
 few-chunks g o r (x ∷ l) = let h = few-chunks g (o + r) r l in bool (eqb x g) (λ t. rw t (omega arith)) (λ t. rw t (omega arith))
 
-pub few-offsets : (g o : ℕ) (m : List (Segment Zone)) → Each ValidSegment m → length (offsetsFrom g o (shown m)) ≤ total m * 4096
+pub few-offsets : (g o : ℕ) (m : List (Segment Zone)) → Each ValidSegment m → length (offsetsFrom g o (shown m)) ≤ total m * pageBytes
 few-offsets g o [] h = omega arith
-few-offsets g o (run k ∷ r) h = let e = few-offsets g (o + k * 4096) r (h .1) in omega arith
-few-offsets g o (direct k x ∷ r) h = let e = few-offsets g (o + k * 4096) r (h .1) in let p = h .0 .0 in bool (eqb x g) (λ t. rw t (omega arith)) (λ t. rw t (omega arith))
+few-offsets g o (run k ∷ r) h = let e = few-offsets g (o + k * pageBytes) r (h .1) in omega arith
+few-offsets g o (direct k x ∷ r) h = let e = few-offsets g (o + k * pageBytes) r (h .1) in let p = h .0 .0 in bool (eqb x g) (λ t. rw t (omega arith)) (λ t. rw t (omega arith))
 few-offsets g o (zone z ∷ r) h =
-    let e = few-offsets g (o + zonePages * 4096) r (h .1) in
-    omega (arith, length-append (chunkOffsets g o (room (z .class)) (occupancy z .groups)) (offsetsFrom g (o + zonePages * 4096) (shown r)), few-chunks g o (room (z .class))
-        (occupancy z .groups), padded-length (chunks (z .class)) (z .owners), chunks-most (z .class))
+    let e = few-offsets g (o + zonePages * pageBytes) r (h .1) in
+    omega (
+      arith,
+      length-append (chunkOffsets g o (room (z .class)) (occupancy z .groups)) (offsetsFrom g (o + zonePages * pageBytes) (shown r)),
+      few-chunks g o (room (z .class))
+          (occupancy z .groups),
+      padded-length (chunks (z .class)) (z .owners),
+      chunks-most (z .class),
+    )

@@ -6,7 +6,7 @@ use mathlib.Core.Bool.{Bool, true, false}
 use native.Mathlib.Omega.{arith}
 use lib.ListN.{length, getD}
 use Rattle.lemmas.proofs.Cases.{some-inj}
-use Rattle.model.specs.Numbers.{zonePages, mostPages}
+use Rattle.model.specs.Numbers.{zonePages, mostPages, pageBytes}
 use Rattle.model.specs.Arena.{Segment, run, direct, zone, pages}
 use Rattle.model.specs.Zone.{Zone, touched}
 use Rattle.model.specs.State.{State, zoneAt}
@@ -81,7 +81,7 @@ pub record ZoneWalk (g n p b T : ℕ) (w₀ w : List ℕ) (i k : ℕ) : Type 0 w
   pub same : touched (zoneAt p (decode w .segments)) ≡ T
   pub low : i ≤ T
   pub few : k ≤ i
-  pub most : T ≤ 4096
+  pub most : T ≤ pageBytes
 
 module _ {g c n p b k : ℕ} {t : State} {w : List ℕ} (h : InZone g t c w n p b 0 k) where
   pub zone-begun : ZoneHere (decode w) p

@@ -7,7 +7,7 @@ use native.Mathlib.Omega.{arith}
 use native.Mathlib.Nat.{mul-div-cancel, mul-mod-left}
 use lib.ListN.{length, getD, length-set}
 use borrow.Author.Tests.{eq-eqb}
-use Rattle.model.specs.Numbers.{zonePages}
+use Rattle.model.specs.Numbers.{zonePages, mostBytes, pageBytes}
 use Rattle.model.specs.Sizes.{room, chunks}
 use Rattle.model.specs.Arena.{Segment, direct, zone, pages, total}
 use Rattle.model.specs.Zone.{Zone, touched, putBack}
@@ -49,7 +49,7 @@ pub sweep-start : {w : List ℕ} {n : ℕ} (g : ℕ) → Good w n → Sweep g (f
 sweep-start {w} {n} g h = record { good = h; before = []; left = decode w .segments; whole = refl; starts = refl; ends = refl; rest = refl; counted = omega arith }
 
 -- A reset counts no more blocks than the arena has bytes.
-pub few-in-all : {w : List ℕ} {n : ℕ} (g : ℕ) → Good w n → length (offsetsOf g (decode w)) ≤ 1048576
+pub few-in-all : {w : List ℕ} {n : ℕ} (g : ℕ) → Good w n → length (offsetsOf g (decode w)) ≤ mostBytes
 few-in-all {w} {n} g h = omega (arith, few-offsets g 0 (decode w .segments) (h .valid .sound))
 
 -- Behind the last page everything has.
@@ -113,11 +113,11 @@ Rests y w p i = Remains y i p (zoneAt p (decode w .segments)) (decode w) (return
 -- The chunks of a zone ------------------------------------------------------------------------------------------------------------
 
 -- The live chunk i is a block of its group.
-pub chunk-told : (s : State) → Valid s → {p b : ℕ} (i g : ℕ) (z : Zone) → Stands (s .segments) p b (zone z) → getD (z .owners) i 0 ≡ g → 0 < g → Tells s (p * 4096 + i * room (z .class)) (Chunk p b (z .class) i g)
+pub chunk-told : (s : State) → Valid s → {p b : ℕ} (i g : ℕ) (z : Zone) → Stands (s .segments) p b (zone z) → getD (z .owners) i 0 ≡ g → 0 < g → Tells s (p * pageBytes + i * room (z .class)) (Chunk p b (z .class) i g)
 chunk-told s v {p} {b} i g z st e h =
     let ok = zone-valid s p b z st v in
     let low : i < chunks (z .class) = omega (arith, owned-touched (z .owners) i (omega (arith, e))) in
-    let block : blockAt (pageMap s) (p * 4096 + i * room (z .class)) ≡ chunkOf (z .class) i g =
+    let block : blockAt (pageMap s) (p * pageBytes + i * room (z .class)) ≡ chunkOf (z .class) i g =
     block-here s st _ (i * room (z .class)) refl (chunk-begins (z .class) i low)
     ∙ rw (eq-eqb _ 0 (mul-mod-left i (room (z .class))))
     (cc (mul-div-cancel i (room-pos (z .class)), group-shown z ok i)) in
@@ -170,10 +170,10 @@ module _ {g c n p b i k : ℕ} {t : State} {w : List ℕ} (h : InZone g t c w n 
     is : zoneAt p (s .segments) ≡ z
     is = zone-is s p b z (h .stands)
 
-    taken : offsetsIn g p i z ≡ (p * 4096 + i * room (z .class)) ∷ offsetsIn g p (i + 1) z
+    taken : offsetsIn g p i z ≡ (p * pageBytes + i * room (z .class)) ∷ offsetsIn g p (i + 1) z
     taken = in-take g p i z ok (inside (owned-touched (z .owners) i (omega arith))) mine
 
-    told : Tells s (p * 4096 + i * room (z .class)) (Chunk p b (z .class) i g)
+    told : Tells s (p * pageBytes + i * room (z .class)) (Chunk p b (z .class) i g)
     told = chunk-told s (h .good .valid) i g z (h .stands) mine pos
 
     abbrev s′ : State
@@ -182,7 +182,7 @@ module _ {g c n p b i k : ℕ} {t : State} {w : List ℕ} (h : InZone g t c w n 
     after : freedAll (offsetsIn g p (i + 1) z ++ tail) s′ ≡ t
     after =
         ap (freedAll (offsetsIn g p (i + 1) z ++ tail)) (sym (chunk-freed s (z .class) i told))
-        ∙ ap (λ y. freedAll (offsetsIn g p (i + 1) z ++ tail) (freedIf (p * 4096 + i * room (z .class)) y s)) (sym (told .0))
+        ∙ ap (λ y. freedAll (offsetsIn g p (i + 1) z ++ tail) (freedIf (p * pageBytes + i * room (z .class)) y s)) (sym (told .0))
         ∙ ap (λ x. freedAll (x ++ tail) s) (sym taken)
         ∙ h .rest
 
@@ -229,7 +229,7 @@ module _ {g c n p b i k : ℕ} {t : State} {w : List ℕ} (h : InZone g t c w n 
 
       -- Its pages have come back.
       module _ (m : Rests false w p i) where
-        freed-as : s′ .segments ≡ release (p * 4096) (putZone p (putBack i z) (s .segments))
+        freed-as : s′ .segments ≡ release (p * pageBytes) (putZone p (putBack i z) (s .segments))
         freed-as = cc (m .0, same-zone)
 
         size : total (s′ .segments) ≡ total (s .segments)
@@ -238,7 +238,7 @@ module _ {g c n p b i k : ℕ} {t : State} {w : List ℕ} (h : InZone g t c w n 
         pub gone-good : Good v n
         gone-good = good size
 
-        pub gone-segments : decode v .segments ≡ release (p * 4096) (putZone p (putBack i (h .z)) (decode w .segments))
+        pub gone-segments : decode v .segments ≡ release (p * pageBytes) (putZone p (putBack i (h .z)) (decode w .segments))
         gone-segments = rw decoded freed-as
 
         pub gone-joined : Joined (putZone p (putBack i (h .z)) (decode w .segments)) p b 8 (h .stands .behind)
@@ -268,11 +268,11 @@ module _ {g c n p b k len : ℕ} {t : State} {w : List ℕ} (i : Sweep g t c w n
   some-pages : 0 < len
   some-pages = (each-right (i .before) _ (rw (i .whole ∙ ap (λ l. i .before ++ l) is) at (i .good .lent .sound))) .0 .0
 
-  block-told : Tells (decode w) (p * 4096) (Whole p len b g)
-  block-told = found-whole (decode w) block (p * 4096) refl some-pages
+  block-told : Tells (decode w) (p * pageBytes) (Whole p len b g)
+  block-told = found-whole (decode w) block (p * pageBytes) refl some-pages
 
   valid-after : Valid (released p (decode w))
-  valid-after = subst Valid (whole-freed (decode w) len block-told) (freed-valid (decode w) (i .good .valid) (p * 4096) _ (block-told .0))
+  valid-after = subst Valid (whole-freed (decode w) len block-told) (freed-valid (decode w) (i .good .valid) (p * pageBytes) _ (block-told .0))
 
   block-decoded : decode v ≡ released p (decode w)
   block-decoded = good-decoded v _ valid-after e
@@ -280,13 +280,13 @@ module _ {g c n p b k len : ℕ} {t : State} {w : List ℕ} (i : Sweep g t c w n
   pub block-good : Good v n
   block-good = good-of v _ n valid-after e (cc (release-total block some-pages))
 
-  pub block-segments : decode v .segments ≡ release (p * 4096) (decode w .segments)
+  pub block-segments : decode v .segments ≡ release (p * pageBytes) (decode w .segments)
   block-segments = cc block-decoded
 
   pub block-joined : Joined (decode w .segments) p b len behind
   block-joined = joined-run _ p b _ (i .good .valid .apart) (i .good .valid .sound) (i .good .valid .most) block refl
 
-  all-offsets : offsetsAt g p (i .left) ≡ (p * 4096) ∷ offsetsAt g (p + len) behind
+  all-offsets : offsetsAt g p (i .left) ≡ (p * pageBytes) ∷ offsetsAt g (p + len) behind
   all-offsets = cc (at-direct g p behind len)
 
   pub block-rest : freedAll (offsetsAt g (p + len) behind) (decode v) ≡ t

@@ -4,7 +4,7 @@ use mathlib.Core.Path.{_≡_, refl, sym, ap, _∙_, subst}
 use mathlib.Core.List.{List, [], _∷_, _++_, append-assoc, append-nil}
 use mathlib.Core.Bool.{Bool, true, false}
 use native.Mathlib.Omega.{arith}
-use Rattle.model.specs.Numbers.{zonePages}
+use Rattle.model.specs.Numbers.{zonePages, pageBytes}
 use Rattle.model.specs.Arena.{Segment, run, direct, zone}
 use Rattle.model.specs.Zone.{Zone}
 use Rattle.model.specs.Valid.{Apart}
@@ -58,14 +58,14 @@ module _ {m : List (Segment Zone)} {p b a : ℕ} {z : Zone} (t : Between m p b a
     front : Apart false (t .before)
     front = apart-front false (t .before) _ (subst (Apart false) (t .whole) h)
 
-    pub between-released : release (p * 4096) m ≡ t .before ++ (run (b + zonePages + a) ∷ t .behind)
+    pub between-released : release (p * pageBytes) m ≡ t .before ++ (run (b + zonePages + a) ∷ t .behind)
     unfolding between-stands
     between-released =
         ap (joined (λ _. false) 0) (edit-stands between-stands freePages (omega arith) ∙ run-then (t .before) b _)
         ∙ joined-local (t .before) (t .behind) b 8 a (omega arith) front (no-run-ends false false 0 (t .before) front (t .no-run) (λ _. refl)) (t .apart)
 
     -- The run that they become part of.
-    pub between-run : Stands (release (p * 4096) m) (p - b) 0 (run (b + zonePages + a))
+    pub between-run : Stands (release (p * pageBytes) m) (p - b) 0 (run (b + zonePages + a))
     between-run = record {
       before = t .before;
       behind = t .behind;

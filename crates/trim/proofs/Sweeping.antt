@@ -7,7 +7,7 @@ use native.Mathlib.Omega.{arith}
 use lib.ListN.{set, getD}
 use Rattle.lemmas.specs.Times.{remove}
 use Rattle.lemmas.proofs.Cases.{true-false}
-use Rattle.model.specs.Numbers.{zonePages}
+use Rattle.model.specs.Numbers.{zonePages, pageBytes}
 use Rattle.model.specs.Arena.{Segment, run, direct, zone, pages, total, edit, Each}
 use Rattle.model.specs.Zone.{Zone}
 use Rattle.model.specs.State.{State}
@@ -196,7 +196,7 @@ module _ {s₀ s : State} {n p b k : ℕ} (i : Sweeping s₀ s n p b k) where
         whole = cc (between-released sweep-between (i .apart), some-run (b + zonePages + a) (after .rest) (omega arith));
         starts = omega arith;
         no-run = i .no-run;
-        apart = joined-apart (λ _. false) 0 (edit (p * 4096) freePages (s .segments));
+        apart = joined-apart (λ _. false) 0 (edit (p * pageBytes) freePages (s .segments));
         size = cc (release-total (between-stands sweep-between) (omega arith));
         few = omega arith;
         segments = cc (joined-run (b + zonePages) a (after .rest), idle-joins (withRun a (after .rest)), zone-left, i .segments);

@@ -14,7 +14,7 @@ use Rattle.lemmas.specs.Times.{remove}
 use Rattle.lemmas.proofs.Cases.{bool, and-both, cond-same, some-inj, none-some}
 use Rattle.lemmas.proofs.Every.{every-of-members}
 use Rattle.lemmas.proofs.Keep.{keep-all, keep-keep, keep-same}
-use Rattle.model.specs.Numbers.{zonePages}
+use Rattle.model.specs.Numbers.{zonePages, pageBytes}
 use Rattle.model.specs.Arena.{Segment, run, direct, zone, pages, bytes, locate}
 use Rattle.model.specs.Zone.{Zone}
 use Rattle.model.specs.State.{State, listOf, ZoneAt, zoneAt}
@@ -97,11 +97,11 @@ stays-past c p q (x ∷ r) h = and-both _ _ (by-past c p q x (omega arith)) (sta
 -- A page at which a zone of the class begins stays just if the zone is not idle.
 stays-zone : (c p q : ℕ) (m : List (Segment Zone)) (z : Zone) → ZoneAt m q z → z .class ≡ c → stays c p m (p + q) ≡ not (idleZone z)
 stays-zone c p q [] z b e = none-some b
-stays-zone c p q (x ∷ r) z b e = bool (ltb (q * 4096) (bytes x))
+stays-zone c p q (x ∷ r) z b e = bool (ltb (q * pageBytes) (bytes x))
     (λ t. let k = some-inj (rw t at b) in here (omega (arith, ap (λ a. a .away) k)) (ap (λ a. a .segment) k))
     (λ t.
-    let a = ltb-false (q * 4096) (bytes x) t in
-    there a (stays-zone c _ _ r z (ap (λ o. locate o r) (let u : (q - pages x) * 4096 ≡ q * 4096 - bytes x = omega arith in u) ∙ (rw t at b)) e))
+    let a = ltb-false (q * pageBytes) (bytes x) t in
+    there a (stays-zone c _ _ r z (ap (λ o. locate o r) (let u : (q - pages x) * pageBytes ≡ q * pageBytes - bytes x = omega arith in u) ∙ (rw t at b)) e))
   where
     here : q ≡ 0 → x ≡ zone z → stays c p (x ∷ r) (p + q) ≡ not (idleZone z)
     here a k = rw k (rw (eq-eqb c (z .class) (sym e), eq-eqb p (p + q) (omega arith), stays-past c (p + zonePages) (p + q) r (omega arith)) (go (idleZone z)))
@@ -110,7 +110,7 @@ stays-zone c p q (x ∷ r) z b e = bool (ltb (q * 4096) (bytes x))
         go true = refl
         go false = refl
 
-    there : bytes x ≤ q * 4096 → stays c (p + pages x) r (p + pages x + (q - pages x)) ≡ not (idleZone z) → stays c p (x ∷ r) (p + q) ≡ not (idleZone z)
+    there : bytes x ≤ q * pageBytes → stays c (p + pages x) r (p + pages x + (q - pages x)) ≡ not (idleZone z) → stays c p (x ∷ r) (p + q) ≡ not (idleZone z)
     there a k =
         ap (λ t. t && stays c (p + pages x) r (p + q)) (by-past c p (p + q) x (omega arith))
         ∙ ap (stays c _ r) (let u : p + q ≡ p + pages x + (q - pages x) = omega arith in u)

@@ -78,8 +78,19 @@ module _ {w₀ w : List ℕ} {n p b k : ℕ} (i : Trimming w₀ w n p b k) where
       -- The run that its pages become part of is inside the arena and longer than what stood before.
       pub trim-bound : (b ≤ p) × (p + zonePages + after ≤ n)
       trim-bound =
-          let t = between in
-          (omega (arith, t .starts), omega (arith, i .sweep .size, t .starts, ap (λ l. total l) (t .whole), total-append (t .before) (withRun b (zone (it .0) ∷ withRun after (t .behind))), total-withRun b (zone (it .0) ∷ withRun after (t .behind)), total-withRun after (t .behind)))
+          let t = between in (
+            omega (arith, t .starts),
+            omega (
+              arith,
+              i .sweep .size,
+              t .starts,
+              ap (λ l. total l) (t .whole),
+              total-append (t .before) (withRun b (zone (it .0) ∷ withRun after (t .behind))),
+              total-withRun b
+                  (zone (it .0) ∷ withRun after (t .behind)),
+              total-withRun after (t .behind),
+            ),
+          )
 
       pub trim-given : (r : ℕ) (v : List ℕ) → (r ≡ b + zonePages + after) × (v ≡ encode (released p (unlisted (it .0 .class) p (decode w)))) → Trimming w₀ v n (p - b + r) r (k + 1)
       trim-given r v e = subst (λ y. Trimming w₀ v n (p - b + y) y (k + 1)) (sym (e .0)) (record {

@@ -5,7 +5,7 @@ use mathlib.Core.List.{List, _∷_, _++_}
 use mathlib.Core.Bool.{true, false}
 use native.Mathlib.Omega.{arith}
 use Rattle.lemmas.proofs.Cases.{true-false}
-use Rattle.model.specs.Numbers.{zonePages, classCount, mostPages}
+use Rattle.model.specs.Numbers.{zonePages, classCount, mostPages, pageBytes}
 use Rattle.model.specs.Arena.{Segment, run, direct, zone, pages, total, Each}
 use Rattle.model.specs.Zone.{Zone}
 use Rattle.model.specs.State.{State, ZoneAt, zoneAt}
@@ -98,7 +98,7 @@ module _ {w : List ℕ} (h : Lent w) (apart : Apart false (decode w .segments)) 
   sound-all : Each Writable (t .before ++ withRun b (zone z ∷ withRun a (t .behind)))
   sound-all = subst (λ l. Each Writable l) (t .whole) (h .sound)
 
-  released-sound : Each Writable (release (p * 4096) m)
+  released-sound : Each Writable (release (p * pageBytes) m)
   released-sound = subst (λ l. Each Writable l) (sym (between-released t apart))
       (each-append Writable (t .before) _ (each-left (t .before) _ sound-all)
       ((omega arith, tt), each-behind a (t .behind) (each-behind b _ (each-right (t .before) _ sound-all) .1)))

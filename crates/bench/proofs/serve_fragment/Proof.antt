@@ -27,8 +27,12 @@ add-used : tie.Need-add-used Inv-loop μ-loop
 add-used c =
     let s = c .before .before .before .before .before .before in
     let l = loop-before-turn (turn s) in
-    omega (arith, part-holds (l .loop .out) (l .loop .used) _ 207 (l .loop .inv .1) refl (omega arith) (s .serve-next .ensures .reply), part-keeps (l .loop .out)
-        (l .loop .used) _ 207 (l .loop .inv .1) refl (omega arith) (s .serve-next .ensures .reply))
+    omega (
+      arith,
+      part-holds (l .loop .out) (l .loop .used) _ 207 (l .loop .inv .1) refl (omega arith) (s .serve-next .ensures .reply),
+      part-keeps (l .loop .out)
+          (l .loop .used) _ 207 (l .loop .inv .1) refl (omega arith) (s .serve-next .ensures .reply),
+    )
 
 sub-if1 : tie.Need-sub-if1 Inv-loop μ-loop
 sub-if1 c =
@@ -45,10 +49,12 @@ loop-less c =
 loop-again : tie.Need-loop-again Inv-loop μ-loop
 loop-again c =
     let s = c .before .before .before .before .before .before .before in
-    let l = loop-before-turn (turn s) in
-    (serving-turn (l .loop .inv .0) (s .serve-next .ensures) (search needs)
-        (part-keeps (l .loop .out) (l .loop .used) _ 207 (l .loop .inv .1) refl (omega arith) (s .serve-next .ensures .reply)), omega
-        (arith, part-holds (l .loop .out) (l .loop .used) _ 207 (l .loop .inv .1) refl (omega arith) (s .serve-next .ensures .reply)))
+    let l = loop-before-turn (turn s) in (
+      serving-turn (l .loop .inv .0) (s .serve-next .ensures) (search needs)
+          (part-keeps (l .loop .out) (l .loop .used) _ 207 (l .loop .inv .1) refl (omega arith) (s .serve-next .ensures .reply)),
+      omega
+          (arith, part-holds (l .loop .out) (l .loop .used) _ 207 (l .loop .inv .1) refl (omega arith) (s .serve-next .ensures .reply)),
+    )
 
 slice-reshare-prefix-write-all : tie.Need-slice-reshare-prefix-write-all Inv-loop μ-loop
 slice-reshare-prefix-write-all c =
@@ -76,10 +82,12 @@ loop-less-2 c =
 loop-again-2 : tie.Need-loop-again-2 Inv-loop μ-loop
 loop-again-2 c =
     let s = c .before .before .before .before .before .before .before .before .before .before in
-    let l = loop-before-turn (turn s) in
-    (serving-turn (l .loop .inv .0) (s .serve-next .ensures) (search needs)
-        (part-keeps (l .loop .out) (l .loop .used) _ 207 (l .loop .inv .1) refl (omega arith) (s .serve-next .ensures .reply)), omega
-        (arith, part-keeps (l .loop .out) (l .loop .used) _ 207 (l .loop .inv .1) refl (omega arith) (s .serve-next .ensures .reply), l .loop .inv .1))
+    let l = loop-before-turn (turn s) in (
+      serving-turn (l .loop .inv .0) (s .serve-next .ensures) (search needs)
+          (part-keeps (l .loop .out) (l .loop .used) _ 207 (l .loop .inv .1) refl (omega arith) (s .serve-next .ensures .reply)),
+      omega
+          (arith, part-keeps (l .loop .out) (l .loop .used) _ 207 (l .loop .inv .1) refl (omega arith) (s .serve-next .ensures .reply), l .loop .inv .1),
+    )
 
 slice-aggregate-write-all-2 : tie.Need-slice-aggregate-write-all-2 Inv-loop μ-loop
 slice-aggregate-write-all-2 c = sym (length-take-le _ _ (omega (arith, c .before .before .loop .inv .1)))

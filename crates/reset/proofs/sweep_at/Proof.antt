@@ -56,9 +56,11 @@ returns-2 c =
     let s = start k₁ in
     let h = s .pre in
     let S = h .2 .3 in
-    let H = here S (h .1) in
-    (λ t x k i. let G = here i (h .1) in step-run i G _ _ (c .before .size-at .ensures _ _ (here-stands i G)) refl
-        (sym (k₁ .kind-at .ensures _ _ (here-stands i G)) ∙ c .if2 .taken), step-on S H _ _ (c .before .size-at .ensures _ _ (here-stands S H)) refl)
+    let H = here S (h .1) in (
+      λ t x k i. let G = here i (h .1) in step-run i G _ _ (c .before .size-at .ensures _ _ (here-stands i G)) refl
+          (sym (k₁ .kind-at .ensures _ _ (here-stands i G)) ∙ c .if2 .taken),
+      step-on S H _ _ (c .before .size-at .ensures _ _ (here-stands S H)) refl,
+    )
 
 group-at-requires : tie.Need-group-at-requires
 group-at-requires c κs =
@@ -95,10 +97,12 @@ returns-4 c =
     let s₁ = start k₁ in
     let h = s₁ .pre in
     let S = h .2 .3 in
-    let H = here S (h .1) in
-    (λ t x k i. let G = here i (h .1) in let e = k₁ .kind-at .ensures _ _ (here-stands i G) in let d = step-direct i G (λ y. e₂ .if1 .left (e ∙ y))
-        (λ y. e₁ .if2 .left (e ∙ y)) in step-other i G _ _ (d .0) (s .size-at .ensures _ _ (here-stands i G)) refl (d .1)
-        (λ y. c .if3 .left (c .before .group-at .ensures _ _ _ (step-stands i G _ _ _ refl (d .1) refl) ∙ y)), step-on S H _ _ (s .size-at .ensures _ _ (here-stands S H)) refl)
+    let H = here S (h .1) in (
+      λ t x k i. let G = here i (h .1) in let e = k₁ .kind-at .ensures _ _ (here-stands i G) in let d = step-direct i G (λ y. e₂ .if1 .left (e ∙ y))
+          (λ y. e₁ .if2 .left (e ∙ y)) in step-other i G _ _ (d .0) (s .size-at .ensures _ _ (here-stands i G)) refl (d .1)
+          (λ y. c .if3 .left (c .before .group-at .ensures _ _ _ (step-stands i G _ _ _ refl (d .1) refl) ∙ y)),
+      step-on S H _ _ (s .size-at .ensures _ _ (here-stands S H)) refl,
+    )
 
 pub sweep-at-spec : {M : Type 1} → statement M
 sweep-at-spec =

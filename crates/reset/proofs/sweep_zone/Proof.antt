@@ -110,9 +110,11 @@ behind-run-requires c κs =
     let h = s .pre in
     let a = l .loop .inv in
     let e = z .zone-owner .ensures in
-    let d = c₁ .chunk-back .ensures in
-    (walk-gone-good (h .1 .3) a _ e (t .loop-test .taken) (h .0) (e₁ .if1 .left) (d .0) (c₁ .chunk-back .result) (not-true _ (c .before .if2 .taken)) (d .1), walk-run
-        (h .1 .3) a _ e (t .loop-test .taken) (h .0) (e₁ .if1 .left) (d .0) (c₁ .chunk-back .result) (not-true _ (c .before .if2 .taken)) (d .1))
+    let d = c₁ .chunk-back .ensures in (
+      walk-gone-good (h .1 .3) a _ e (t .loop-test .taken) (h .0) (e₁ .if1 .left) (d .0) (c₁ .chunk-back .result) (not-true _ (c .before .if2 .taken)) (d .1),
+      walk-run
+          (h .1 .3) a _ e (t .loop-test .taken) (h .0) (e₁ .if1 .left) (d .0) (c₁ .chunk-back .result) (not-true _ (c .before .if2 .taken)) (d .1),
+    )
 
 same-length : tie.Need-same-length Inv-loop μ-loop
 same-length c =

@@ -18,13 +18,13 @@ size-at-requires c κs =
     let h = c .before .before .before .before .before .before .before .before .before .before .pre in
     size-asks (h .0 .0) (h .1 .0) (h .1 .1 .2) _ (h .0 .1)
     (given-after (h .0 .0) (h .1 .0) (h .1 .1 .2) (given-listed (h .0 .0) (h .1 .0) (h .1 .1 .2) (c .before .before .before .before .before .before .before .unlist .ensures))
-        (c .before .before .before .give-back .ensures))
+    (c .before .before .before .give-back .ensures))
 
 returns : tie.Need-returns
 returns c =
     λ a z t. let h = c .before .before .before .before .before .before .before .before .before .before .before .pre in
     let k = given-after (h .0 .0) (h .1 .0) t (given-listed (h .0 .0) (h .1 .0) t (c .before .before .before .before .before .before .before .before .unlist .ensures))
-        (c .before .before .before .before .give-back .ensures) in
+    (c .before .before .before .before .give-back .ensures) in
     (c .size-at .ensures 0 (run _) (run-there (h .0 .0) (h .1 .0) t k), k .words)
 
 pub give-zone-spec : {M : Type 1} → statement M
