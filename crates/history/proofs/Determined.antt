@@ -108,13 +108,7 @@ chunkOf-inj c i (suc g) (suc h) e = cc
 same-groups : (c : ℕ) (a b : List ℕ) → length a ≡ chunks c → length b ≡ chunks c → ((d : ℕ) → d < zoneBytes → blockIn d (zone (record { class = c; groups = a })) ≡ blockIn d (zone (record { class = c; groups = b }))) → a ≡ b
 same-groups c a b la lb h = ext-getD 0 a b (la ∙ sym lb) (λ i l. chunkOf-inj c i _ _ (sym (blockIn-at c i a) ∙ h _ (chunk-begins c i (omega arith)) ∙ blockIn-at c i b))
 
-class-of : Segment Occupancy → ℕ
-class-of (run n) = 0
-class-of (direct n g) = 0
-class-of (zone l) = l .class
-
 same-class : (l l′ : Occupancy) → Holds (zone l) → ((d : ℕ) → d < zoneBytes → blockIn d (zone l) ≡ blockIn d (zone l′)) → l′ .class ≡ l .class
-unfolding class-of
 same-class l l′ w h = go (w .block) (w .there)
   where
     go : (b : Block) → blockIn (w .away) (zone l) ≡ some b → l′ .class ≡ l .class
