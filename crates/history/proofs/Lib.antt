@@ -1,4 +1,3 @@
-pub mod Answers
 pub mod Determined
 pub mod Neat
 pub mod Sequence

@@ -25,12 +25,12 @@ use Rattle.model.specs.Pages.{joined}
 use Rattle.model.specs.Calls.{Action, group, trim, Command, init, act, isRefused}
 use Rattle.model.specs.Trim.{trimmed}
 use Rattle.model.specs.Perform.{asked, serve, Metadata, wordsFor, holding, perform}
+use Rattle.model.proofs.Answers.{refusal-told, grant-told}
 use Rattle.model.proofs.Joins.{joined-retold}
 use Rattle.model.proofs.Validity.{fresh-valid, serve-valid, perform-leaves}
 use Rattle.model.proofs.Disjoint.{all-sized}
 use Rattle.history.specs.Ledger.{begins, unlessRefused, effect, Agrees}
 use Rattle.history.specs.Demand.{mapAt, History, after, afterAll, begun, NoStart, Allowed, Sequence, answersTo, ExactCall, Exact, Alike, Demand3, LedgerAgrees}
-use Rattle.history.proofs.Answers.{refusal-told, grant-told}
 use Rattle.history.proofs.Determined.{same-trimmed}
 use Rattle.history.proofs.Neat.{Neat, Fit, joined-neat}
 use Rattle.history.proofs.Sequence.{AllowedOn, call-map, call-says, allowed-same, call-neat, request-exact}

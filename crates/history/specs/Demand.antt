@@ -16,9 +16,8 @@ use Rattle.model.specs.declared.Answer.{Answer}
 use Rattle.model.specs.Sizes.{pagesFor}
 use Rattle.model.specs.State.{State}
 use Rattle.model.specs.PageMap.{PageMap, pageMap, chunk, blockAt}
-use Rattle.model.specs.Calls.{group, trim, Command, init, act, isRefused, groupOk, sizeOk}
+use Rattle.model.specs.Calls.{group, trim, Command, init, act, isRefused, RefusedBy, GrantedAt, groupOk, sizeOk}
 use Rattle.model.specs.Perform.{Metadata}
-use Rattle.history.specs.Answers.{RefusedBy, GrantedAt}
 use Rattle.history.specs.Ledger.{Held, begins, effect, applied, Agrees}
 use Rattle.history.specs.Rows.{Row}
 

@@ -1,4 +1,3 @@
-pub mod Answers
 pub mod Ledger
 pub mod Rows
 pub mod Demand

@@ -1,4 +1,5 @@
 pub mod Acceptance
+pub mod Answers
 pub mod Sizes
 pub mod Arena
 pub mod Claim

@@ -1,6 +1,7 @@
 -- Calls, answers and the numbers of refusals (document 01, "Calls" and "Numbers for no"). The types that the code shares,
 -- `Call` (a group and what it asks), `Answer` and `Refusal`, are declared in src/. Assumes nothing.
 use Prim.Native.Nat.{ℕ}
+use mathlib.Core.Path.{_≡_}
 use mathlib.Core.List.{List, [], _∷_}
 use mathlib.Core.Option.{Option, none, some}
 use mathlib.Core.Bool.{Bool, true, false, _&&_}
@@ -64,6 +65,14 @@ grantOf (Refused k) = none
 grantOf Done = none
 grantOf (Counted n) = none
 grantOf (Block g r) = none
+
+-- Answers as document 01 tells them. The refusal with the number k: it has that number and no values.
+abbrev pub RefusedBy : ℕ → Answer → Type 0
+RefusedBy k a = reading a ≡ record { refusal = k; values = [] }
+
+-- The grant of the offset o: no number, and that value. (A count has such a reading too, and is no grant.)
+abbrev pub GrantedAt : ℕ → Answer → Type 0
+GrantedAt o a = (grantOf a ≡ some o) × (reading a ≡ record { refusal = 0; values = o ∷ [] })
 
 -- Groups 1 to 12, and sizes that may be asked for.
 abbrev pub groupOk : ℕ → Bool

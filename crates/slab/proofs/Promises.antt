@@ -18,13 +18,12 @@ use Rattle.model.specs.Arena.{total}
 use Rattle.model.specs.State.{State, freshState}
 use Rattle.model.specs.PageMap.{pageMap, Block, roomOf, blockAt}
 use Rattle.model.specs.Valid.{Valid}
-use Rattle.model.specs.Calls.{Action, query, listing, Command, init, act, reading, isRefused, group}
+use Rattle.model.specs.Calls.{Action, query, listing, Command, init, act, reading, isRefused, RefusedBy, GrantedAt, group}
 use Rattle.model.specs.Perform.{serve, wordsFor, onState}
 use Rattle.model.specs.Listing.{listingText}
 use Rattle.model.proofs.Disjoint as model
-use Rattle.history.specs.Answers.{RefusedBy, GrantedAt}
 use Rattle.history.specs.Demand.{Demand3, LedgerAgrees}
-use Rattle.history.proofs.Answers.{refused-number, refusal-told, grant-told}
+use Rattle.model.proofs.Answers.{refused-number, refusal-told, grant-told}
 use Rattle.history.proofs.Theorem.{demand-3, ledger-agrees}
 use Rattle.metadata.specs.Encoding.{encode, BeginsWith}
 use Rattle.metadata.specs.Decoding.{stateOf}

@@ -7,12 +7,11 @@ use mathlib.Core.Bool.{true, cond}
 use native.Mathlib.Omega.{arith}
 use lib.Dec.{eqb}
 use Rattle.lemmas.proofs.Cases.{true-false, some-inj, none-some}
 use Rattle.model.specs.declared.Refusal.{Refusal}
 use Rattle.model.specs.declared.Refusal.the-variants.{BadPages, FewWords, NoState, BadGroup, BadSize, NoRoom, NoBlock, OtherGroup, ShortBuffer}
 use Rattle.model.specs.declared.Answer.{Answer}
 use Rattle.model.specs.declared.Answer.the-variants.{Granted, Refused, Done, Counted, Block}
-use Rattle.model.specs.Calls.{number, reading, isRefused, grantOf}
-use Rattle.history.specs.Answers.{RefusedBy, GrantedAt}
+use Rattle.model.specs.Calls.{number, reading, isRefused, grantOf, RefusedBy, GrantedAt}
 
 -- The refusal with a number, if there is one.
 abbrev refusalOf : ℕ → Option Refusal
