@@ -8,6 +8,7 @@ use lib.ListN.{length, take, drop, length-append, length-drop, drop-of-length-le
 use lib.Seq.{length-sets, length-take-le}
 use Rattle.lemmas.proofs.Cases.{true-false}
 use Rattle.uplink.specs.declared.Reader.{Reader}
+use Rattle.uplink.specs.Answers.{answerRoom}
 use Rattle.uplink.specs.Fragments.{Held, Sound, held, heldAfter, linesBy}
 use Rattle.desk.specs.declared.Turn.{Turn}
 use Rattle.desk.specs.Replies.{Replied, TurnBy}
@@ -19,13 +20,13 @@ use Rattle.bench.specs.Fragments.{ServedAll}
 
 module _ {reply m : List ℕ} {r : ℕ} where
   -- In its first n bytes.
-  pub front-holds : (o : List ℕ) (n : ℕ) → n ≤ length o → 64 ≤ n → Replied (take n o) reply r m → r ≤ length (m ++ drop n o)
+  pub front-holds : (o : List ℕ) (n : ℕ) → n ≤ length o → answerRoom ≤ n → Replied (take n o) reply r m → r ≤ length (m ++ drop n o)
   front-holds o n h k p =
       let long : length (take n o) ≡ n = length-take-le n o h in
       omega (arith, p .fits (omega arith), ap length (p .buffer), length-sets (take n o) 0 reply, length-append m (drop n o))
 
   -- In n bytes behind those used.
-  module _ (o : List ℕ) (used end n : ℕ) (room : used + n ≤ length o) (is : end ≡ used + n) (k : 64 ≤ n) (p : Replied (take (end - used) (drop used o)) reply r m) where
+  module _ (o : List ℕ) (used end n : ℕ) (room : used + n ≤ length o) (is : end ≡ used + n) (k : answerRoom ≤ n) (p : Replied (take (end - used) (drop used o)) reply r m) where
     part-long : length (take (end - used) (drop used o)) ≡ n
     part-long = length-take-le (end - used) _ (omega (arith, length-drop used o)) ∙ omega arith
 

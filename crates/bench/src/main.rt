@@ -8,12 +8,15 @@ ghost use Rattle.lemmas.specs.Zeros.{zeros};
 ghost use Rattle.metadata.specs.Decoding.{isState};
 ghost use Rattle.uplink.specs.Fragments.{Sound, held};
 ghost use Rattle.bench.specs.Fragments.{ServedAll};
+ghost use Rattle.bench.specs.Numbers.{benchWords, replyRoom};
 use libc::STDERR_FILENO;
 use libc::STDIN_FILENO;
 use libc::STDOUT_FILENO;
 use uplink::Reader;
 
-// The room for one reply: that of the longest listing of 24 pages (proofs/Room.antt). Every other reply is shorter.
+// The words of the program, enough for 24 pages, and the room for one reply (specs/Numbers.antt).
+const WORDS: usize = 13504;
+
 const REPLY: usize = 207;
 
 // What a fragment leaves: the reader, and whether all replies could be written.
@@ -22,19 +25,19 @@ struct Served {
     written: bool,
 }
 
-// 1,024 + 520 × 24 words, all zero: they encode no valid state.
-fn fresh_words() -> [u32; 13504]
-    ensures { λ r. ⌜ 13504 ≡ length r ⌝ }
-    ensures { λ r. ⌜ r ≡ zeros 13504 ⌝ }
+// Its words when it begins, all zero: they encode no valid state.
+fn fresh_words() -> [u32; WORDS]
+    ensures { λ r. ⌜ benchWords ≡ length r ⌝ }
+    ensures { λ r. ⌜ r ≡ zeros benchWords ⌝ }
     ensures { λ r. ⌜ isState r ≡ false ⌝ }
 {
-    [0; 13504]
+    [0; WORDS]
 }
 
 // Serves a fragment's lines. Replies are gathered, and written when there is no room for another and at the fragment's end.
 fn serve_fragment(reader: Reader, meta: &mut [u32], fragment: &[u8], out: &mut [u8]) -> Served
     requires { ⌜ Sound reader ⌝ }
-    requires { ⌜ 207 ≤ length (now out) ⌝ }
+    requires { ⌜ replyRoom ≤ length (now out) ⌝ }
     ensures { λ r. ⌜ ServedAll (held reader) (now (meta .entry)) (now (fragment .entry)) r (now (meta .exit)) ⌝ }
 {
     let mut reader = reader;
@@ -64,7 +67,7 @@ fn serve_fragment(reader: Reader, meta: &mut [u32], fragment: &[u8], out: &mut [
 // The end of the input: a last line without LF. Whether its reply could be written.
 fn serve_end(reader: Reader, meta: &mut [u32], out: &mut [u8]) -> bool
     requires { ⌜ Sound reader ⌝ }
-    requires { ⌜ 207 ≤ length (now out) ⌝ }
+    requires { ⌜ replyRoom ≤ length (now out) ⌝ }
 {
     let len = desk::serve_last(reader, meta, &mut out[..REPLY]);
     io::write_all(STDOUT_FILENO, &out[..len])
@@ -82,7 +85,7 @@ fn tell_unwritten() {
 // Reads what is there, serves it, and reads on. A loop has to end, and nothing says that an input does: so this one counts its reads
 // down, from a number that no run uses up. A read or a write that fails ends it, with a line on standard error.
 fn run(meta: &mut [u32], input: &mut [u8], out: &mut [u8])
-    requires { ⌜ 207 ≤ length (now out) ⌝ }
+    requires { ⌜ replyRoom ≤ length (now out) ⌝ }
 {
     let mut reader = uplink::input::new_reader();
     let mut reads = u64::MAX;

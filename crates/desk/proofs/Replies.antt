@@ -24,7 +24,7 @@ use Rattle.text.specs.Writing.{Wrote}
 use Rattle.listing.proofs.Into.{sets-front}
 use Rattle.uplink.specs.declared.Line.{Line}
 use Rattle.uplink.specs.declared.Line.the-variants.{Init, Group, Trim, Query, Listing, Bad}
-use Rattle.uplink.specs.Answers.{answerText, badText}
+use Rattle.uplink.specs.Answers.{answerText, badText, answerRoom}
 use Rattle.slab.specs.Calls.{viewOf, answerOf, metaAfter, listedOf, textAfter}
 use Rattle.slab.proofs.Words.{by-state}
 use Rattle.slab.proofs.Promises.{listing-unchanged}
@@ -33,14 +33,14 @@ use Rattle.desk.specs.Replies.{listingOf, replyTo, wordsAfter, Replied}
 -- ---- a call's answer, as a line
 
 -- A line that was written is the reply.
-pub replied-line : {b text reply : List ℕ} {r : ℕ} {m : List ℕ} → reply ≡ text → Wrote b 0 text r m → r ≤ 64 → Replied b reply r m
+pub replied-line : {b text reply : List ℕ} {r : ℕ} {m : List ℕ} → reply ≡ text → Wrote b 0 text r m → r ≤ answerRoom → Replied b reply r m
 replied-line {b} {text} {reply} {r} {m} e w h = record {
   bytes = let n : length reply ≡ length text = ap length e in omega arith;
   buffer = cc;
   fits = omega arith;
 }
 
-pub bad-short : {b : List ℕ} {r : ℕ} {m : List ℕ} → Wrote b 0 badText r m → r ≤ 64
+pub bad-short : {b : List ℕ} {r : ℕ} {m : List ℕ} → Wrote b 0 badText r m → r ≤ answerRoom
 unfolding badText ascii
 bad-short s = omega arith
 
@@ -82,9 +82,9 @@ module _ (w b : List ℕ) (l : Line) where
   abbrev ServedBy : ℕ → List ℕ → List ℕ → Type 0
   ServedBy r v m = (v ≡ wordsAfter w l) × Replied b (replyTo w (length b) l) r m
 
-  pub served-call : (c : Command) {q : Line} {a : Answer} {r : ℕ} {v m : List ℕ} → l ≡ q → Performs w (length b) q c → (a ≡ answerOf w c) × (v ≡ metaAfter w c) → Wrote b 0 (answerText a) r m × (r ≤ 0 + 64) → ServedBy r v m
+  pub served-call : (c : Command) {q : Line} {a : Answer} {r : ℕ} {v m : List ℕ} → l ≡ q → Performs w (length b) q c → (a ≡ answerOf w c) × (v ≡ metaAfter w c) → Wrote b 0 (answerText a) r m × (r ≤ 0 + answerRoom) → ServedBy r v m
   served-call c {q} {a} {r} {v} {m} e p h s =
-      let short : r ≤ 64 = omega arith in
+      let short : r ≤ answerRoom = omega arith in
       (cc, replied-line (cc) (s .0) short)
 
   pub served-bad : {r : ℕ} {m : List ℕ} → l ≡ Bad → Wrote b 0 badText r m → ServedBy r w m
@@ -132,11 +132,11 @@ module _ (w b : List ℕ) {a : Answer} {v : List ℕ} (h : (a ≡ answerOf w (ac
       go (refused is kept said) = true-false is (cc)
 
   -- It counted none: the refusal's line was written.
-  pub listing-refused : {r : ℕ} {m : List ℕ} → ((k : ℕ) → a ≡ Counted k → ⊥) → Wrote v 0 (answerText a) r m × (r ≤ 0 + 64) → Replied b (replyTo w (length b) Listing) r m
+  pub listing-refused : {r : ℕ} {m : List ℕ} → ((k : ℕ) → a ≡ Counted k → ⊥) → Wrote v 0 (answerText a) r m × (r ≤ 0 + answerRoom) → Replied b (replyTo w (length b) Listing) r m
   listing-refused {r} {m} not s = go called-listed
     where
       go : {t : List ℕ} → Listed b a v t → Replied b t r m
       go {t} (whole fits told put) = absurd (not (length t) told)
       go (refused is kept said) =
-          let short : r ≤ 64 = omega arith in
+          let short : r ≤ answerRoom = omega arith in
           replied-line said (rw kept at (s .0)) short

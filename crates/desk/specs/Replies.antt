@@ -17,7 +17,7 @@ use Rattle.uplink.specs.declared.Line.{Line}
 use Rattle.uplink.specs.declared.Line.the-variants.{Init, Group, Trim, Query, Listing, Bad}
 use Rattle.uplink.specs.declared.Got.{Got}
 use Rattle.uplink.specs.declared.Got.the-variants.{Whole, More}
-use Rattle.uplink.specs.Answers.{answerText, badText}
+use Rattle.uplink.specs.Answers.{answerText, badText, answerRoom}
 use Rattle.uplink.specs.Fragments.{Held, Sound, held, stepFrom}
 use Rattle.slab.specs.Calls.{answerOf, metaAfter}
 use Rattle.desk.specs.declared.Turn.{Turn}
@@ -58,11 +58,11 @@ unfoldable pub wordsAfter : List ℕ → Line → List ℕ
 wordsAfter w l = wordsBy w (commandOf 0 l)
 
 -- A reply in a lent buffer b: r is its length, and m the buffer then, with the reply at its front as far as the buffer reaches. (`sets`
--- drops the stores past the end.) From 64 bytes on a buffer has room for every reply: a listing that has none is refused.
+-- drops the stores past the end.) A buffer with room for every answer's line has room for every reply: a listing that has none is refused.
 pub record Replied (b reply : List ℕ) (r : ℕ) (m : List ℕ) : Type 0 where
   pub bytes : r ≡ length reply
   pub buffer : m ≡ sets b 0 reply
-  pub fits : 64 ≤ length b → r ≤ length b
+  pub fits : answerRoom ≤ length b → r ≤ length b
 
 -- ---- one turn
 

@@ -8,7 +8,7 @@ use native.Mathlib.Nat.{div-add-mod', mod-lt, mul-div-cancel, div-mul-le-self, m
 use lib.Dec.{ltb}
 use borrow.Author.Tests.{ltb-true, ltb-false}
 use Rattle.lemmas.proofs.Cases.{bool}
-use Rattle.model.specs.Numbers.{classCount}
+use Rattle.model.specs.Numbers.{classCount, zoneBytes}
 use Rattle.model.specs.Sizes.{step, rounded, classOf, room, chunks}
 
 -- A claim about a choice by a test, from its two sides.
@@ -114,11 +114,11 @@ classed n p h =
     in-row n 512 48 8 16 (rw (t, u, v, w, x, y)) (rw (t, u, v, w, x, y) (omega arith)) (omega (arith, ltb-false))
 
 -- Chunk i of a zone lies inside the zone.
-pub chunk-inside : (c i : ℕ) → i < chunks c → i * room c + room c ≤ 32768
+pub chunk-inside : (c i : ℕ) → i < chunks c → i * room c + room c ≤ zoneBytes
 unfolding chunks
-chunk-inside c i h = omega (arith, div-mul-le-self 32768 (room c), mul-le-mul-right (room c) h)
+chunk-inside c i h = omega (arith, div-mul-le-self zoneBytes (room c), mul-le-mul-right (room c) h)
 
-pub chunk-begins : (c i : ℕ) → i < chunks c → i * room c < 32768
+pub chunk-begins : (c i : ℕ) → i < chunks c → i * room c < zoneBytes
 chunk-begins c i h = omega (arith, room-pos c, chunk-inside c i h)
 
 -- A zone has at least four chunks.

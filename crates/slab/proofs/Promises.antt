@@ -135,14 +135,12 @@ grant-aligned w g n o h =
 pub listing-longest : (w : List ℕ) (s : State) → stateOf w ≡ some s → length (listingText (pageMap s)) ≤ longest (total (s .segments))
 listing-longest w s e = let v = holding-of w s e .valid in lengths.listing-longest (s .segments) (all-writable false (s .segments) (v .apart) (v .sound))
 
--- .. which are 2,220 at most, and 207 where there are no more words than 24 pages need.
+-- .. which are 2,220 at most, and no more than those of p pages where there are no more words than p pages need.
 pub longest-any : (w : List ℕ) (s : State) → stateOf w ≡ some s → longest (total (s .segments)) ≤ 2220
 longest-any w s e = omega (arith, lengths.longest-grows (total (s .segments)) mostPages (holding-of w s e .valid .most), lengths.longest-figures .1)
 
-pub longest-few : (w : List ℕ) (s : State) → stateOf w ≡ some s → length w ≤ wordsFor 24 → longest (total (s .segments)) ≤ 207
-longest-few w s e h =
-    let few : total (s .segments) ≤ 24 = omega (arith, holding-long w s (holding-of w s e)) in
-    omega (arith, lengths.longest-grows (total (s .segments)) 24 few, lengths.longest-figures .0)
+pub longest-few : (w : List ℕ) (s : State) → stateOf w ≡ some s → (p : ℕ) → length w ≤ wordsFor p → longest (total (s .segments)) ≤ longest p
+longest-few w s e p h = lengths.longest-grows (total (s .segments)) p (omega (arith, holding-long w s (holding-of w s e)))
 
 -- A buffer of so many bytes is answered with the listing's length, ..
 pub listing-answered : (w : List ℕ) (s : State) → stateOf w ≡ some s → (n : ℕ) → longest (total (s .segments)) ≤ n → answerOf w (act (listing n)) ≡ Counted (length (listingText (pageMap s)))
@@ -151,7 +149,7 @@ listing-answered w s e n h =
     ap (λ x. (onState (viewOf w) (listing n) x) .answer) e
     ∙ rw (le-leb (length (listingText (pageMap s))) n (omega (arith, listing-longest w s e)))
 
--- .. so 2,220 bytes are never too few, whatever the words, nor are 207 where there are no more words than 24 pages need.
+-- .. so 2,220 bytes are never too few, whatever the words, nor are those of p such blocks where there are no more words than p pages need.
 enough : (w : List ℕ) (n : ℕ) → ((s : State) → stateOf w ≡ some s → longest (total (s .segments)) ≤ n) → RefusedBy 12 (answerOf w (act (listing n))) → ⊥
 enough w n h k =
     let r = refusal-told ShortBuffer (answerOf w (act (listing n))) .0 k in
@@ -162,5 +160,5 @@ enough w n h k =
 pub never-short : (w : List ℕ) (n : ℕ) → 2220 ≤ n → RefusedBy 12 (answerOf w (act (listing n))) → ⊥
 never-short w n h = enough w n (λ s e. omega (arith, longest-any w s e))
 
-pub never-short-few : (w : List ℕ) (n : ℕ) → length w ≤ wordsFor 24 → 207 ≤ n → RefusedBy 12 (answerOf w (act (listing n))) → ⊥
-never-short-few w n few h = enough w n (λ s e. omega (arith, longest-few w s e few))
+pub never-short-few : (w : List ℕ) (n p : ℕ) → length w ≤ wordsFor p → longest p ≤ n → RefusedBy 12 (answerOf w (act (listing n))) → ⊥
+never-short-few w n p few h = enough w n (λ s e. omega (arith, longest-few w s e p few))

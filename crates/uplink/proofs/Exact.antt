@@ -24,6 +24,7 @@ use Rattle.uplink.specs.declared.Numbers.the-variants.{None, One, Two, W
 use Rattle.uplink.specs.declared.Line.{Line}
 use Rattle.uplink.specs.declared.Line.the-variants.{Init, Group, Trim, Query, Listing, Bad}
 use Rattle.uplink.specs.Grammar.{callText, lineText, OperationFits, IsCall, secondOf, secondAt, firstOf, numbersAt, bareLine, lineOfOne, lineOfTwo, lineWith, lineOf}
+use Rattle.uplink.specs.Fragments.{mostLine}
 use Rattle.uplink.proofs.Parsing.{second-none, second-last, first-none, first-then}
 
 -- ---- what is read has its text
@@ -187,7 +188,7 @@ other-bad s n = go (line-read s)
     go (inl b) = b
     go (inr r) = absurd (n (lineOf s) (r .0) (r .1))
 
--- ---- the 64 bytes of a line change no answer
+-- ---- the limit of a line changes no answer
 
 length-one : (x : List ℕ) (n : ℕ) → n ≤ largest → length x ≡ 2 → length (x ++ decimal n) ≤ 23
 length-one x n h e = omega (arith, length-append x (decimal n), length-word n (omega arith))
@@ -217,5 +218,5 @@ text-length (Query o) h = length-one (ascii "b ") o h refl
 text-length Listing h = omega arith
 text-length Bad h = absurd h
 
-pub long-bad : (s : List ℕ) → 64 < length s → lineOf s ≡ Bad
+pub long-bad : (s : List ℕ) → mostLine < length s → lineOf s ≡ Bad
 long-bad s n = other-bad s (λ l h e. omega (arith, text-length l h, ap length e))

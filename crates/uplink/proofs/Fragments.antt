@@ -17,7 +17,7 @@ use Rattle.uplink.specs.declared.Got.the-variants.{Whole, More}
 use Rattle.uplink.specs.declared.Fed.{Fed}
 use Rattle.uplink.specs.Grammar.{lineOf}
 use Rattle.lemmas.specs.Keep.{putIf}
-use Rattle.uplink.specs.Fragments.{Held, part, long, fresh, held, hold, lineHeld, lastLine, Step, stepFrom, stepOf, FedBy, heldWith, heldAfter, linesBy, heldAfterAll, linesByAll, gotten, lastText, textsOf}
+use Rattle.uplink.specs.Fragments.{mostLine, Held, part, long, fresh, held, hold, lineHeld, lastLine, Step, stepFrom, stepOf, FedBy, heldWith, heldAfter, linesBy, heldAfterAll, linesByAll, gotten, lastText, textsOf}
 use Rattle.uplink.proofs.Exact.{long-bad}
 
 -- ---- cut anywhere
@@ -54,19 +54,19 @@ fragments-lines (x ∷ xs) k =
 
 -- What is held of the bytes p, which have no LF.
 holding : List ℕ → Held
-holding p = cond (leb (length p) 64) (part p) long
+holding p = cond (leb (length p) mostLine) (part p) long
 
-by-length : (P : Held → Type 0) (p : List ℕ) → (length p ≤ 64 → P (part p)) → (64 < length p → P long) → P (holding p)
+by-length : (P : Held → Type 0) (p : List ℕ) → (length p ≤ mostLine → P (part p)) → (mostLine < length p → P long) → P (holding p)
 unfolding holding
-by-length P p f g = by-leb (λ t. P (cond t (part p) long)) (length p) 64 f g
+by-length P p f g = by-leb (λ t. P (cond t (part p) long)) (length p) mostLine f g
 
-holding-part : (p : List ℕ) → length p ≤ 64 → holding p ≡ part p
+holding-part : (p : List ℕ) → length p ≤ mostLine → holding p ≡ part p
 unfolding holding
-holding-part p h = rw (le-leb (length p) 64 h)
+holding-part p h = rw (le-leb (length p) mostLine h)
 
-holding-long : (p : List ℕ) → 64 < length p → holding p ≡ long
+holding-long : (p : List ℕ) → mostLine < length p → holding p ≡ long
 unfolding holding
-holding-long p h = rw (lt-leb (length p) 64 h)
+holding-long p h = rw (lt-leb (length p) mostLine h)
 
 holding-more : (p : List ℕ) (b : ℕ) → hold (holding p) b ≡ holding (p ++ (b ∷ []))
 unfolding hold
@@ -74,11 +74,11 @@ holding-more p b =
     let n : length (p ++ (b ∷ [])) ≡ length p + 1 = length-append p (b ∷ []) in
     by-length (λ k. hold k b ≡ holding (p ++ (b ∷ []))) p
     (λ _.
-    by-ltb (λ t. cond t (part (p ++ (b ∷ []))) long ≡ holding (p ++ (b ∷ []))) (length p) 64
+    by-ltb (λ t. cond t (part (p ++ (b ∷ []))) long ≡ holding (p ++ (b ∷ []))) (length p) mostLine
     (λ h. sym (holding-part _ (omega arith))) (λ h. sym (holding-long _ (omega arith))))
     (λ h. sym (holding-long _ (omega arith)))
 
--- A held line is what the grammar says: one of more than 64 bytes is no call's text.
+-- A held line is what the grammar says: one of more bytes than a line has is no call's text.
 holding-line : (p : List ℕ) → lineHeld (holding p) ≡ lineOf p
 unfolding lineHeld
 holding-line p = by-length (λ k. lineHeld k ≡ lineOf p) p (λ h. refl) (λ h. sym (long-bad p h))

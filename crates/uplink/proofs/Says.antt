@@ -16,7 +16,7 @@ use Rattle.model.specs.Text.{line}
 use Rattle.model.specs.Calls.{number}
 use Rattle.text.specs.Writing.{Bounded, Wrote, named}
 use Rattle.text.proofs.Lines.{isLong, length-line, length-named}
-use Rattle.uplink.specs.Answers.{answerText}
+use Rattle.uplink.specs.Answers.{answerText, answerRoom}
 
 pub named-bounded : (at : ℕ) (name : List ℕ) (n : ℕ) → at < 2 ^ 32 → length name ≤ 2 → n < 2 ^ 64 → Bounded at (named name n)
 named-bounded at name n h k f = omega (arith, length-named name n f)
@@ -32,10 +32,10 @@ pair-bounded at a b h f g = omega (arith, pair-length a b f g)
 
 -- Where they end.
 module _ {l m : List ℕ} {at r : ℕ} where
-  pub named-short : (name : List ℕ) (n : ℕ) → Wrote l at (named name n) r m → length name ≤ 2 → n < 2 ^ 64 → r ≤ at + 64
+  pub named-short : (name : List ℕ) (n : ℕ) → Wrote l at (named name n) r m → length name ≤ 2 → n < 2 ^ 64 → r ≤ at + answerRoom
   named-short name n w k f = omega (arith, length-named name n f)
 
-  pub pair-short : (a b : ℕ) → Wrote l at (line (a ∷ b ∷ [])) r m → a < 2 ^ 64 → b < 2 ^ 64 → r ≤ at + 64
+  pub pair-short : (a b : ℕ) → Wrote l at (line (a ∷ b ∷ [])) r m → a < 2 ^ 64 → b < 2 ^ 64 → r ≤ at + answerRoom
   pair-short a b w f g = omega (arith, pair-length a b f g)
 
 -- ---- the text of each kind of answer

@@ -13,7 +13,7 @@ use Rattle.uplink.specs.declared.Line.the-variants.{Bad}
 use Rattle.uplink.specs.declared.Got.the-variants.{Whole, More}
 use Rattle.uplink.specs.declared.Reader.{Reader}
 use Rattle.uplink.specs.Grammar.{lineOf}
-use Rattle.uplink.specs.Fragments.{Held, part, long, fresh, Sound, held, hold, lineHeld, lastLine, stepFrom, stepOf, FedBy}
+use Rattle.uplink.specs.Fragments.{mostLine, Held, part, long, fresh, Sound, held, hold, lineHeld, lastLine, stepFrom, stepOf, FedBy}
 
 -- The reader of three fields.
 abbrev pub reader : List ℕ → ℕ → Bool → Reader
@@ -21,22 +21,22 @@ reader line len over = record { line = line; len = len; over = over }
 
 -- ---- one byte more
 
-module _ (line : List ℕ) (len b : ℕ) (full : 64 ≡ length line) where
-  hold-byte : (over : Bool) → len < 64 → held (reader (set line len b) (len + 1) over) ≡ hold (held (reader line len over)) b
+module _ (line : List ℕ) (len b : ℕ) (full : mostLine ≡ length line) where
+  hold-byte : (over : Bool) → len < mostLine → held (reader (set line len b) (len + 1) over) ≡ hold (held (reader line len over)) b
   unfolding held hold
   hold-byte true h = refl
   hold-byte false h =
       let n : length (take len line) ≡ len = length-take-le len line (omega arith) in
-      let k : length (take len line) < 64 = omega arith in
-      rw (lt-ltb _ 64 k) (ap part (take-set-next line len b (omega arith)))
+      let k : length (take len line) < mostLine = omega arith in
+      rw (lt-ltb _ mostLine k) (ap part (take-set-next line len b (omega arith)))
 
-  hold-none : (over : Bool) → 64 ≤ len → len ≤ 64 → held (reader line len true) ≡ hold (held (reader line len over)) b
+  hold-none : (over : Bool) → mostLine ≤ len → len ≤ mostLine → held (reader line len true) ≡ hold (held (reader line len over)) b
   unfolding held hold
   hold-none true h k = refl
   hold-none false h k =
       let n : length (take len line) ≡ len = length-take-le len line (omega arith) in
-      let f : 64 ≤ length (take len line) = omega arith in
-      rw (le-ltb _ 64 f)
+      let f : mostLine ≤ length (take len line) = omega arith in
+      rw (le-ltb _ mostLine f)
 
 -- ---- the line that a reader holds
 
@@ -71,7 +71,7 @@ module _ (r : Reader) where
   unfolding lastLine
   last-none e z = sym (cc (held-part e))
 
-  pub last-part : r .over ≡ false → (r .len ≡ 0 → ⊥) → 64 ≡ length (r .line) → r .len ≤ 64 → Whole (lineHeld (held r)) ≡ lastLine (held r)
+  pub last-part : r .over ≡ false → (r .len ≡ 0 → ⊥) → mostLine ≡ length (r .line) → r .len ≤ mostLine → Whole (lineHeld (held r)) ≡ lastLine (held r)
   last-part e n full h =
       cc (held-part e, whole-line (take (r .len) (r .line)) (λ z. n (sym (length-take-le (r .len) (r .line) (omega arith)) ∙ z)))
 
@@ -94,13 +94,13 @@ module _ (s : List ℕ) (i : ℕ) (k : Held) where
 -- A step over the fragment s from position `from` on, where k was held, has come to position i without an LF. With what the fields
 -- hold there, it goes on as it was to go.
 pub record Feeding (s : List ℕ) (from : ℕ) (k : Held) (line : List ℕ) (len : ℕ) (over : Bool) (i : ℕ) : Type 0 where
-  pub full : 64 ≡ length line
-  pub sound : len ≤ 64
+  pub full : mostLine ≡ length line
+  pub sound : len ≤ mostLine
   pub began : from ≤ i
   pub within : from ≤ length s → i ≤ length s
   pub step : stepFrom i (held (reader line len over)) (drop i s) ≡ stepFrom from k (drop from s)
 
-pub feeding-none : (s : List ℕ) (from : ℕ) (line : List ℕ) (len : ℕ) (over : Bool) → 64 ≡ length line → len ≤ 64 → Feeding s from (held (reader line len over)) line len over from
+pub feeding-none : (s : List ℕ) (from : ℕ) (line : List ℕ) (len : ℕ) (over : Bool) → mostLine ≡ length line → len ≤ mostLine → Feeding s from (held (reader line len over)) line len over from
 feeding-none s from line len over full sound = record { full = full; sound = sound; began = omega arith; within = λ h. h; step = refl }
 
 module _ {s : List ℕ} {from : ℕ} {k : Held} {line : List ℕ} {len : ℕ} {over : Bool} {i : ℕ} (f : Feeding s from k line len over i) where
@@ -128,7 +128,7 @@ module _ {s : List ℕ} {from : ℕ} {k : Held} {line : List ℕ} {len : ℕ} {o
           onward = λ w. omega arith;
         }
 
-    feeding-on : (l : List ℕ) (m : ℕ) (o : Bool) → 64 ≡ length l → m ≤ 64 → (getD s i 0 ≡ 10 → ⊥) → held (reader l m o) ≡ hold (held (reader line len over)) (getD s i 0) → Feeding s from k l m o (i + 1)
+    feeding-on : (l : List ℕ) (m : ℕ) (o : Bool) → mostLine ≡ length l → m ≤ mostLine → (getD s i 0 ≡ 10 → ⊥) → held (reader l m o) ≡ hold (held (reader line len over)) (getD s i 0) → Feeding s from k l m o (i + 1)
     feeding-on l m o full sound n q =
         record {
           full = full;
@@ -139,11 +139,11 @@ module _ {s : List ℕ} {from : ℕ} {k : Held} {line : List ℕ} {len : ℕ} {o
               cc (step-byte s i (held (reader line len over)) h n);
         }
 
-    pub feeding-byte : (getD s i 0 ≡ 10 → ⊥) → len < 64 → Feeding s from k (set line len (getD s i 0)) (len + 1) over (i + 1)
+    pub feeding-byte : (getD s i 0 ≡ 10 → ⊥) → len < mostLine → Feeding s from k (set line len (getD s i 0)) (len + 1) over (i + 1)
     feeding-byte n g =
         feeding-on _ (len + 1) over (f .full ∙ sym (length-set line len _)) (omega arith) n
         (hold-byte line len _ (f .full) over g)
 
-    pub feeding-over : (getD s i 0 ≡ 10 → ⊥) → 64 ≤ len → Feeding s from k line len true (i + 1)
+    pub feeding-over : (getD s i 0 ≡ 10 → ⊥) → mostLine ≤ len → Feeding s from k line len true (i + 1)
     feeding-over n g =
         feeding-on line len true (f .full) (f .sound) n (hold-none line len _ (f .full) over g (f .sound))

@@ -18,3 +18,7 @@ answerText (Block g r) = line (g ∷ r ∷ [])
 
 unfoldable pub badText : List ℕ
 badText = ascii "?\n"
+
+-- None of these lines has more bytes than this.
+abbrev pub answerRoom : ℕ
+answerRoom = 64

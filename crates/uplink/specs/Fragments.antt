@@ -16,9 +16,13 @@ use Rattle.uplink.specs.declared.Reader.{Reader}
 use Rattle.uplink.specs.declared.Fed.{Fed}
 use Rattle.uplink.specs.Grammar.{lineOf}
 
+-- A line has at most so many bytes before its LF.
+abbrev pub mostLine : ℕ
+mostLine = 64
+
 -- ---- what is held
 
--- The bytes since the last LF, or that there are more than 64 of them.
+-- The bytes since the last LF, or that there are more than a line has.
 pub data Held : Type 0 where
   part : List ℕ → Held
   long : Held
@@ -28,7 +32,7 @@ fresh = part []
 
 -- A reader as the functions leave it.
 abbrev pub Sound : Reader → Type 0
-Sound r = r .len ≤ 64
+Sound r = r .len ≤ mostLine
 
 -- What a reader holds. (Behind the bytes of the unfinished line its array has what earlier lines left there.)
 unfoldable pub held : Reader → Held
@@ -36,7 +40,7 @@ held r = cond (r .over) long (part (take (r .len) (r .line)))
 
 -- One byte more, which is no LF.
 unfoldable pub hold : Held → ℕ → Held
-hold (part p) b = cond (ltb (length p) 64) (part (p ++ (b ∷ []))) long
+hold (part p) b = cond (ltb (length p) mostLine) (part (p ++ (b ∷ []))) long
 hold long b = long
 
 -- The line that is held, when its LF comes; and when the input ends.

@@ -3,14 +3,14 @@ ghost use Prim.Native.Nat.{_+_, _^_, _≤_, _<_};
 ghost use mathlib.Core.List.{[], _∷_};
 ghost use Rattle.model.specs.Text.{line};
 ghost use Rattle.text.specs.Writing.{Wrote};
-ghost use Rattle.uplink.specs.Answers.{answerText, badText};
+ghost use Rattle.uplink.specs.Answers.{answerText, badText, answerRoom};
 use model::Answer;
 
-// The line that says an answer: it has at most 64 bytes.
+// The line that says an answer.
 pub fn put_answer(out: &mut [u8], at: usize, answer: Answer) -> usize
     requires { ⌜ at < 2 ^ 32 ⌝ }
     ensures { λ r. ⌜ Wrote (now (out .entry)) at (answerText answer) r (now (out .exit)) ⌝ }
-    ensures { λ r. ⌜ r ≤ at + 64 ⌝ }
+    ensures { λ r. ⌜ r ≤ at + answerRoom ⌝ }
 {
     match answer {
         Answer::Granted(offset) => text::put_named(out, at, b"at", model::long(offset)),
@@ -29,7 +29,7 @@ pub fn put_answer(out: &mut [u8], at: usize, answer: Answer) -> usize
 fn put_block(out: &mut [u8], at: usize, group: u32, room: u32) -> usize
     requires { ⌜ at < 2 ^ 32 ⌝ }
     ensures { λ r. ⌜ Wrote (now (out .entry)) at (line (group ∷ room ∷ [])) r (now (out .exit)) ⌝ }
-    ensures { λ r. ⌜ r ≤ at + 64 ⌝ }
+    ensures { λ r. ⌜ r ≤ at + answerRoom ⌝ }
 {
     let numbers = [model::long(group), model::long(room)];
     text::put_line(out, at, &numbers)

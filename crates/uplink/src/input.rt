@@ -5,13 +5,14 @@ use crate::Ended;
 use crate::Fed;
 use crate::Got;
 use crate::Line;
+use crate::MOST_LINE;
 use crate::Reader;
 
 pub fn new_reader() -> Reader
     ensures { λ r. ⌜ Sound r × (held r ≡ fresh) ⌝ }
 {
     Reader {
-        line: [0u8; 64],
+        line: [0u8; MOST_LINE],
         len: 0,
         over: false,
     }
@@ -39,7 +40,7 @@ pub fn feed(reader: Reader, fragment: &[u8], from: usize) -> Fed
             };
         }
         i += 1;
-        if len < 64 {
+        if len < MOST_LINE {
             line[len] = b;
             len += 1;
             continue;
@@ -80,7 +81,7 @@ pub fn finish(reader: Reader) -> Ended
     }
 }
 
-// The call that the held line is. One of more than 64 bytes is bad whatever they are.
+// The call that the held line is. One that is too long is bad whatever they are.
 fn held_line(reader: Reader) -> Line
     requires { ⌜ Sound reader ⌝ }
     ensures { λ r. ⌜ r ≡ lineHeld (held reader) ⌝ }

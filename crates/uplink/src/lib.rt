@@ -6,6 +6,9 @@ pub mod answers;
 pub mod grammar;
 pub mod input;
 
+// A line has at most so many bytes before its LF.
+pub const MOST_LINE: usize = 64;
+
 // What a line asks: init with a number of pages, a group's call, trim, query of an offset, or the listing; or nothing that is
 // understood.
 pub enum Line {
@@ -25,9 +28,9 @@ enum Numbers {
     Wrong,
 }
 
-// An unfinished line: its first bytes, how many they are, and whether there were more than 64.
+// An unfinished line: its first bytes, how many they are, and whether there were more than a line has.
 pub struct Reader {
-    line: [u8; 64],
+    line: [u8; MOST_LINE],
     len: usize,
     over: bool,
 }

@@ -4,6 +4,7 @@ use lib.Seq.{length-take-le}
 use native.Mathlib.Omega.{arith}
 use mathlib.Core.Path.{sym}
 use borrow.Author.Needs.{needs}
+use Rattle.bench.specs.Numbers.{replyRoom}
 use Rattle.bench.proofs.serve_end.Statement.{statement}
 use Rattle.bench.proofs.serve_end.Tie as tie
 
@@ -14,19 +15,19 @@ start c = c .before .before .before .before .before
 slice-aggregate-serve-last : tie.Need-slice-aggregate-serve-last
 slice-aggregate-serve-last c =
     let s = c .before .before .before .before in
-    sym (length-take-le 207 (s .args .out .now) (s .pre .1))
+    sym (length-take-le replyRoom (s .args .out .now) (s .pre .1))
 
 slice-reshare-prefix-write-all : tie.Need-slice-reshare-prefix-write-all
 slice-reshare-prefix-write-all c =
     let s = c .before .before .before .before in
     let s₁ = start s in
-    front-holds (s₁ .args .out .now) 207 (s₁ .pre .1) (omega arith) (s .serve-last .ensures .1)
+    front-holds (s₁ .args .out .now) replyRoom (s₁ .pre .1) (omega arith) (s .serve-last .ensures .1)
 
 slice-aggregate-write-all : tie.Need-slice-aggregate-write-all
 slice-aggregate-write-all c =
     let s = c .before .before .before .before .before in
     let s₁ = start s in
-    sym (length-take-le _ _ (front-holds (s₁ .args .out .now) 207 (s₁ .pre .1) (omega arith) (s .serve-last .ensures .1)))
+    sym (length-take-le _ _ (front-holds (s₁ .args .out .now) replyRoom (s₁ .pre .1) (omega arith) (s .serve-last .ensures .1)))
 
 pub serve-end-spec : {M : Type 1} → statement M
 serve-end-spec =

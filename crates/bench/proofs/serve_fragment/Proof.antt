@@ -7,11 +7,12 @@ use native.Mathlib.Omega.{arith}
 use lib.ListN.{length}
 use Prim.Native.Nat.{_+_, _-_, _≤_}
 use borrow.Author.Needs.{needs}
+use Rattle.bench.specs.Numbers.{replyRoom}
 use Rattle.bench.proofs.serve_fragment.Statement.{statement}
 use Rattle.bench.proofs.serve_fragment.Tie as tie
 
 abbrev Inv-loop : tie.InvT-loop
-Inv-loop meta₀ fragment out₀ reader₀ at₀ used₀ meta out reader at used = Serving meta₀ fragment out₀ reader₀ meta out reader at × (used + 207 ≤ length out)
+Inv-loop meta₀ fragment out₀ reader₀ at₀ used₀ meta out reader at used = Serving meta₀ fragment out₀ reader₀ meta out reader at × (used + replyRoom ≤ length out)
 
 abbrev μ-loop : tie.MeasureT-loop
 μ-loop meta₀ fragment out₀ reader₀ at₀ used₀ meta out reader at used = length fragment - at
@@ -29,16 +30,16 @@ add-used c =
     let l = loop-before-turn (turn s) in
     omega (
       arith,
-      part-holds (l .loop .out) (l .loop .used) _ 207 (l .loop .inv .1) refl (omega arith) (s .serve-next .ensures .reply),
+      part-holds (l .loop .out) (l .loop .used) _ replyRoom (l .loop .inv .1) refl (omega arith) (s .serve-next .ensures .reply),
       part-keeps (l .loop .out)
-          (l .loop .used) _ 207 (l .loop .inv .1) refl (omega arith) (s .serve-next .ensures .reply),
+          (l .loop .used) _ replyRoom (l .loop .inv .1) refl (omega arith) (s .serve-next .ensures .reply),
     )
 
 sub-if1 : tie.Need-sub-if1 Inv-loop μ-loop
 sub-if1 c =
     let s = c .before .before .before .before .before .before in
     let l = loop-before-turn (turn s) in
-    part-holds (l .loop .out) (l .loop .used) _ 207 (l .loop .inv .1) refl (omega arith) (s .serve-next .ensures .reply)
+    part-holds (l .loop .out) (l .loop .used) _ replyRoom (l .loop .inv .1) refl (omega arith) (s .serve-next .ensures .reply)
 
 loop-less : tie.Need-loop-less Inv-loop μ-loop
 loop-less c =
@@ -51,22 +52,22 @@ loop-again c =
     let s = c .before .before .before .before .before .before .before in
     let l = loop-before-turn (turn s) in (
       serving-turn (l .loop .inv .0) (s .serve-next .ensures) (search needs)
-          (part-keeps (l .loop .out) (l .loop .used) _ 207 (l .loop .inv .1) refl (omega arith) (s .serve-next .ensures .reply)),
+          (part-keeps (l .loop .out) (l .loop .used) _ replyRoom (l .loop .inv .1) refl (omega arith) (s .serve-next .ensures .reply)),
       omega
-          (arith, part-holds (l .loop .out) (l .loop .used) _ 207 (l .loop .inv .1) refl (omega arith) (s .serve-next .ensures .reply)),
+          (arith, part-holds (l .loop .out) (l .loop .used) _ replyRoom (l .loop .inv .1) refl (omega arith) (s .serve-next .ensures .reply)),
     )
 
 slice-reshare-prefix-write-all : tie.Need-slice-reshare-prefix-write-all Inv-loop μ-loop
 slice-reshare-prefix-write-all c =
     let s = c .before .before .before .before .before .before .before in
     let l = loop-before-turn (turn s) in
-    part-holds (l .loop .out) (l .loop .used) _ 207 (l .loop .inv .1) refl (omega arith) (s .serve-next .ensures .reply)
+    part-holds (l .loop .out) (l .loop .used) _ replyRoom (l .loop .inv .1) refl (omega arith) (s .serve-next .ensures .reply)
 
 slice-aggregate-write-all : tie.Need-slice-aggregate-write-all Inv-loop μ-loop
 slice-aggregate-write-all c =
     let s = c .before .before .before .before .before .before .before .before in
     let l = loop-before-turn (turn s) in
-    sym (length-take-le _ _ (part-holds (l .loop .out) (l .loop .used) _ 207 (l .loop .inv .1) refl (omega arith) (s .serve-next .ensures .reply)))
+    sym (length-take-le _ _ (part-holds (l .loop .out) (l .loop .used) _ replyRoom (l .loop .inv .1) refl (omega arith) (s .serve-next .ensures .reply)))
 
 returns : tie.Need-returns Inv-loop μ-loop
 returns c =
@@ -84,9 +85,9 @@ loop-again-2 c =
     let s = c .before .before .before .before .before .before .before .before .before .before in
     let l = loop-before-turn (turn s) in (
       serving-turn (l .loop .inv .0) (s .serve-next .ensures) (search needs)
-          (part-keeps (l .loop .out) (l .loop .used) _ 207 (l .loop .inv .1) refl (omega arith) (s .serve-next .ensures .reply)),
+          (part-keeps (l .loop .out) (l .loop .used) _ replyRoom (l .loop .inv .1) refl (omega arith) (s .serve-next .ensures .reply)),
       omega
-          (arith, part-keeps (l .loop .out) (l .loop .used) _ 207 (l .loop .inv .1) refl (omega arith) (s .serve-next .ensures .reply), l .loop .inv .1),
+          (arith, part-keeps (l .loop .out) (l .loop .used) _ replyRoom (l .loop .inv .1) refl (omega arith) (s .serve-next .ensures .reply), l .loop .inv .1),
     )
 
 slice-aggregate-write-all-2 : tie.Need-slice-aggregate-write-all-2 Inv-loop μ-loop

@@ -5,7 +5,7 @@ use mathlib.Core.Path.{_≡_, sym}
 use native.Mathlib.Omega.{arith}
 use lib.ListN.{length}
 use borrow.Author.Needs.{needs}
-use Rattle.uplink.specs.Fragments.{held}
+use Rattle.uplink.specs.Fragments.{mostLine, held}
 use Rattle.uplink.proofs.Steps.{reader, Feeding, feeding-none, feeding-end, feeding-lf, feeding-byte, feeding-over}
 use Rattle.uplink.proofs.input.feed.Statement.{statement}
 use Rattle.uplink.proofs.input.feed.Tie as tie
@@ -21,7 +21,7 @@ abbrev loop-before-turn : tie.In-loop Inv-loop μ-loop → tie.At-loop Inv-loop 
 loop-before-turn c = c .before
 
 loop-holds : tie.Need-loop-holds Inv-loop μ-loop
-loop-holds c = let h : length (c .before .before .args .reader .line) ≡ 64 = search needs in feeding-none _ _ _ _ _ (sym h) (c .before .before .pre)
+loop-holds c = let h : length (c .before .before .args .reader .line) ≡ mostLine = search needs in feeding-none _ _ _ _ _ (sym h) (c .before .before .pre)
 
 held-line-requires : tie.Need-held-line-requires Inv-loop μ-loop
 held-line-requires c κs = c .before .before .before .loop .inv .sound

@@ -4,6 +4,7 @@ use native.Mathlib.Omega.{arith}
 use lib.ListN.{length}
 use borrow.Author.Needs.{needs}
 use Rattle.uplink.specs.declared.Got.the-variants.{Whole}
+use Rattle.uplink.specs.Fragments.{mostLine}
 use Rattle.uplink.proofs.Steps.{last-over, last-none, last-part}
 use Rattle.uplink.proofs.input.finish.Statement.{statement}
 use Rattle.uplink.proofs.input.finish.Tie as tie
@@ -18,7 +19,7 @@ returns-2 c =
 returns-3 : tie.Need-returns-3
 returns-3 c =
     let s = c .before .before .before .before in
-    let h : length (s .args .reader .line) ≡ 64 = search needs in
+    let h : length (s .args .reader .line) ≡ mostLine = search needs in
     (c .before .before .before .new-reader .ensures .0, c .before .before .before .new-reader .ensures .1, ap Whole (c .held-line .ensures) ∙ last-part _ (c .before .before .if1 .left) (c .before .if2 .left) (sym h) (s .pre))
 
 pub finish-spec : {M : Type 1} → statement M

@@ -4,6 +4,7 @@ use native.Mathlib.Omega.{arith}
 use lib.Seq.{length-take-le}
 use lib.ListN.{length}
 use borrow.Author.Needs.{needs}
+use Rattle.uplink.specs.Fragments.{mostLine}
 use Rattle.uplink.proofs.Steps.{line-over, line-part}
 use Rattle.uplink.proofs.input.held_line.Statement.{statement}
 use Rattle.uplink.proofs.input.held_line.Tie as tie
@@ -12,10 +13,10 @@ returns : tie.Need-returns
 returns c = line-over _ (c .if1 .taken)
 
 array-share-prefix-line : tie.Need-array-share-prefix-line
-array-share-prefix-line c = let h : length (c .before .before .args .reader .line) ≡ 64 = search needs in omega arith
+array-share-prefix-line c = let h : length (c .before .before .args .reader .line) ≡ mostLine = search needs in omega arith
 
 slice-aggregate-parse : tie.Need-slice-aggregate-parse
-slice-aggregate-parse c = let h : length (c .before .before .before .args .reader .line) ≡ 64 = search needs in sym (length-take-le _ _ (omega arith))
+slice-aggregate-parse c = let h : length (c .before .before .before .args .reader .line) ≡ mostLine = search needs in sym (length-take-le _ _ (omega arith))
 
 returns-2 : tie.Need-returns-2
 returns-2 c = c .parse .ensures ∙ line-part _ (c .before .before .before .if1 .left)
