@@ -21,12 +21,12 @@ struct Told {
     second: u32,
 }
 
-// A refusal's number, and no value.
-fn refused(number: u32) -> Told
-    ensures { λ r. ⌜ r ≡ record { refusal = number; some = false; first = 0; both = false; second = 0 } ⌝ }
+// No value: a refusal's number, or 0.
+fn bare(refusal: u32) -> Told
+    ensures { λ r. ⌜ r ≡ record { refusal = refusal; some = false; first = 0; both = false; second = 0 } ⌝ }
 {
     Told {
-        refusal: number,
+        refusal: refusal,
         some: false,
         first: 0,
         both: false,
@@ -53,8 +53,8 @@ fn take_apart(answer: Answer) -> Told
 {
     match answer {
         Answer::Granted(offset) => valued(offset),
-        Answer::Refused(refusal) => refused(model::number(refusal)),
-        Answer::Done => refused(0),
+        Answer::Refused(refusal) => bare(model::number(refusal)),
+        Answer::Done => bare(0),
         Answer::Counted(count) => valued(count),
         Answer::Block(group, room) => Told {
             refusal: 0,

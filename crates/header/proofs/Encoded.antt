@@ -6,7 +6,7 @@ use native.Mathlib.Omega.{arith}
 use lib.ListN.{length, getD, length-append}
 use Rattle.lemmas.specs.Parts.{mid, putMid}
 use Rattle.lemmas.specs.Zeros.{zeros}
-use Rattle.lemmas.proofs.Parts.{mid-at, put-at}
+use Rattle.lemmas.proofs.Parts.{mid-at, put-at, length-mid}
 use Rattle.lemmas.proofs.Zeros.{length-zeros}
 use Rattle.model.specs.Numbers.{headerWords}
 use Rattle.header.specs.Keys.{keysOf}
@@ -27,6 +27,10 @@ module _ (a b c d : List ℕ) (i k : ℕ) where
       cc (append-assoc a b (c ++ d), put-at (a ++ b) c d v i k (length-append a b ∙ h) e, append-assoc a b (v ++ d))
 
 -- ---- the parts of the header
+
+-- Words as many as a header's have all the slots of the class lists.
+pub lists-size : (w : List ℕ) → length w ≡ headerWords → length (mid atLists listSlots w) ≡ listSlots
+lists-size w h = length-mid atLists listSlots w (omega arith)
 
 module _ (n : ℕ) (spare : List ℕ) (lists : List (List ℕ)) where
   pub length-header : length (headerEncoding n spare lists) ≡ headerWords

@@ -20,7 +20,7 @@ use Rattle.header.specs.Encoding.{magic, headerEncoding, Fits, pagesIn, 
 use Rattle.header.proofs.Keys.{keys-rising, keys-below, rising-pages, keys-lists, length-lists, lists-pages}
 use Rattle.header.proofs.Entries.{Legal, legal-of, slots-legal}
 use Rattle.header.proofs.Facts.{Facts, facts-of, of-facts}
-use Rattle.header.proofs.Encoded.{length-header, spare-part, lists-part, rest-part, pages-encoded, named-encoded, spare-encoded, lists-encoded}
+use Rattle.header.proofs.Encoded.{lists-size, length-header, spare-part, lists-part, rest-part, pages-encoded, named-encoded, spare-encoded, lists-encoded}
 
 -- ---- an encoding passes
 
@@ -57,9 +57,6 @@ module _ (w : List ℕ) (h : Facts w) where
   spare-size : length (mid atSpare spareSlots w) ≡ 2
   spare-size = length-mid atSpare spareSlots w (let a = h .size in omega arith)
 
-  lists-size : length (mid atLists listSlots w) ≡ listSlots
-  lists-size = length-mid atLists listSlots w (let a = h .size in omega arith)
-
   -- The keys in the slots are those of the lists that are read.
   keys-again : keysOf (listsOf (entriesIn (mid atLists listSlots w))) ≡ entriesIn (mid atLists listSlots w)
   keys-again = keys-lists _ (lists-legal .rising) (lists-legal .below)
@@ -81,7 +78,7 @@ module _ (w : List ℕ) (h : Facts w) where
         most = h .most;
         few = let a = spare-size in let b = spare-legal .short in omega arith;
         classes = length-lists _;
-        room = let a = lists-size in let b = lists-legal .short in rw keys-again (omega arith);
+        room = let a = lists-size w (h .size) in let b = lists-legal .short in rw keys-again (omega arith);
         spare-pages = spare-legal .below;
         list-pages = lists-pages _;
       }
@@ -91,7 +88,7 @@ module _ (w : List ℕ) (h : Facts w) where
   header-words =
       let spare : mid atSpare spareSlots w ≡ slots spareSlots (entriesIn (mid atSpare spareSlots w)) = cc (spare-legal .again, spare-size) in
       let lists : mid atLists listSlots w ≡ slots listSlots (keysOf (listsOf (entriesIn (mid atLists listSlots w)))) =
-      cc (lists-legal .again, lists-size, keys-again) in
+      cc (lists-legal .again, lists-size w (h .size), keys-again) in
       cc (header-split w, head-again, spare, lists, rest-again)
 
   pub facts-header : Header w

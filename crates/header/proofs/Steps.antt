@@ -23,7 +23,7 @@ use Rattle.header.specs.Front.{frontOf}
 use Rattle.header.proofs.Keys.{Below, keys-below, keysBefore, keysBehind, keys-parts, place-is, behind-above, keys-push, keys-remove}
 use Rattle.header.proofs.Entries.{length-slots, slots-none, between, count-slots, shifted-slots, closed-slots}
 use Rattle.header.proofs.Counts.{count-every, count-one, count-place, count-class, times-class}
-use Rattle.header.proofs.Encoded.{length-header, spare-part, put-spare, lists-part, put-lists, rest-part}
+use Rattle.header.proofs.Encoded.{lists-size, length-header, spare-part, put-spare, lists-part, put-lists, rest-part}
 
 -- ---- the slot at the front of what is left of a list
 
@@ -86,9 +86,6 @@ module _ {w : List ℕ} {n : ℕ} {spare : List ℕ} {lists : List (List ℕ)} (
   lists-words : mid atLists listSlots w ≡ slots listSlots (keysOf lists)
   lists-words = cc (lists-part n spare lists)
 
-  pub lists-size : length (mid atLists listSlots w) ≡ listSlots
-  lists-size = ap length lists-words ∙ length-slots listSlots _
-
   spare-words : mid atSpare spareSlots w ≡ slots spareSlots spare
   spare-words = cc (spare-part n spare lists)
 
@@ -103,7 +100,7 @@ module _ {w : List ℕ} {n : ℕ} {spare : List ℕ} {lists : List (List ℕ)} (
   pub lists-most : (low high : ℕ) {k : ℕ} → k ≡ count (holds low high) (mid atLists listSlots w) → k ≤ listSlots
   lists-most low high e =
       let a = count-le-length (holds low high) (mid atLists listSlots w) in
-      let b = lists-size in
+      let b = lists-size w header-length in
       omega arith
 
   pub spare-most : (low high : ℕ) {k : ℕ} → k ≡ count (holds low high) (mid atSpare spareSlots w) → k ≤ 2
@@ -154,7 +151,7 @@ module _ {w : List ℕ} {n : ℕ} {spare : List ℕ} {lists : List (List ℕ)} (
         ∙ sym (getD-mid atRest restWords w 0 0 (omega arith))
         ∙ ap (λ (t : List ℕ). getD t 0 0) (ap (mid atRest restWords) (h .words) ∙ rest-part n spare lists)
         ∙ getD-zeros restWords 0
-        ∙ sym (List·getD-eq-default (mid atLists listSlots w) 0 (let a = lists-size in omega arith))
+        ∙ sym (List·getD-eq-default (mid atLists listSlots w) 0 (let a = lists-size w header-length in omega arith))
         ∙ slot)
 
     module _ (low k : ℕ) (is : low ≡ key c 0) (e : k ≡ count (holds 0 low) (mid atLists listSlots w)) where

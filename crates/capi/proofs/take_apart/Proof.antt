@@ -2,7 +2,6 @@
 use mathlib.Core.Path.{_∙_, sym, ap}
 use mathlib.Core.Bool.{false}
 use Rattle.capi.specs.Values.{toldOf}
-use Rattle.capi.specs.declared.Told.{Told}
 use borrow.Author.Needs.{needs}
 use Rattle.capi.proofs.take_apart.Statement.{statement}
 use Rattle.capi.proofs.take_apart.Tie as tie
@@ -12,10 +11,10 @@ returns c = c .valued .ensures ∙ sym (ap toldOf (c .before .before .answer .gi
 
 returns-2 : tie.Need-returns-2
 returns-2 c =
-    c .refused .ensures ∙ (λ i. record { refusal = c .before .number .ensures i; some = false; first = 0; both = false; second = 0 }) ∙ sym (ap toldOf (c .before .before .before .answer2 .given .1))
+    c .bare .ensures ∙ (λ i. record { refusal = c .before .number .ensures i; some = false; first = 0; both = false; second = 0 }) ∙ sym (ap toldOf (c .before .before .before .answer2 .given .1))
 
 returns-3 : tie.Need-returns-3
-returns-3 c = c .refused2 .ensures ∙ sym (ap toldOf (c .before .enum-told .given .1))
+returns-3 c = c .bare2 .ensures ∙ sym (ap toldOf (c .before .enum-told .given .1))
 
 returns-4 : tie.Need-returns-4
 returns-4 c = c .valued2 .ensures ∙ sym (ap toldOf (c .before .before .answer3 .given .1))

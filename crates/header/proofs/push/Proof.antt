@@ -1,7 +1,8 @@
 -- `header::push` meets its contract. Assumes nothing.
 use native.Mathlib.Omega.{arith}
 use borrow.Author.Needs.{needs}
-use Rattle.header.proofs.Steps.{header-length, lists-size, lists-most, step-push}
+use Rattle.header.proofs.Encoded.{lists-size}
+use Rattle.header.proofs.Steps.{header-length, lists-most, step-push}
 use Rattle.header.proofs.push.Statement.{statement}
 use Rattle.header.proofs.push.Tie as tie
 
@@ -25,7 +26,7 @@ shift-in-requires c κs =
     let c₁ = c .before .before in
     let s = start (key c₁) in
     let pre = s .pre in
-    omega (arith, lists-size (pre .0), lists-most (pre .0) _ _ (c₁ .count-between .ensures))
+    omega (arith, lists-size (s .args .words .now) (header-length (pre .0)), lists-most (pre .0) _ _ (c₁ .count-between .ensures))
 
 returns : tie.Need-returns
 returns c =
