@@ -2,7 +2,7 @@
 ghost use mathlib.Core.Path.{_≡_};
 ghost use Prim.Native.Nat.{_+_, _*_, _<_};
 ghost use Rattle.model.specs.Numbers.{pageBytes, zoneBytes};
-ghost use Rattle.model.specs.Arena.{Segment, zone};
+ghost use Rattle.model.specs.Arena.{zone};
 ghost use Rattle.model.specs.Zone.{Zone};
 ghost use Rattle.model.specs.Trim.{queryAt};
 ghost use Rattle.pages.specs.Places.{Stands};

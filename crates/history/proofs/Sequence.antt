@@ -1,6 +1,6 @@
 -- Requests of whole pages, and returns by which no chunk comes back, are functions of the page map: what they answer and which page
 -- map they leave. From a trimmed page map such a request is refused exactly when no row of pages is clear. Assumes nothing.
-use Prim.Native.Nat.{ℕ, _-_, _*_, _≤_, _<_}
+use Prim.Native.Nat.{ℕ, _*_, _≤_, _<_}
 use mathlib.Core.Path.{_≡_, refl, sym, _∙_, ap}
 use mathlib.Core.Option.{Option, none, some}
 use mathlib.Core.Bool.{true, false, cond}

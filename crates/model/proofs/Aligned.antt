@@ -1,6 +1,6 @@
 -- Where blocks begin: at a multiple of every number that divides both a page's bytes and the block's room. So every offset that is
 -- granted is a multiple of 8, of the step of its size, and from 8,192 bytes up of a page's bytes. Assumes nothing.
-use Prim.Native.Nat.{ℕ, zero, suc, _-_, _*_, _%_, _≤_, _<_, _∣_}
+use Prim.Native.Nat.{ℕ, zero, suc, _*_, _%_, _≤_, _<_, _∣_}
 use mathlib.Core.Path.{_≡_, refl}
 use mathlib.Core.List.{[], _∷_}
 use mathlib.Core.Option.{some}

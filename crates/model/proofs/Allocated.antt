@@ -1,6 +1,6 @@
 -- What an allocation does to the live blocks: it makes one block, of the group and with the room asked for, at the offset granted,
 -- where none was, and leaves all others; or it is refused and leaves the state. Assumes nothing.
-use Prim.Native.Nat.{ℕ, zero, suc, _-_, _*_, _≤_, _<_}
+use Prim.Native.Nat.{ℕ, zero, suc, _*_, _≤_, _<_}
 use mathlib.Core.Path.{_≡_, refl, _∙_, ap}
 use mathlib.Core.List.{List, [], _∷_, map, List·Memᴰ·head}
 use mathlib.Core.Option.{Option, none, some}

@@ -1,6 +1,6 @@
 -- The join as document 01 says it: pages that come back are joined with a free run that ends where they begin and with one that
 -- begins where they end, both if both exist. That is the join of all that touches. Assumes nothing.
-use Prim.Native.Nat.{ℕ, zero, suc, _+_, _-_, _<_}
+use Prim.Native.Nat.{ℕ, zero, suc, _+_, _<_}
 use mathlib.Core.Path.{_≡_, refl, _∙_, ap}
 use mathlib.Core.List.{List, [], _∷_, _++_}
 use mathlib.Core.Bool.{Bool, true, false}

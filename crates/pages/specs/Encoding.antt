@@ -4,7 +4,7 @@
 --   a zone           3, .. (crate zone)
 -- So the words of the segments stand one behind another, and every step replaces a part in the middle by one as long.
 -- Assumes nothing.
-use Prim.Native.Nat.{ℕ, _+_, _-_, _*_, _<_}
+use Prim.Native.Nat.{ℕ, _-_, _*_, _<_}
 use mathlib.Core.List.{List, [], _∷_, _++_}
 use Rattle.lemmas.specs.Zeros.{zeros}
 use Rattle.model.specs.Numbers.{pageWords}

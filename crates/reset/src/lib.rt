@@ -1,11 +1,9 @@
 // Reset: every live block of a group comes back, in ascending offset. One walk over the segments, and inside a zone one over its
 // chunks: it goes on from where it is, and behind the run that given back pages have become part of.
 ghost use mathlib.Core.Path.{_≡_};
-ghost use mathlib.Core.List.{List};
-ghost use Prim.Native.Nat.{ℕ, _+_, _*_, _<_, _≤_};
+ghost use Prim.Native.Nat.{ℕ, _+_, _<_};
 ghost use lib.ListN.{length};
-ghost use Rattle.model.specs.Arena.{Segment, run, direct, zone};
-ghost use Rattle.model.specs.Zone.{Zone};
+ghost use Rattle.model.specs.Arena.{run, direct};
 ghost use Rattle.model.specs.State.{State};
 ghost use Rattle.model.specs.Free.{offsetsOf, freedAll};
 ghost use Rattle.model.specs.Free as rules;

@@ -2,10 +2,9 @@
 ghost use mathlib.Core.Bool.{true};
 ghost use mathlib.Core.Path.{_≡_};
 ghost use Prim.Native.Nat.{_≤_, _+_};
-ghost use lib.ListN.{length, drop, take};
+ghost use lib.ListN.{length, take};
 ghost use Rattle.lemmas.specs.Below.{allBelow};
 ghost use Rattle.lemmas.specs.Every.{every, count};
-ghost use Rattle.lemmas.specs.Zeros.{isZero};
 ghost use Rattle.zone.specs.Encoding.{slotCount};
 ghost use Rattle.zone.specs.Decoding.{isLive, isBare, isNear, inPlace, slotsLegal};
 use crate::layout::*;

@@ -7,7 +7,7 @@ use lib.ListN.{set, length-set}
 use borrow.Author.Needs.{needs}
 use Rattle.zone.specs.Decoding.{chainedIn}
 use Rattle.zone.specs.Stores.{withEntry}
-use Prim.Native.Nat.{ℕ, _+_, _-_}
+use Prim.Native.Nat.{ℕ, _+_}
 use lib.ListN.{set, length-set}
 use Rattle.zone.specs.Stores.{withEntry}
 use Rattle.zone.proofs.stores.put_last.Statement.{statement}
