@@ -61,10 +61,10 @@ pub allocate-spec : {M : Type 1} → statement M
 allocate-spec =
     tie.close
     (tie.spec
-    (search needs)
+    (λ c. search needs)
     returns
-    (search needs)
+    (λ c. search needs)
     returns-2
     supply-requires
-    (search needs)
+    (λ c. search needs)
     returns-3)

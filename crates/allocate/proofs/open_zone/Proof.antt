@@ -72,13 +72,13 @@ open-zone-spec =
     tie.close
     (tie.spec
     (λ c κs. search needs)
-    (search needs)
-    (search needs)
-    (search needs)
+    (λ c. search needs)
+    (λ c. search needs)
+    (λ c. search needs)
     returns
     take-zone-requires
     cast-start
     list-front-requires
     mul-t17
-    (search needs)
+    (λ c. search needs)
     returns-2)

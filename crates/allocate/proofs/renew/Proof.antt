@@ -52,5 +52,5 @@ renew-spec =
     zone-renew-requires
     list-front-requires
     mul-t14
-    (search needs)
+    (λ c. search needs)
     returns)

@@ -76,12 +76,12 @@ serve-spec =
     (tie.spec
     zone-grant-requires
     mul-offset
-    (search needs)
+    (λ c. search needs)
     mul-offset-2
     add-offset
     zone-full-requires
-    (search needs)
+    (λ c. search needs)
     returns
     list-without-requires
-    (search needs)
+    (λ c. search needs)
     returns-2)

@@ -41,17 +41,17 @@ supply-chunk-spec =
     tie.close
     (tie.spec
     (λ c κs. search needs)
-    (search needs)
+    (λ c. search needs)
     serve-requires
-    (search needs)
     (λ c. search needs)
-    (search needs)
+    (λ c. search needs)
+    (λ c. search needs)
     (λ c κs. search needs)
-    (search needs)
-    renew-requires
-    (search needs)
     (λ c. search needs)
-    (search needs)
+    renew-requires
+    (λ c. search needs)
+    (λ c. search needs)
+    (λ c. search needs)
     open-zone-requires
-    (search needs)
+    (λ c. search needs)
     (λ c. search needs))

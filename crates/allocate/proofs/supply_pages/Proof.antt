@@ -52,12 +52,12 @@ supply-pages-spec =
     tie.close
     (tie.spec
     (λ c κs. search needs)
-    (search needs)
-    (search needs)
-    (search needs)
+    (λ c. search needs)
+    (λ c. search needs)
+    (λ c. search needs)
     returns
     take-direct-requires
     cast-t14
     mul-t15
-    (search needs)
+    (λ c. search needs)
     returns-2)

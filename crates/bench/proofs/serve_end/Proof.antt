@@ -33,12 +33,12 @@ pub serve-end-spec : {M : Type 1} → statement M
 serve-end-spec =
     tie.close
     (tie.spec
-    (search needs)
+    (λ c. search needs)
     slice-aggregate-serve-last
-    (search needs)
+    (λ c. search needs)
     slice-reshare-prefix-write-all
     slice-aggregate-write-all
-    (search needs)
-    (search needs)
-    (search needs)
-    (search needs))
+    (λ c. search needs)
+    (λ c. search needs)
+    (λ c. search needs)
+    (λ c. search needs))

@@ -103,26 +103,26 @@ serve-fragment-spec =
     Inv-loop
     μ-loop
     (λ c. search needs)
-    (search needs)
-    (search needs)
-    (search needs)
-    (search needs)
-    (search needs)
+    (λ c. search needs)
+    (λ c. search needs)
+    (λ c. search needs)
+    (λ c. search needs)
+    (λ c. search needs)
     add-used
     sub-if1
     loop-less
     loop-again
     slice-reshare-prefix-write-all
     slice-aggregate-write-all
-    (search needs)
-    (search needs)
-    (search needs)
+    (λ c. search needs)
+    (λ c. search needs)
+    (λ c. search needs)
     returns
     loop-less-2
     loop-again-2
-    (search needs)
+    (λ c. search needs)
     slice-aggregate-write-all-2
-    (search needs)
-    (search needs)
-    (search needs)
+    (λ c. search needs)
+    (λ c. search needs)
+    (λ c. search needs)
     returns-2)

@@ -44,12 +44,12 @@ describe-spec =
     tie.close
     (tie.spec
     (λ c κs. search needs)
-    (search needs)
+    (λ c. search needs)
     cast-pages
     mul-room
-    (search needs)
+    (λ c. search needs)
     room-requires
-    (search needs)
+    (λ c. search needs)
     returns
     returns-2
     returns-3)

@@ -58,10 +58,10 @@ pub find-block-spec : {M : Type 1} → statement M
 find-block-spec =
     tie.close
     (tie.spec
-    (search needs)
+    (λ c. search needs)
     (λ c κs. search needs)
-    (search needs)
-    (search needs)
+    (λ c. search needs)
+    (λ c. search needs)
     returns
     cast-away
     mul-away

@@ -18,4 +18,4 @@ returns c =
 
 pub nostrimel-allocate-spec : {M : Type 1} → statement M
 nostrimel-allocate-spec =
-    tie.close (tie.spec (search needs) (search needs) (search needs) returns)
+    tie.close (tie.spec (λ c. search needs) (λ c. search needs) (λ c. search needs) returns)

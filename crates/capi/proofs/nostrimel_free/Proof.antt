@@ -9,4 +9,4 @@ returns : tie.Need-returns
 returns c = let e = c .before .before .before .call .ensures in (c .refusal-of .ensures ∙ ap (λ x. reading x .refusal) (e .0), e .1)
 
 pub nostrimel-free-spec : {M : Type 1} → statement M
-nostrimel-free-spec = tie.close (tie.spec (search needs) (search needs) (search needs) returns)
+nostrimel-free-spec = tie.close (tie.spec (λ c. search needs) (λ c. search needs) (λ c. search needs) returns)

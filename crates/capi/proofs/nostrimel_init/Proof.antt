@@ -9,4 +9,4 @@ returns : tie.Need-returns
 returns c = let e = c .before .before .before .init .ensures in (c .refusal-of .ensures ∙ ap (λ x. reading x .refusal) (e .0), e .1)
 
 pub nostrimel-init-spec : {M : Type 1} → statement M
-nostrimel-init-spec = tie.close (tie.spec (search needs) (search needs) (search needs) returns)
+nostrimel-init-spec = tie.close (tie.spec (λ c. search needs) (λ c. search needs) (λ c. search needs) returns)

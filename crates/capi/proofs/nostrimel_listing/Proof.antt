@@ -16,4 +16,4 @@ returns c =
 
 pub nostrimel-listing-spec : {M : Type 1} → statement M
 nostrimel-listing-spec =
-    tie.close (tie.spec (search needs) (search needs) (search needs) (search needs) returns)
+    tie.close (tie.spec (λ c. search needs) (λ c. search needs) (λ c. search needs) (λ c. search needs) returns)

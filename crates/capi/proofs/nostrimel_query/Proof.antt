@@ -17,4 +17,4 @@ returns c =
     (d .0 ∙ ap (λ x. reading x .refusal) (e .0), (e .1, (first, second)))
 
 pub nostrimel-query-spec : {M : Type 1} → statement M
-nostrimel-query-spec = tie.close (tie.spec (search needs) (search needs) (search needs) returns)
+nostrimel-query-spec = tie.close (tie.spec (λ c. search needs) (λ c. search needs) (λ c. search needs) returns)

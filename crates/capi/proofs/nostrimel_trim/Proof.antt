@@ -17,4 +17,4 @@ returns c =
     let e = t .trim .ensures in let d = c .tell-first .ensures in (d .0 ∙ ap (λ x. reading x .refusal) (e .0), (e .1, d .1 ∙ ap (λ x. firstOr (s .args .count .now) (reading x .values)) (e .0)))
 
 pub nostrimel-trim-spec : {M : Type 1} → statement M
-nostrimel-trim-spec = tie.close (tie.spec (search needs) (search needs) (search needs) returns)
+nostrimel-trim-spec = tie.close (tie.spec (λ c. search needs) (λ c. search needs) (λ c. search needs) returns)

@@ -9,4 +9,4 @@ returns : tie.Need-returns
 returns c = ap (λ t. t .refusal) (c .take-apart .ensures) ∙ refusal-told (c .before .args .answer)
 
 pub refusal-of-spec : {M : Type 1} → statement M
-refusal-of-spec = tie.close (tie.spec (search needs) returns)
+refusal-of-spec = tie.close (tie.spec (λ c. search needs) returns)

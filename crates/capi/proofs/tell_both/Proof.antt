@@ -16,4 +16,4 @@ returns c =
     (ap (λ t. t .refusal) e ∙ refusal-told (a .answer), (first, second))
 
 pub tell-both-spec : {M : Type 1} → statement M
-tell-both-spec = tie.close (tie.spec (search needs) (search needs) (search needs) returns)
+tell-both-spec = tie.close (tie.spec (λ c. search needs) (λ c. search needs) (λ c. search needs) returns)

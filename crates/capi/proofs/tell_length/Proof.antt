@@ -14,4 +14,4 @@ returns c =
     (ap (λ t. t .refusal) e ∙ refusal-told (a .answer), c .put-length .ensures ∙ ap (λ t. cond (t .some) (t .first) (a .value .now)) e ∙ first-told (a .answer) _)
 
 pub tell-length-spec : {M : Type 1} → statement M
-tell-length-spec = tie.close (tie.spec (search needs) (search needs) returns)
+tell-length-spec = tie.close (tie.spec (λ c. search needs) (λ c. search needs) returns)

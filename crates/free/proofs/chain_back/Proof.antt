@@ -81,8 +81,8 @@ chain-back-spec =
     zone-put-back-requires
     cast-list-front
     list-front-requires
-    (search needs)
+    (λ c. search needs)
     returns
     zone-put-back-requires-2
-    (search needs)
+    (λ c. search needs)
     returns-2)

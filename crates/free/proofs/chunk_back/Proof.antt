@@ -82,11 +82,11 @@ chunk-back-spec =
     zone-class-requires
     (λ c κs. search needs)
     zone-idle-requires
-    (search needs)
+    (λ c. search needs)
     returns
     list-count-requires
-    (search needs)
+    (λ c. search needs)
     returns-2
     retire-requires
-    (search needs)
+    (λ c. search needs)
     returns-3)

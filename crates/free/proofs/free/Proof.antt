@@ -121,21 +121,21 @@ pub free-spec : {M : Type 1} → statement M
 free-spec =
     tie.close
     (tie.spec
-    (search needs)
+    (λ c. search needs)
     returns
     (λ c κs. search needs)
-    (search needs)
-    (search needs)
-    (search needs)
+    (λ c. search needs)
+    (λ c. search needs)
+    (λ c. search needs)
     returns-2
     give-back-requires
-    (search needs)
-    (search needs)
+    (λ c. search needs)
+    (λ c. search needs)
     returns-3
     chunk-back-requires
-    (search needs)
+    (λ c. search needs)
     returns-4
-    (search needs)
+    (λ c. search needs)
     returns-5
-    (search needs)
+    (λ c. search needs)
     returns-6)

@@ -88,8 +88,8 @@ retire-spec =
     spare-count-requires
     cast-spare-front
     spare-front-requires
-    (search needs)
+    (λ c. search needs)
     returns
     give-back-requires
-    (search needs)
+    (λ c. search needs)
     returns-2)

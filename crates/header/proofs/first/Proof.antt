@@ -59,17 +59,17 @@ pub first-spec : {M : Type 1} → statement M
 first-spec =
     tie.close
     (tie.spec
-    (search needs)
-    (search needs)
-    (search needs)
+    (λ c. search needs)
+    (λ c. search needs)
+    (λ c. search needs)
     part-count-between-end
-    (search needs)
+    (λ c. search needs)
     add-slot
     mul-slot
     shared-slice-read-slot
     returns
-    (search needs)
+    (λ c. search needs)
     returns-2
-    (search needs)
-    (search needs)
+    (λ c. search needs)
+    (λ c. search needs)
     returns-3)

@@ -9,4 +9,4 @@ shared-slice-read-result : tie.Need-shared-slice-read-result
 shared-slice-read-result c = omega (arith, header-length (c .before .pre))
 
 pub pages-spec : {M : Type 1} → statement M
-pages-spec = tie.close (tie.spec shared-slice-read-result (search needs))
+pages-spec = tie.close (tie.spec shared-slice-read-result (λ c. search needs))

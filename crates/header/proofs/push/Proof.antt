@@ -40,16 +40,16 @@ pub push-spec : {M : Type 1} → statement M
 push-spec =
     tie.close
     (tie.spec
-    (search needs)
-    (search needs)
+    (λ c. search needs)
+    (λ c. search needs)
     part-count-between-end
-    (search needs)
-    (search needs)
-    (search needs)
-    (search needs)
+    (λ c. search needs)
+    (λ c. search needs)
+    (λ c. search needs)
+    (λ c. search needs)
     part-shift-in-end
-    (search needs)
-    (search needs)
+    (λ c. search needs)
+    (λ c. search needs)
     shift-in-requires
-    (search needs)
+    (λ c. search needs)
     returns)

@@ -14,4 +14,4 @@ returns c = step-spare-clear (c .before .before .before .before .before .pre) _ 
 pub spare-clear-spec : {M : Type 1} → statement M
 spare-clear-spec =
     tie.close
-    (tie.spec (search needs) (search needs) part-clear-end (search needs) (search needs) returns)
+    (tie.spec (λ c. search needs) (λ c. search needs) part-clear-end (λ c. search needs) (λ c. search needs) returns)

@@ -17,9 +17,9 @@ pub spare-contains-spec : {M : Type 1} → statement M
 spare-contains-spec =
     tie.close
     (tie.spec
-    (search needs)
-    (search needs)
+    (λ c. search needs)
+    (λ c. search needs)
     part-count-between-end
-    (search needs)
-    (search needs)
+    (λ c. search needs)
+    (λ c. search needs)
     returns)

@@ -19,9 +19,9 @@ pub spare-count-spec : {M : Type 1} → statement M
 spare-count-spec =
     tie.close
     (tie.spec
-    (search needs)
-    (search needs)
+    (λ c. search needs)
+    (λ c. search needs)
     part-count-between-end
-    (search needs)
+    (λ c. search needs)
     cast-result
     returns)

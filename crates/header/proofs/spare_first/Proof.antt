@@ -15,4 +15,4 @@ returns-2 : tie.Need-returns-2
 returns-2 c = spare-some (c .before .before .pre) (c .if1 .left)
 
 pub spare-first-spec : {M : Type 1} → statement M
-spare-first-spec = tie.close (tie.spec shared-slice-read-slot returns (search needs) returns-2)
+spare-first-spec = tie.close (tie.spec shared-slice-read-slot returns (λ c. search needs) returns-2)

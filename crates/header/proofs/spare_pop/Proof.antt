@@ -22,12 +22,12 @@ pub spare-pop-spec : {M : Type 1} → statement M
 spare-pop-spec =
     tie.close
     (tie.spec
-    (search needs)
-    (search needs)
+    (λ c. search needs)
+    (λ c. search needs)
     slice-read-words
     slice-write-words
-    (search needs)
-    (search needs)
+    (λ c. search needs)
+    (λ c. search needs)
     slice-write-words-2
-    (search needs)
+    (λ c. search needs)
     returns)

@@ -15,10 +15,10 @@ pub spare-push-spec : {M : Type 1} → statement M
 spare-push-spec =
     tie.close
     (tie.spec
-    (search needs)
-    (search needs)
+    (λ c. search needs)
+    (λ c. search needs)
     part-shift-in-end
-    (search needs)
-    (search needs)
-    (search needs)
+    (λ c. search needs)
+    (λ c. search needs)
+    (λ c. search needs)
     returns)

@@ -63,7 +63,7 @@ count-rows-spec =
     μ-loop
     loop-holds
     kind-requires
-    (search needs)
+    (λ c. search needs)
     add-rows
     size-requires
     add-p

@@ -38,11 +38,11 @@ pub list-into-spec : {M : Type 1} → statement M
 list-into-spec =
     tie.close
     (tie.spec
-    (search needs)
+    (λ c. search needs)
     (λ c κs. search needs)
-    (search needs)
+    (λ c. search needs)
     returns
     (λ c κs. search needs)
     cast-bytes
-    (search needs)
+    (λ c. search needs)
     returns-2)

@@ -47,11 +47,11 @@ pub put-listing-spec : {M : Type 1} → statement M
 put-listing-spec =
     tie.close
     (tie.spec
-    (search needs)
+    (λ c. search needs)
     put-section-requires
-    (search needs)
+    (λ c. search needs)
     put-section-requires-2
-    (search needs)
+    (λ c. search needs)
     put-section-requires-3
-    (search needs)
+    (λ c. search needs)
     returns)

@@ -112,16 +112,16 @@ put-row-spec =
     returns
     zone-part-requires
     put-zone-requires
-    (search needs)
+    (λ c. search needs)
     returns-2
     (λ c κs. search needs)
-    (search needs)
+    (λ c. search needs)
     put-line-requires
-    (search needs)
+    (λ c. search needs)
     returns-3
     group-requires
-    (search needs)
-    (search needs)
+    (λ c. search needs)
+    (λ c. search needs)
     put-line-requires-2
-    (search needs)
+    (λ c. search needs)
     returns-4)

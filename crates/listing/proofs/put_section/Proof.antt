@@ -34,4 +34,4 @@ returns c =
 
 pub put-section-spec : {M : Type 1} → statement M
 put-section-spec =
-    tie.close (tie.spec (λ c κs. search needs) put-named-requires put-rows-requires (search needs) returns)
+    tie.close (tie.spec (λ c κs. search needs) put-named-requires put-rows-requires (λ c. search needs) returns)

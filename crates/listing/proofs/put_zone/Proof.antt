@@ -39,9 +39,9 @@ put-zone-spec =
     tie.close
     (tie.spec
     (λ c κs. search needs)
-    (search needs)
+    (λ c. search needs)
     (λ c κs. search needs)
-    (search needs)
+    (λ c. search needs)
     put-line-requires
-    (search needs)
+    (λ c. search needs)
     returns)

@@ -101,21 +101,21 @@ check-spec =
     (tie.spec
     returns
     slice-aggregate-check
-    (search needs)
+    (λ c. search needs)
     returns-2
     slice-aggregate-pages
     pages-requires
-    (search needs)
+    (λ c. search needs)
     words-for-requires
     returns-3
-    (search needs)
-    (search needs)
-    (search needs)
+    (λ c. search needs)
+    (λ c. search needs)
+    (λ c. search needs)
     check-requires-2
     returns-4
     slice-aggregate-lists-fit
-    (search needs)
-    (search needs)
-    (search needs)
+    (λ c. search needs)
+    (λ c. search needs)
+    (λ c. search needs)
     lists-fit-requires
     returns-5)

@@ -18,4 +18,4 @@ returns : tie.Need-returns
 returns c = c .pages .ensures ∙ sym (state-pages _ (c .before .before .before .pre))
 
 pub pages-spec : {M : Type 1} → statement M
-pages-spec = tie.close (tie.spec slice-aggregate-pages pages-requires (search needs) returns)
+pages-spec = tie.close (tie.spec slice-aggregate-pages pages-requires (λ c. search needs) returns)

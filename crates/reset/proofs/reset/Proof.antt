@@ -35,4 +35,4 @@ returns-2 c =
     (ap Counted (d .0) ∙ ap (λ y. y .answer) (sym e), by-rule _ _ _ e (d .1) .1)
 
 pub reset-spec : {M : Type 1} → statement M
-reset-spec = tie.close (tie.spec (search needs) returns sweep-requires (search needs) returns-2)
+reset-spec = tie.close (tie.spec (λ c. search needs) returns sweep-requires (λ c. search needs) returns-2)

@@ -110,15 +110,15 @@ sweep-at-spec =
     (tie.spec
     kind-at-requires
     sweep-zone-requires
-    (search needs)
+    (λ c. search needs)
     returns
     size-at-requires
     add-next
-    (search needs)
+    (λ c. search needs)
     returns-2
     group-at-requires
     sweep-direct-requires
-    (search needs)
     (λ c. search needs)
-    (search needs)
+    (λ c. search needs)
+    (λ c. search needs)
     returns-4)

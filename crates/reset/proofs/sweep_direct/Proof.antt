@@ -28,4 +28,4 @@ returns c =
 
 pub sweep-direct-spec : {M : Type 1} → statement M
 sweep-direct-spec =
-    tie.close (tie.spec (λ c κs. search needs) sub-behind-run behind-run-requires (search needs) returns)
+    tie.close (tie.spec (λ c κs. search needs) sub-behind-run behind-run-requires (λ c. search needs) returns)

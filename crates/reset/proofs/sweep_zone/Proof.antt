@@ -177,8 +177,8 @@ sweep-zone-spec =
     behind-run-requires
     same-length
     returns
-    (search needs)
-    (search needs)
+    (λ c. search needs)
+    (λ c. search needs)
     loop-again-2
     add-next
     same-length-2

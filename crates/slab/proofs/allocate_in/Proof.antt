@@ -34,5 +34,5 @@ allocate-in-spec =
     slice-relend-prefix-allocate
     slice-aggregate-allocate
     allocate-requires
-    (search needs)
+    (λ c. search needs)
     returns)

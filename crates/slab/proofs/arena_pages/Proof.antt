@@ -34,4 +34,4 @@ returns-2 c =
     pages-some _ passes _ (c .pages .ensures)
 
 pub arena-pages-spec : {M : Type 1} → statement M
-arena-pages-spec = tie.close (tie.spec (search needs) returns pages-requires returns-2)
+arena-pages-spec = tie.close (tie.spec (λ c. search needs) returns pages-requires returns-2)

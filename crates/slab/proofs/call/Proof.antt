@@ -63,18 +63,18 @@ pub call-spec : {M : Type 1} → statement M
 call-spec =
     tie.close
     (tie.spec
-    (search needs)
-    (search needs)
+    (λ c. search needs)
+    (λ c. search needs)
     returns
-    (search needs)
+    (λ c. search needs)
     allocate-in-requires
-    (search needs)
+    (λ c. search needs)
     free-in-requires
-    (search needs)
+    (λ c. search needs)
     reset-in-requires
-    (search needs)
+    (λ c. search needs)
     returns-2
-    (search needs)
+    (λ c. search needs)
     returns-3
-    (search needs)
+    (λ c. search needs)
     returns-4)

@@ -34,5 +34,5 @@ free-in-spec =
     slice-relend-prefix-free
     slice-aggregate-free
     free-requires
-    (search needs)
+    (λ c. search needs)
     returns)

@@ -57,10 +57,10 @@ init-spec =
     (tie.spec
     returns
     returns-2
-    (search needs)
+    (λ c. search needs)
     returns-3
-    (search needs)
+    (λ c. search needs)
     slice-aggregate-set-up
     set-up-requires
-    (search needs)
+    (λ c. search needs)
     returns-4)

@@ -33,12 +33,12 @@ pub query-spec : {M : Type 1} → statement M
 query-spec =
     tie.close
     (tie.spec
-    (search needs)
-    (search needs)
+    (λ c. search needs)
+    (λ c. search needs)
     returns
     words-for-requires
     slice-reshare-prefix-describe
     slice-aggregate-describe
     describe-requires
-    (search needs)
+    (λ c. search needs)
     returns-2)

@@ -34,5 +34,5 @@ reset-in-spec =
     slice-relend-prefix-reset
     slice-aggregate-reset
     reset-requires
-    (search needs)
+    (λ c. search needs)
     returns)

@@ -42,12 +42,12 @@ pub trim-spec : {M : Type 1} → statement M
 trim-spec =
     tie.close
     (tie.spec
-    (search needs)
-    (search needs)
+    (λ c. search needs)
+    (λ c. search needs)
     returns
     words-for-requires
     slice-relend-prefix-trim-all
     slice-aggregate-trim-all
     trim-all-requires
-    (search needs)
+    (λ c. search needs)
     returns-2)

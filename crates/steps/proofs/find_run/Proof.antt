@@ -22,4 +22,4 @@ returns c = let s = c .before .before .before in of-body (s .pre .0) (λ m. c .f
 pub find-run-spec : {M : Type 1} → statement M
 find-run-spec =
     tie.close
-    (tie.spec sub-find-run part-find-run-start (search needs) find-run-requires returns)
+    (tie.spec sub-find-run part-find-run-start (λ c. search needs) find-run-requires returns)

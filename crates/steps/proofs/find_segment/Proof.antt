@@ -21,4 +21,4 @@ returns c = let s = c .before .before .before in of-body (s .pre .0) (λ m. c .f
 pub find-segment-spec : {M : Type 1} → statement M
 find-segment-spec =
     tie.close
-    (tie.spec sub-find-segment part-find-segment-start (search needs) find-segment-requires returns)
+    (tie.spec sub-find-segment part-find-segment-start (λ c. search needs) find-segment-requires returns)

@@ -38,7 +38,7 @@ give-back-spec =
     (tie.spec
     sub-give-back
     part-give-back-start
-    (search needs)
+    (λ c. search needs)
     give-back-requires
-    (search needs)
+    (λ c. search needs)
     returns)

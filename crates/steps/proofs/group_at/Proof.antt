@@ -20,4 +20,4 @@ returns : tie.Need-returns
 returns c = λ b k g s. c .group .ensures b k g (in-body (c .before .before .before .pre .0 .0) (λ m. Stands m (c .before .before .before .args .p) b (direct k g)) s)
 
 pub group-at-spec : {M : Type 1} → statement M
-group-at-spec = tie.close (tie.spec sub-group part-group-start (search needs) group-requires returns)
+group-at-spec = tie.close (tie.spec sub-group part-group-start (λ c. search needs) group-requires returns)

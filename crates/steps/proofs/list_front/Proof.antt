@@ -24,4 +24,4 @@ returns c = header-put (c .before .before .before .before .before .pre .0) _ _ _
 pub list-front-spec : {M : Type 1} → statement M
 list-front-spec =
     tie.close
-    (tie.spec slice-relend-prefix-push slice-aggregate-push push-requires (search needs) returns)
+    (tie.spec slice-relend-prefix-push slice-aggregate-push push-requires (λ c. search needs) returns)

@@ -28,5 +28,5 @@ list-without-spec =
     slice-relend-prefix-remove
     slice-aggregate-remove
     remove-requires
-    (search needs)
+    (λ c. search needs)
     returns)

@@ -21,4 +21,4 @@ returns : tie.Need-returns
 returns c = λ b x s. c .size .ensures b x (in-body (c .before .before .before .pre .0 .0) (λ m. Stands m (c .before .before .before .args .p) b x) s)
 
 pub size-at-spec : {M : Type 1} → statement M
-size-at-spec = tie.close (tie.spec sub-size part-size-start (search needs) size-requires returns)
+size-at-spec = tie.close (tie.spec sub-size part-size-start (λ c. search needs) size-requires returns)

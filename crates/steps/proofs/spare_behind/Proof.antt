@@ -28,5 +28,5 @@ spare-behind-spec =
     slice-relend-prefix-spare-pop
     slice-aggregate-spare-pop
     spare-pop-requires
-    (search needs)
+    (λ c. search needs)
     returns)

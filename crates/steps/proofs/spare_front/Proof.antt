@@ -28,5 +28,5 @@ spare-front-spec =
     slice-relend-prefix-spare-push
     slice-aggregate-spare-push
     spare-push-requires
-    (search needs)
+    (λ c. search needs)
     returns)

@@ -28,5 +28,5 @@ spare-none-spec =
     slice-relend-prefix-spare-clear
     slice-aggregate-spare-clear
     spare-clear-requires
-    (search needs)
+    (λ c. search needs)
     returns)

@@ -33,7 +33,7 @@ take-direct-spec =
     (tie.spec
     sub-take-direct
     part-take-direct-start
-    (search needs)
+    (λ c. search needs)
     take-direct-requires
-    (search needs)
+    (λ c. search needs)
     returns)

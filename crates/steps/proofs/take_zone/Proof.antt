@@ -36,7 +36,7 @@ take-zone-spec =
     (tie.spec
     sub-take-zone
     part-take-zone-start
-    (search needs)
+    (λ c. search needs)
     take-zone-requires
-    (search needs)
+    (λ c. search needs)
     returns)

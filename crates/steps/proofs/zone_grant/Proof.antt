@@ -45,9 +45,9 @@ zone-grant-spec =
     words-for-requires
     add-e
     mul-grant
-    (search needs)
-    (search needs)
+    (λ c. search needs)
+    (λ c. search needs)
     part-grant-end
     grant-requires
-    (search needs)
+    (λ c. search needs)
     returns)

@@ -30,7 +30,7 @@ zone-part-spec =
     words-for-requires
     add-e
     mul-result
-    (search needs)
-    (search needs)
+    (λ c. search needs)
+    (λ c. search needs)
     part-result-end
     returns)

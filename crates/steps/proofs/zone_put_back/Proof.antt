@@ -44,9 +44,9 @@ zone-put-back-spec =
     words-for-requires
     add-e
     mul-put-back
-    (search needs)
-    (search needs)
+    (λ c. search needs)
+    (λ c. search needs)
     part-put-back-end
     put-back-requires
-    (search needs)
+    (λ c. search needs)
     returns)

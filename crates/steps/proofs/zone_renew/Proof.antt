@@ -35,9 +35,9 @@ zone-renew-spec =
     words-for-requires
     add-e
     mul-set-up
-    (search needs)
-    (search needs)
+    (λ c. search needs)
+    (λ c. search needs)
     part-set-up-end
-    (search needs)
-    (search needs)
+    (λ c. search needs)
+    (λ c. search needs)
     returns)

@@ -54,9 +54,9 @@ put-bytes-spec =
     Inv-loop
     μ-loop
     loop-holds
-    (search needs)
+    (λ c. search needs)
     put-byte-requires
-    (search needs)
+    (λ c. search needs)
     loop-less
     loop-again
     same-length

@@ -70,15 +70,15 @@ put-line-spec =
     Inv-loop
     μ-loop
     put-byte-requires
-    (search needs)
+    (λ c. search needs)
     returns
     loop-holds
-    (search needs)
-    (search needs)
-    (search needs)
-    (search needs)
+    (λ c. search needs)
+    (λ c. search needs)
+    (λ c. search needs)
+    (λ c. search needs)
     put-field-requires
-    (search needs)
+    (λ c. search needs)
     loop-less
     loop-again
     same-length-2

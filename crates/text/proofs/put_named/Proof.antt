@@ -39,4 +39,4 @@ returns c =
 pub put-named-spec : {M : Type 1} → statement M
 put-named-spec =
     tie.close
-    (tie.spec put-bytes-requires put-byte-requires put-field-requires (search needs) returns)
+    (tie.spec put-bytes-requires put-byte-requires put-field-requires (λ c. search needs) returns)

@@ -108,24 +108,24 @@ read-number-spec =
     Inv-loop
     μ-loop
     returns
-    (search needs)
-    (search needs)
+    (λ c. search needs)
+    (λ c. search needs)
     returns-2
     sub-value
-    (search needs)
-    (search needs)
+    (λ c. search needs)
+    (λ c. search needs)
     loop-holds
-    (search needs)
-    (search needs)
+    (λ c. search needs)
+    (λ c. search needs)
     cast-t17
     returns-3
     returns-4
     mul-v
     sub-value-2
-    (search needs)
+    (λ c. search needs)
     add-v
     returns-5
-    (search needs)
+    (λ c. search needs)
     loop-less
     loop-again
     cast-t20

@@ -33,7 +33,7 @@ give-zone-spec =
     (tie.spec
     unlist-requires
     give-back-requires
-    (search needs)
+    (λ c. search needs)
     size-at-requires
-    (search needs)
+    (λ c. search needs)
     returns)

@@ -133,9 +133,9 @@ trim-all-spec =
     loop-holds
     idle-at-requires
     give-zone-requires
-    (search needs)
+    (λ c. search needs)
     add-p
-    (search needs)
+    (λ c. search needs)
     loop-less
     loop-again
     size-at-requires

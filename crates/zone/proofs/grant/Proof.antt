@@ -46,8 +46,8 @@ grant-spec =
     slice-read-touched
     chunk-count-requires
     hand-out-requires
-    (search needs)
+    (λ c. search needs)
     returns
     take-last-requires
-    (search needs)
+    (λ c. search needs)
     returns-2)

@@ -21,4 +21,4 @@ returns-3 c = sym (owner-none _ (c .if2 .left)) ∙ owner-read _ (c .before .bef
 
 pub owner-spec : {M : Type 1} → statement M
 owner-spec =
-    tie.close (tie.spec returns (search needs) (search needs) shared-slice-read-state returns-2 returns-3)
+    tie.close (tie.spec returns (λ c. search needs) (λ c. search needs) shared-slice-read-state returns-2 returns-3)

@@ -40,11 +40,11 @@ pub take-out-spec : {M : Type 1} → statement M
 take-out-spec =
     tie.close
     (tie.spec
-    (search needs)
+    (λ c. search needs)
     mul-clear
     sub-clear
     part-clear-start
-    (search needs)
-    (search needs)
-    (search needs)
+    (λ c. search needs)
+    (λ c. search needs)
+    (λ c. search needs)
     returns)

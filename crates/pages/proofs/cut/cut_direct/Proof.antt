@@ -56,15 +56,15 @@ pub cut-direct-spec : {M : Type 1} → statement M
 cut-direct-spec =
     tie.close
     (tie.spec
-    (search needs)
+    (λ c. search needs)
     slice-relend-prefix-put-direct
     slice-aggregate-put-direct
     put-direct-requires
-    (search needs)
+    (λ c. search needs)
     sub-put-rest
     part-put-rest-start
     part-put-rest-end
-    (search needs)
+    (λ c. search needs)
     put-rest-requires
-    (search needs)
+    (λ c. search needs)
     returns)

@@ -63,15 +63,15 @@ pub cut-zone-spec : {M : Type 1} → statement M
 cut-zone-spec =
     tie.close
     (tie.spec
-    (search needs)
+    (λ c. search needs)
     slice-relend-prefix-set-up
     slice-aggregate-set-up
     set-up-requires
-    (search needs)
+    (λ c. search needs)
     sub-put-rest
     part-put-rest-start
     part-put-rest-end
-    (search needs)
+    (λ c. search needs)
     put-rest-requires
-    (search needs)
+    (λ c. search needs)
     returns)

@@ -16,4 +16,4 @@ returns-2 : tie.Need-returns-2
 returns-2 c = c .before .before .put-run .ensures ∙ rest-some _ (omega arith)
 
 pub put-rest-spec : {M : Type 1} → statement M
-put-rest-spec = tie.close (tie.spec returns put-run-requires (search needs) returns-2)
+put-rest-spec = tie.close (tie.spec returns put-run-requires (λ c. search needs) returns-2)

@@ -16,4 +16,4 @@ returns : tie.Need-returns
 returns c = c .before .before .put-run .ensures ∙ sym (encoding-one _)
 
 pub set-up-spec : {M : Type 1} → statement M
-set-up-spec = tie.close (tie.spec (search needs) put-run-requires (search needs) returns)
+set-up-spec = tie.close (tie.spec (λ c. search needs) put-run-requires (λ c. search needs) returns)

@@ -40,9 +40,9 @@ take-direct-spec =
     mul-e
     add-e
     mul-cut-direct
-    (search needs)
-    (search needs)
+    (λ c. search needs)
+    (λ c. search needs)
     part-cut-direct-end
     cut-direct-requires
-    (search needs)
+    (λ c. search needs)
     returns)

@@ -38,9 +38,9 @@ take-zone-spec =
     mul-e
     add-e
     mul-cut-zone
-    (search needs)
-    (search needs)
+    (λ c. search needs)
+    (λ c. search needs)
     part-cut-zone-end
     cut-zone-requires
-    (search needs)
+    (λ c. search needs)
     returns)

@@ -53,8 +53,8 @@ find-run-spec =
     μ-loop
     loop-holds
     next-run-requires
-    (search needs)
-    (search needs)
+    (λ c. search needs)
+    (λ c. search needs)
     add-p
     loop-less
     loop-again

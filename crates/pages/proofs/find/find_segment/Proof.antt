@@ -73,7 +73,7 @@ find-segment-spec =
     kind-requires
     add-if1
     returns
-    (search needs)
+    (λ c. search needs)
     add-p
     loop-less
     loop-again

@@ -62,6 +62,6 @@ run-behind-spec =
     add-wide
     mul-wide
     shared-slice-read-wide
-    (search needs)
+    (λ c. search needs)
     returns-2
     returns-3)

@@ -41,5 +41,5 @@ size-spec =
     add-wide
     mul-wide-2
     shared-slice-read-wide
-    (search needs)
+    (λ c. search needs)
     returns-2)

@@ -22,4 +22,4 @@ returns : tie.Need-returns
 returns c = λ b z s. zone-lent (read-at (c .before .pre .0) s)
 
 pub zone-part-spec : {M : Type 1} → statement M
-zone-part-spec = tie.close (tie.spec mul-a add-e mul-result (search needs) (search needs) part-result-end returns)
+zone-part-spec = tie.close (tie.spec mul-a add-e mul-result (λ c. search needs) (λ c. search needs) part-result-end returns)

@@ -26,11 +26,11 @@ erase-spec =
     tie.close
     (tie.spec
     slice-read-if1
-    (search needs)
-    (search needs)
+    (λ c. search needs)
+    (λ c. search needs)
     (λ c. search needs)
     slice-write-part
     slice-write-part-2
     slice-write-part-3
-    (search needs)
+    (λ c. search needs)
     returns-2)

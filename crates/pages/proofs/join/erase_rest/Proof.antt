@@ -20,4 +20,4 @@ returns-2 c = rest-erased _ (c .before .pre .0) (c .before .pre .1) (c .if1 .lef
 
 pub erase-rest-spec : {M : Type 1} → statement M
 erase-rest-spec =
-    tie.close (tie.spec returns slice-write-part slice-write-part-2 (search needs) returns-2)
+    tie.close (tie.spec returns slice-write-part slice-write-part-2 (λ c. search needs) returns-2)

@@ -49,21 +49,21 @@ pub fuse-spec : {M : Type 1} → statement M
 fuse-spec =
     tie.close
     (tie.spec
-    (search needs)
-    (search needs)
-    (search needs)
-    (search needs)
-    (search needs)
-    (search needs)
+    (λ c. search needs)
+    (λ c. search needs)
+    (λ c. search needs)
+    (λ c. search needs)
+    (λ c. search needs)
+    (λ c. search needs)
     part-erase-end
     erase-requires
-    (search needs)
+    (λ c. search needs)
     sub-erase-rest
     part-erase-rest-start
     part-erase-rest-end
     erase-rest-requires
-    (search needs)
-    (search needs)
+    (λ c. search needs)
+    (λ c. search needs)
     put-run-requires
-    (search needs)
+    (λ c. search needs)
     (λ c. search needs))

@@ -74,9 +74,9 @@ give-back-spec =
     mul-e
     add-e-3
     mul-fuse
-    (search needs)
-    (search needs)
+    (λ c. search needs)
+    (λ c. search needs)
     part-fuse-end
     fuse-requires
-    (search needs)
+    (λ c. search needs)
     returns)

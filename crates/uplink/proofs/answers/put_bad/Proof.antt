@@ -11,4 +11,4 @@ returns c = c .before .before .put-bytes .ensures
 
 pub put-bad-spec : {M : Type 1} → statement M
 put-bad-spec =
-    tie.close (tie.spec (search needs) (search needs) (search needs) returns)
+    tie.close (tie.spec (λ c. search needs) (λ c. search needs) (λ c. search needs) returns)

@@ -15,7 +15,7 @@ parse-spec =
     tie.close
     (tie.spec
     returns
-    (search needs)
-    (search needs)
-    (search needs)
+    (λ c. search needs)
+    (λ c. search needs)
+    (λ c. search needs)
     returns-2)

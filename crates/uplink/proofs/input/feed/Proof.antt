@@ -60,14 +60,14 @@ feed-spec =
     Inv-loop
     μ-loop
     loop-holds
-    (search needs)
+    (λ c. search needs)
     held-line-requires
-    (search needs)
-    (search needs)
+    (λ c. search needs)
+    (λ c. search needs)
     returns
-    (search needs)
-    (search needs)
-    (search needs)
+    (λ c. search needs)
+    (λ c. search needs)
+    (λ c. search needs)
     loop-less
     loop-again
     loop-less-2
