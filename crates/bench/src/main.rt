@@ -34,6 +34,20 @@ fn fresh_words() -> [u32; WORDS]
     [0; WORDS]
 }
 
+// Writes replies to standard output. Where it cannot, a line on standard error says so; where that fails too, nobody is left to tell.
+fn write_out(replies: &[u8]) -> bool {
+    if io::write_all(STDOUT_FILENO, replies) {
+        return true;
+    }
+    io::write_all(STDERR_FILENO, b"bench: standard output cannot be written\n");
+    false
+}
+
+// The same of standard input.
+fn tell_unread() {
+    io::write_all(STDERR_FILENO, b"bench: standard input cannot be read\n");
+}
+
 // Serves a fragment's lines. Replies are gathered, and written when there is no room for another and at the fragment's end.
 fn serve_fragment(reader: Reader, meta: &mut [u32], fragment: &[u8], out: &mut [u8]) -> Served
     requires { ⌜ Sound reader ⌝ }
@@ -52,7 +66,7 @@ fn serve_fragment(reader: Reader, meta: &mut [u32], fragment: &[u8], out: &mut [
         if REPLY <= out.len() - used {
             continue;
         }
-        if !io::write_all(STDOUT_FILENO, &out[..used]) {
+        if !write_out(&out[..used]) {
             return Served {
                 reader,
                 written: false,
@@ -60,30 +74,21 @@ fn serve_fragment(reader: Reader, meta: &mut [u32], fragment: &[u8], out: &mut [
         }
         used = 0;
     }
-    let written = io::write_all(STDOUT_FILENO, &out[..used]);
+    let written = write_out(&out[..used]);
     Served { reader, written }
 }
 
-// The end of the input: a last line without LF. Whether its reply could be written.
-fn serve_end(reader: Reader, meta: &mut [u32], out: &mut [u8]) -> bool
+// The end of the input: a last line without LF.
+fn serve_end(reader: Reader, meta: &mut [u32], out: &mut [u8])
     requires { ⌜ Sound reader ⌝ }
     requires { ⌜ replyRoom ≤ length (now out) ⌝ }
 {
     let len = desk::serve_last(reader, meta, &mut out[..REPLY]);
-    io::write_all(STDOUT_FILENO, &out[..len])
-}
-
-// The two lines of standard error, one at most in a run. Where standard error fails too, nobody is left to tell.
-fn tell_unread() {
-    io::write_all(STDERR_FILENO, b"bench: standard input cannot be read\n");
-}
-
-fn tell_unwritten() {
-    io::write_all(STDERR_FILENO, b"bench: standard output cannot be written\n");
+    write_out(&out[..len]);
 }
 
 // Reads what is there, serves it, and reads on. A loop has to end, and nothing says that an input does: so this one counts its reads
-// down, from a number that no run uses up. A read or a write that fails ends it, with a line on standard error.
+// down, from a number that no run uses up. A read or a write that fails ends it.
 fn run(meta: &mut [u32], input: &mut [u8], out: &mut [u8])
     requires { ⌜ replyRoom ≤ length (now out) ⌝ }
 {
@@ -97,14 +102,11 @@ fn run(meta: &mut [u32], input: &mut [u8], out: &mut [u8])
         }
         let n = io::count(got, input);
         if n == 0 {
-            if !serve_end(reader, meta, out) {
-                tell_unwritten();
-            }
+            serve_end(reader, meta, out);
             return;
         }
         let served = serve_fragment(reader, meta, &input[..n], out);
         if !served.written {
-            tell_unwritten();
             return;
         }
         reader = served.reader;

@@ -17,14 +17,14 @@ slice-aggregate-serve-last c =
     let s = c .before .before .before .before in
     sym (length-take-le replyRoom (s .args .out .now) (s .pre .1))
 
-slice-reshare-prefix-write-all : tie.Need-slice-reshare-prefix-write-all
-slice-reshare-prefix-write-all c =
+slice-reshare-prefix-write-out : tie.Need-slice-reshare-prefix-write-out
+slice-reshare-prefix-write-out c =
     let s = c .before .before .before .before in
     let s₁ = start s in
     front-holds (s₁ .args .out .now) replyRoom (s₁ .pre .1) (omega arith) (s .serve-last .ensures .1)
 
-slice-aggregate-write-all : tie.Need-slice-aggregate-write-all
-slice-aggregate-write-all c =
+slice-aggregate-write-out : tie.Need-slice-aggregate-write-out
+slice-aggregate-write-out c =
     let s = c .before .before .before .before .before in
     let s₁ = start s in
     sym (length-take-le _ _ (front-holds (s₁ .args .out .now) replyRoom (s₁ .pre .1) (omega arith) (s .serve-last .ensures .1)))
@@ -36,8 +36,8 @@ serve-end-spec =
     (λ c. search needs)
     slice-aggregate-serve-last
     (λ c. search needs)
-    slice-reshare-prefix-write-all
-    slice-aggregate-write-all
+    slice-reshare-prefix-write-out
+    slice-aggregate-write-out
     (λ c. search needs)
     (λ c. search needs)
     (λ c. search needs)

@@ -57,14 +57,14 @@ loop-again c =
           (arith, part-holds (l .loop .out) (l .loop .used) _ replyRoom (l .loop .inv .1) refl (omega arith) (s .serve-next .ensures .reply)),
     )
 
-slice-reshare-prefix-write-all : tie.Need-slice-reshare-prefix-write-all Inv-loop μ-loop
-slice-reshare-prefix-write-all c =
+slice-reshare-prefix-write-out : tie.Need-slice-reshare-prefix-write-out Inv-loop μ-loop
+slice-reshare-prefix-write-out c =
     let s = c .before .before .before .before .before .before .before in
     let l = loop-before-turn (turn s) in
     part-holds (l .loop .out) (l .loop .used) _ replyRoom (l .loop .inv .1) refl (omega arith) (s .serve-next .ensures .reply)
 
-slice-aggregate-write-all : tie.Need-slice-aggregate-write-all Inv-loop μ-loop
-slice-aggregate-write-all c =
+slice-aggregate-write-out : tie.Need-slice-aggregate-write-out Inv-loop μ-loop
+slice-aggregate-write-out c =
     let s = c .before .before .before .before .before .before .before .before in
     let l = loop-before-turn (turn s) in
     sym (length-take-le _ _ (part-holds (l .loop .out) (l .loop .used) _ replyRoom (l .loop .inv .1) refl (omega arith) (s .serve-next .ensures .reply)))
@@ -90,8 +90,8 @@ loop-again-2 c =
           (arith, part-keeps (l .loop .out) (l .loop .used) _ replyRoom (l .loop .inv .1) refl (omega arith) (s .serve-next .ensures .reply), l .loop .inv .1),
     )
 
-slice-aggregate-write-all-2 : tie.Need-slice-aggregate-write-all-2 Inv-loop μ-loop
-slice-aggregate-write-all-2 c = sym (length-take-le _ _ (omega (arith, c .before .before .loop .inv .1)))
+slice-aggregate-write-out-2 : tie.Need-slice-aggregate-write-out-2 Inv-loop μ-loop
+slice-aggregate-write-out-2 c = sym (length-take-le _ _ (omega (arith, c .before .before .loop .inv .1)))
 
 returns-2 : tie.Need-returns-2 Inv-loop μ-loop
 returns-2 c = serving-done (c .before .before .before .loop .inv .0) (c .before .before .loop-test .left) _
@@ -112,8 +112,8 @@ serve-fragment-spec =
     sub-if1
     loop-less
     loop-again
-    slice-reshare-prefix-write-all
-    slice-aggregate-write-all
+    slice-reshare-prefix-write-out
+    slice-aggregate-write-out
     (λ c. search needs)
     (λ c. search needs)
     (λ c. search needs)
@@ -121,7 +121,7 @@ serve-fragment-spec =
     loop-less-2
     loop-again-2
     (λ c. search needs)
-    slice-aggregate-write-all-2
+    slice-aggregate-write-out-2
     (λ c. search needs)
     (λ c. search needs)
     (λ c. search needs)
