@@ -1,7 +1,7 @@
 -- What an allocation does to the live blocks: it makes one block, of the group and with the room asked for, at the offset granted,
 -- where none was, and leaves all others; or it is refused and leaves the state. Assumes nothing.
 use Prim.Native.Nat.{ℕ, zero, suc, _*_, _≤_, _<_}
-use mathlib.Core.Path.{_≡_, refl, _∙_, ap}
+use mathlib.Core.Path.{_≡_, refl, sym, _∙_, ap}
 use mathlib.Core.List.{List, [], _∷_, map, List·Memᴰ·head}
 use mathlib.Core.Option.{Option, none, some}
 use mathlib.Core.Bool.{true}
@@ -49,7 +49,11 @@ size-least n t = leb-true 1 n (and-left (leb 1 n) _ t)
 
 -- A zone just set up holds one block, its chunk 0.
 new-first : (c g : ℕ) → c < classCount → 0 < g → blockIn 0 (zone (occupancy (newZone c g))) ≡ some (chunk c 0 g)
-new-first c g h p = cc (zero-mul (room c), blockIn-at c 0 (padded (chunks c) (g ∷ [])), padded-in (chunks c) (g ∷ []) 0 (omega (arith, chunks-least c h)), live-chunk c 0 g p)
+new-first c g h p =
+    ap (λ k. blockIn k (zone (occupancy (newZone c g)))) (sym (zero-mul (room c)))
+    ∙ blockIn-at c 0 (padded (chunks c) (g ∷ []))
+    ∙ ap (chunkOf c 0) (padded-in (chunks c) (g ∷ []) 0 (omega (arith, chunks-least c h)))
+    ∙ live-chunk c 0 g p
 
 one-owner : (g j : ℕ) → (j ≡ 0 → ⊥) → getD (g ∷ []) j 0 ≡ getD [] j 0
 one-owner g zero h = absurd (h refl)
@@ -100,8 +104,8 @@ module _ (s : State) where
         let z′ = granted g z in
         let inside : i < chunks c = omega (arith, ap chunks k) in
         let there : Begins (p * pageBytes) (pageMap s) (zone (record { class = c; groups = padded (chunks c) (z .owners) })) = shown-at (s .segments) p z e ∙ ap (λ y. some (record { away = 0; segment = zone y })) (shown-zone c z k) in
-        let new : chunkOf c i (getD (padded (chunks c) (z′ .owners)) i 0) ≡ some (chunk c i g) = cc (padded-in (chunks c) _ i inside, live-chunk c i g least) in
-        gives _ (chunk c i g) refl (chunk-fresh (p * pageBytes) (pageMap s) c i _ there (chunk-begins c i inside) (cc (padded-in (chunks c) (z .owners) i inside))) refl refl
+        let new : chunkOf c i (getD (padded (chunks c) (z′ .owners)) i 0) ≡ some (chunk c i g) = ap (chunkOf c i) (padded-in (chunks c) _ i inside ∙ G .is-owned) ∙ live-chunk c i g least in
+        gives _ (chunk c i g) refl (chunk-fresh (p * pageBytes) (pageMap s) c i _ there (chunk-begins c i inside) (padded-in (chunks c) (z .owners) i inside ∙ G .was-free)) refl refl
         (rw (edit-retold occupancy (p * pageBytes) (λ _. zone z′ ∷ []) (λ _. zone (occupancy z′) ∷ []) (λ _. refl) _, ← new)
         (chunk-only (p * pageBytes) (λ _. zone (occupancy z′) ∷ []) (pageMap s) 0 c i _ _ there (ap (λ y. zone y ∷ []) (shown-zone c z′ (G .same-class ∙ k))) (chunk-begins c i inside) (padded-other (chunks c) (z .owners) _ i (G .others)) (p * pageBytes) (omega arith)))
 

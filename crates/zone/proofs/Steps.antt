@@ -87,15 +87,18 @@ body-slot p x {w} st′ en′ l b here here′ there there′ =
       class = getD-set-other w _ 1 x 0 (omega arith) ∙ b .class;
       rest = zero-set _ x (omega arith) (b .rest);
       states = λ j k. by-eq j p
-          (λ e. cc (same j e))
-          (λ n. cc (getD-set-other w (headWords + p) (headWords + j) x 0 (λ e. n (omega arith)), b .states j k, there j n));
+          (λ e. ap stateIn (same j e) ∙ here ∙ ap st′ (sym e))
+          (λ n. ap stateIn (other j n) ∙ b .states j k ∙ sym (there j n));
       entries = λ j k. by-eq j p
-          (λ e. cc (same j e))
-          (λ n. cc (getD-set-other w (headWords + p) (headWords + j) x 0 (λ e. n (omega arith)), b .entries j k, there′ j n));
+          (λ e. ap entryIn (same j e) ∙ here′ ∙ ap en′ (sym e))
+          (λ n. ap entryIn (other j n) ∙ b .entries j k ∙ sym (there′ j n));
     }
   where
     same : (j : ℕ) → j ≡ p → getD (set w (headWords + p) x) (headWords + j) 0 ≡ x
-    same j e = cc (getD-set-same w (headWords + p) x 0 (let s = b .size in omega arith))
+    same j e = ap (λ n. getD (set w (headWords + p) x) (headWords + n) 0) e ∙ getD-set-same w (headWords + p) x 0 (let s = b .size in omega arith)
+
+    other : (j : ℕ) → (j ≡ p → ⊥) → getD (set w (headWords + p) x) (headWords + j) 0 ≡ getD w (headWords + j) 0
+    other j n = getD-set-other w (headWords + p) (headWords + j) x 0 (λ e. n (omega arith))
 
 -- A store to one half of a slot.
 body-state : (p x : ℕ) {w : List ℕ} {c : ℕ} {st en : ℕ → ℕ} (st′ : ℕ → ℕ) → p < slotCount → x < half → Body w c st en → st′ p ≡ x → ((j : ℕ) → (j ≡ p → ⊥) → st′ j ≡ st j) → Body (withState p x w) c st′ en
@@ -161,7 +164,7 @@ module _ {w : List ℕ} {z : Zone} (h : Words w z) (v : ValidZone z) (i : ℕ) (
       (let u = withState i (positionBase + m) w in
       let u₂ = withEntry m i u in
       words _ (body-head 3 (m + 1) (omega arith) (omega arith) put-body)
-      (cc (getD-set-other u₂ 3 2 (m + 1) 0 (λ e. omega arith), head-slot u m _ 2 (omega arith), head-slot w i _ 2 (omega arith), length-set (z .owners) i 0))
+      (getD-set-other u₂ 3 2 (m + 1) 0 (λ e. omega arith) ∙ head-slot u m _ 2 (omega arith) ∙ head-slot w i _ 2 (omega arith) ∙ h .handed ∙ sym (length-set (z .owners) i 0))
       (getD-set-same u₂ 3 (m + 1) 0 (omega (arith, put-body .size)) ∙ omega arith))
 
 -- ---- a chunk is granted
@@ -257,7 +260,7 @@ module _ {w : List ℕ} {z : Zone} (h : Words w z) (v : ValidZone z) (g : ℕ) (
         let u = withEntry (length t) 0 w in
         let u₂ = withState d g u in
         words less (body-head 3 (length t) (omega arith) (omega arith) less-body)
-        (cc (getD-set-other u₂ 3 2 (length t) 0 (λ e. omega arith), head-slot u d _ 2 (omega arith), head-slot w (length t) _ 2 (omega arith), length-set (z .owners) d g))
+        (getD-set-other u₂ 3 2 (length t) 0 (λ e. omega arith) ∙ head-slot u d _ 2 (omega arith) ∙ head-slot w (length t) _ 2 (omega arith) ∙ h .handed ∙ sym (length-set (z .owners) d g))
         (getD-set-same u₂ 3 (length t) 0 (omega (arith, less-body .size)))
 
   take-some : (l : List ℕ) → z .chain ≡ l → isNil l ≡ false → Takes w g (firstOf l) (unchained g z l)
@@ -268,7 +271,7 @@ module _ {w : List ℕ} {z : Zone} (h : Words w z) (v : ValidZone z) (g : ℕ) (
       let q : chainedIn w - 1 ≡ length t = omega arith in
       let b = touched-most z v in let k : d < touched z = first-is d t e .0 in
       let f = length-few d t e in
-      let p : lastChunk w ≡ d = cc (body h v .entries (length t) f, last-is d t e) in
+      let p : lastChunk w ≡ d = ap (λ n. entryIn (getD w (headWords + n) 0)) q ∙ body h v .entries (length t) f ∙ last-is d t e in
       record {
         asks = record { size = h .size; counted = omega arith; few = omega arith; near = omega arith };
         chunk-is = p;
@@ -292,7 +295,8 @@ module _ (w : List ℕ) (c g : ℕ) (size : length w ≡ zoneWords) (rest : Zero
       getD-set (set (set (set (set w 0 3) 1 c) 2 1) 3 0) headWords n g 0 (simp length-set (omega arith))
       ∙ ap (λ x. cond (eqb n headWords) g x) (getD-set (set (set (set w 0 3) 1 c) 2 1) 3 n 0 0 (simp length-set (omega arith))
       ∙ ap (λ x. cond (eqb n 3) 0 x) (getD-set (set (set w 0 3) 1 c) 2 n 1 0 (simp length-set (omega arith))
-      ∙ ap (λ x. cond (eqb n 2) 1 x) (cc (getD-set (set w 0 3) 1 n c 0 (simp length-set (omega arith)), getD-set w 0 n 3 0 (omega arith)))))
+      ∙ ap (λ x. cond (eqb n 2) 1 x) (getD-set (set w 0 3) 1 n c 0 (simp length-set (omega arith))
+      ∙ ap (λ x. cond (eqb n 1) c x) (getD-set w 0 n 3 0 (omega arith)))))
 
   fresh-far : (n : ℕ) → headNumbers ≤ n → n < zoneWords → (n ≡ headWords → ⊥) → getD fresh n 0 ≡ 0
   fresh-far n l u e =
