@@ -72,7 +72,7 @@ module _ {w₀ s o₀ : List ℕ} {r₀ : Reader} {w o : List ℕ} {r : Reader} 
   }
 
   -- All of it is served; or a write failed.
-  pub serving-done : length s ≤ at → (b : Bool) → ServedAll (held r₀) w₀ s (record { reader = r; written = b }) w
+  pub serving-done : length s ≤ at → (b : Bool) → ServedAll (held r₀) w₀ s (record { reader = r; on = b }) w
   unfolding heldAfter linesBy wordsAfterAll
   serving-done e b =
       let end : drop at s ≡ [] = drop-of-length-le s {i = at} e in
@@ -82,5 +82,5 @@ module _ {w₀ s o₀ : List ℕ} {r₀ : Reader} {w o : List ℕ} {r : Reader} 
         words = λ _. cc;
       }
 
-pub serving-failed : {k : Held} {w s v : List ℕ} {r : Reader} → Sound r → ServedAll k w s (record { reader = r; written = false }) v
+pub serving-failed : {k : Held} {w s v : List ℕ} {r : Reader} → Sound r → ServedAll k w s (record { reader = r; on = false }) v
 serving-failed h = record { sound = h; after = λ e. true-false e refl; words = λ e. true-false e refl }

@@ -19,10 +19,10 @@ const WORDS: usize = 13504;
 
 const REPLY: usize = 207;
 
-// What a fragment leaves: the reader, and whether all replies could be written.
+// What serving leaves: the reader, and whether the input goes on. It ends where a reply cannot be written.
 struct Served {
     reader: Reader,
-    written: bool,
+    on: bool,
 }
 
 // Its words when it begins, all zero: they encode no valid state.
@@ -67,15 +67,12 @@ fn serve_fragment(reader: Reader, meta: &mut [u32], fragment: &[u8], out: &mut [
             continue;
         }
         if !write_out(&out[..used]) {
-            return Served {
-                reader,
-                written: false,
-            };
+            return Served { reader, on: false };
         }
         used = 0;
     }
-    let written = write_out(&out[..used]);
-    Served { reader, written }
+    let on = write_out(&out[..used]);
+    Served { reader, on }
 }
 
 // The end of the input: a last line without LF.
@@ -87,26 +84,35 @@ fn serve_end(reader: Reader, meta: &mut [u32], out: &mut [u8])
     write_out(&out[..len]);
 }
 
-// Reads what is there, serves it, and reads on. A loop has to end, and nothing says that an input does: so this one counts its reads
-// down, from a number that no run uses up. A read or a write that fails ends it.
+// Reads what is there and serves it. The input goes on unless a read brings no byte, and it ends where a stream fails.
+fn serve_read(reader: Reader, meta: &mut [u32], input: &mut [u8], out: &mut [u8]) -> Served
+    requires { ⌜ Sound reader ⌝ }
+    requires { ⌜ replyRoom ≤ length (now out) ⌝ }
+    ensures { λ r. ⌜ Sound (r .reader) ⌝ }
+{
+    let got = libc::read(STDIN_FILENO, input);
+    if got < 0 {
+        tell_unread();
+        return Served { reader, on: false };
+    }
+    let n = io::count(got, input);
+    if n == 0 {
+        serve_end(reader, meta, out);
+        return Served { reader, on: false };
+    }
+    serve_fragment(reader, meta, &input[..n], out)
+}
+
+// Serves one read after another. A loop has to end, and nothing says that an input does: so this one counts its reads down, from a
+// number that no run uses up.
 fn run(meta: &mut [u32], input: &mut [u8], out: &mut [u8])
     requires { ⌜ replyRoom ≤ length (now out) ⌝ }
 {
     let mut reader = uplink::input::new_reader();
     let mut reads = u64::MAX;
     while reads > 0 {
-        let got = libc::read(STDIN_FILENO, input);
-        if got < 0 {
-            tell_unread();
-            return;
-        }
-        let n = io::count(got, input);
-        if n == 0 {
-            serve_end(reader, meta, out);
-            return;
-        }
-        let served = serve_fragment(reader, meta, &input[..n], out);
-        if !served.written {
+        let served = serve_read(reader, meta, input, out);
+        if !served.on {
             return;
         }
         reader = served.reader;
