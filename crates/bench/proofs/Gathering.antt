@@ -15,8 +15,13 @@ use Rattle.desk.specs.Replies.{Replied, TurnBy}
 use Rattle.desk.specs.Session.{wordsAfterAll}
 use Rattle.desk.proofs.Session.{turn-words, turn-held}
 use Rattle.bench.specs.Fragments.{ServedAll}
+use Rattle.bench.specs.Numbers.{replyRoom}
 
 -- ---- a reply in a part of the buffer
+
+-- The room for one reply has room for every answer's line.
+pub reply-enough : answerRoom ≤ replyRoom
+reply-enough = omega arith
 
 module _ {reply m : List ℕ} {r : ℕ} where
   -- In its first n bytes.

@@ -1,7 +1,6 @@
 -- `bench::serve_end` meets its contract. Assumes nothing.
-use Rattle.bench.proofs.Gathering.{front-holds}
+use Rattle.bench.proofs.Gathering.{reply-enough, front-holds}
 use lib.Seq.{length-take-le}
-use native.Mathlib.Omega.{arith}
 use mathlib.Core.Path.{sym}
 use borrow.Author.Needs.{needs}
 use Rattle.bench.specs.Numbers.{replyRoom}
@@ -21,13 +20,13 @@ slice-reshare-prefix-write-out : tie.Need-slice-reshare-prefix-write-out
 slice-reshare-prefix-write-out c =
     let s = c .before .before .before .before in
     let s₁ = start s in
-    front-holds (s₁ .args .out .now) replyRoom (s₁ .pre .1) (omega arith) (s .serve-last .ensures .1)
+    front-holds (s₁ .args .out .now) replyRoom (s₁ .pre .1) reply-enough (s .serve-last .ensures .1)
 
 slice-aggregate-write-out : tie.Need-slice-aggregate-write-out
 slice-aggregate-write-out c =
     let s = c .before .before .before .before .before in
     let s₁ = start s in
-    sym (length-take-le _ _ (front-holds (s₁ .args .out .now) replyRoom (s₁ .pre .1) (omega arith) (s .serve-last .ensures .1)))
+    sym (length-take-le _ _ (front-holds (s₁ .args .out .now) replyRoom (s₁ .pre .1) reply-enough (s .serve-last .ensures .1)))
 
 pub serve-end-spec : {M : Type 1} → statement M
 serve-end-spec =

@@ -2,7 +2,7 @@
 -- Assumes nothing.
 use lib.Seq.{length-take-le}
 use mathlib.Core.Path.{refl, sym}
-use Rattle.bench.proofs.Gathering.{part-keeps, part-holds, Serving, serving-turn, serving-done, serving-failed}
+use Rattle.bench.proofs.Gathering.{reply-enough, part-keeps, part-holds, Serving, serving-turn, serving-done, serving-failed}
 use native.Mathlib.Omega.{arith}
 use lib.ListN.{length}
 use Prim.Native.Nat.{_+_, _-_, _≤_}
@@ -30,16 +30,16 @@ add-used c =
     let l = loop-before-turn (turn s) in
     omega (
       arith,
-      part-holds (l .loop .out) (l .loop .used) _ replyRoom (l .loop .inv .1) refl (omega arith) (s .serve-next .ensures .reply),
+      part-holds (l .loop .out) (l .loop .used) _ replyRoom (l .loop .inv .1) refl reply-enough (s .serve-next .ensures .reply),
       part-keeps (l .loop .out)
-          (l .loop .used) _ replyRoom (l .loop .inv .1) refl (omega arith) (s .serve-next .ensures .reply),
+          (l .loop .used) _ replyRoom (l .loop .inv .1) refl reply-enough (s .serve-next .ensures .reply),
     )
 
 sub-if1 : tie.Need-sub-if1 Inv-loop μ-loop
 sub-if1 c =
     let s = c .before .before .before .before .before .before in
     let l = loop-before-turn (turn s) in
-    part-holds (l .loop .out) (l .loop .used) _ replyRoom (l .loop .inv .1) refl (omega arith) (s .serve-next .ensures .reply)
+    part-holds (l .loop .out) (l .loop .used) _ replyRoom (l .loop .inv .1) refl reply-enough (s .serve-next .ensures .reply)
 
 loop-less : tie.Need-loop-less Inv-loop μ-loop
 loop-less c =
@@ -52,22 +52,22 @@ loop-again c =
     let s = c .before .before .before .before .before .before .before in
     let l = loop-before-turn (turn s) in (
       serving-turn (l .loop .inv .0) (s .serve-next .ensures) (search needs)
-          (part-keeps (l .loop .out) (l .loop .used) _ replyRoom (l .loop .inv .1) refl (omega arith) (s .serve-next .ensures .reply)),
+          (part-keeps (l .loop .out) (l .loop .used) _ replyRoom (l .loop .inv .1) refl reply-enough (s .serve-next .ensures .reply)),
       omega
-          (arith, part-holds (l .loop .out) (l .loop .used) _ replyRoom (l .loop .inv .1) refl (omega arith) (s .serve-next .ensures .reply)),
+          (arith, part-holds (l .loop .out) (l .loop .used) _ replyRoom (l .loop .inv .1) refl reply-enough (s .serve-next .ensures .reply)),
     )
 
 slice-reshare-prefix-write-out : tie.Need-slice-reshare-prefix-write-out Inv-loop μ-loop
 slice-reshare-prefix-write-out c =
     let s = c .before .before .before .before .before .before .before in
     let l = loop-before-turn (turn s) in
-    part-holds (l .loop .out) (l .loop .used) _ replyRoom (l .loop .inv .1) refl (omega arith) (s .serve-next .ensures .reply)
+    part-holds (l .loop .out) (l .loop .used) _ replyRoom (l .loop .inv .1) refl reply-enough (s .serve-next .ensures .reply)
 
 slice-aggregate-write-out : tie.Need-slice-aggregate-write-out Inv-loop μ-loop
 slice-aggregate-write-out c =
     let s = c .before .before .before .before .before .before .before .before in
     let l = loop-before-turn (turn s) in
-    sym (length-take-le _ _ (part-holds (l .loop .out) (l .loop .used) _ replyRoom (l .loop .inv .1) refl (omega arith) (s .serve-next .ensures .reply)))
+    sym (length-take-le _ _ (part-holds (l .loop .out) (l .loop .used) _ replyRoom (l .loop .inv .1) refl reply-enough (s .serve-next .ensures .reply)))
 
 returns : tie.Need-returns Inv-loop μ-loop
 returns c =
@@ -85,9 +85,9 @@ loop-again-2 c =
     let s = c .before .before .before .before .before .before .before .before .before .before in
     let l = loop-before-turn (turn s) in (
       serving-turn (l .loop .inv .0) (s .serve-next .ensures) (search needs)
-          (part-keeps (l .loop .out) (l .loop .used) _ replyRoom (l .loop .inv .1) refl (omega arith) (s .serve-next .ensures .reply)),
+          (part-keeps (l .loop .out) (l .loop .used) _ replyRoom (l .loop .inv .1) refl reply-enough (s .serve-next .ensures .reply)),
       omega
-          (arith, part-keeps (l .loop .out) (l .loop .used) _ replyRoom (l .loop .inv .1) refl (omega arith) (s .serve-next .ensures .reply), l .loop .inv .1),
+          (arith, part-keeps (l .loop .out) (l .loop .used) _ replyRoom (l .loop .inv .1) refl reply-enough (s .serve-next .ensures .reply), l .loop .inv .1),
     )
 
 slice-aggregate-write-out-2 : tie.Need-slice-aggregate-write-out-2 Inv-loop μ-loop
