@@ -1,10 +1,10 @@
 -- `allocate` meets its contract. Assumes nothing.
+use native.Mathlib.Omega.{arith}
 use Rattle.metadata.specs.Decoding.{decode}
 use Rattle.allocate.proofs.Requests.{made, size-most, bad-group, bad-size, accepted}
 use Rattle.model.proofs.Allocated.{group-least, group-most, size-least}
 use borrow.Author.Tests.{not-true, not-false}
 use mathlib.Core.Path.{refl, sym, _∙_}
-use borrow.Author.Needs.{needs}
 use Rattle.allocate.proofs.allocate.Statement.{statement}
 use Rattle.allocate.proofs.allocate.Tie as tie
 
@@ -61,10 +61,10 @@ pub allocate-spec : {M : Type 1} → statement M
 allocate-spec =
     tie.close
     (tie.spec
-    (λ c. search needs)
+    (λ c. omega arith)
     returns
-    (λ c. search needs)
+    (λ c. omega arith)
     returns-2
     supply-requires
-    (λ c. search needs)
+    (λ c. omega arith)
     returns-3)

@@ -72,13 +72,13 @@ open-zone-spec =
     tie.close
     (tie.spec
     (λ c κs. search needs)
-    (λ c. search needs)
-    (λ c. search needs)
-    (λ c. search needs)
+    (λ c. omega arith)
+    (λ c. omega arith)
+    (λ c. omega arith)
     returns
     take-zone-requires
     cast-start
     list-front-requires
     mul-t17
-    (λ c. search needs)
+    (λ c. omega arith)
     returns-2)

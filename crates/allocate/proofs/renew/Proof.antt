@@ -2,7 +2,6 @@
 use Rattle.allocate.proofs.Opened.{renew-page, renew-answer, behind-words, behind-zone, renewed-words, renewed-room, renewed}
 use Rattle.steps.proofs.Lent.{lent}
 use native.Mathlib.Omega.{arith}
-use borrow.Author.Needs.{needs}
 use Rattle.allocate.proofs.renew.Statement.{statement}
 use Rattle.allocate.proofs.renew.Tie as tie
 
@@ -52,5 +51,5 @@ renew-spec =
     zone-renew-requires
     list-front-requires
     mul-t14
-    (λ c. search needs)
+    (λ c. omega arith)
     returns)

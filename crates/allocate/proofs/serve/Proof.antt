@@ -3,7 +3,6 @@ use Rattle.allocate.proofs.Served.{serve-page, serve-zone, serve-open, 
 use Rattle.steps.proofs.Lent.{lent}
 use borrow.Author.Tests.{not-true, not-false}
 use native.Mathlib.Omega.{arith}
-use borrow.Author.Needs.{needs}
 use Rattle.allocate.proofs.serve.Statement.{statement}
 use Rattle.allocate.proofs.serve.Tie as tie
 
@@ -76,12 +75,12 @@ serve-spec =
     (tie.spec
     zone-grant-requires
     mul-offset
-    (λ c. search needs)
+    (λ c. omega arith)
     mul-offset-2
     add-offset
     zone-full-requires
-    (λ c. search needs)
+    (λ c. omega arith)
     returns
     list-without-requires
-    (λ c. search needs)
+    (λ c. omega arith)
     returns-2)

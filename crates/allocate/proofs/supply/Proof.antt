@@ -36,13 +36,13 @@ pub supply-spec : {M : Type 1} → statement M
 supply-spec =
     tie.close
     (tie.spec
-    (λ c. search needs)
+    (λ c. omega arith)
     supply-chunk-requires
-    (λ c. search needs)
+    (λ c. omega arith)
     returns
-    (λ c. search needs)
-    (λ c. search needs)
-    (λ c. search needs)
+    (λ c. omega arith)
+    (λ c. omega arith)
+    (λ c. omega arith)
     (λ c κs. search needs)
-    (λ c. search needs)
+    (λ c. omega arith)
     returns-2)

@@ -52,12 +52,12 @@ supply-pages-spec =
     tie.close
     (tie.spec
     (λ c κs. search needs)
-    (λ c. search needs)
-    (λ c. search needs)
-    (λ c. search needs)
+    (λ c. omega arith)
+    (λ c. omega arith)
+    (λ c. omega arith)
     returns
     take-direct-requires
     cast-t14
     mul-t15
-    (λ c. search needs)
+    (λ c. omega arith)
     returns-2)

@@ -1,8 +1,8 @@
 -- `bench::serve_end` meets its contract. Assumes nothing.
+use native.Mathlib.Omega.{arith}
 use Rattle.bench.proofs.Gathering.{reply-enough, front-holds}
 use lib.Seq.{length-take-le}
 use mathlib.Core.Path.{sym}
-use borrow.Author.Needs.{needs}
 use Rattle.bench.specs.Numbers.{replyRoom}
 use Rattle.bench.proofs.serve_end.Statement.{statement}
 use Rattle.bench.proofs.serve_end.Tie as tie
@@ -32,12 +32,12 @@ pub serve-end-spec : {M : Type 1} → statement M
 serve-end-spec =
     tie.close
     (tie.spec
-    (λ c. search needs)
+    (λ c. omega arith)
     slice-aggregate-serve-last
-    (λ c. search needs)
+    (λ c. omega arith)
     slice-reshare-prefix-write-out
     slice-aggregate-write-out
-    (λ c. search needs)
-    (λ c. search needs)
-    (λ c. search needs)
-    (λ c. search needs))
+    (λ c. omega arith)
+    (λ c. omega arith)
+    (λ c. omega arith)
+    (λ c. omega arith))

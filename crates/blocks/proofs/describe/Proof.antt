@@ -44,12 +44,12 @@ describe-spec =
     tie.close
     (tie.spec
     (λ c κs. search needs)
-    (λ c. search needs)
+    (λ c. omega arith)
     cast-pages
     mul-room
-    (λ c. search needs)
+    (λ c. omega arith)
     room-requires
-    (λ c. search needs)
+    (λ c. omega arith)
     returns
     returns-2
     returns-3)

@@ -1,8 +1,8 @@
 -- `nostrimel_allocate` meets its contract. Assumes nothing.
+use native.Mathlib.Omega.{arith}
 use mathlib.Core.Path.{_∙_, ap}
 use Rattle.capi.specs.Values.{firstOr}
 use Rattle.model.specs.Calls.{reading}
-use borrow.Author.Needs.{needs}
 use Rattle.capi.proofs.nostrimel_allocate.Statement.{statement}
 use Rattle.capi.proofs.nostrimel_allocate.Tie as tie
 
@@ -18,4 +18,4 @@ returns c =
 
 pub nostrimel-allocate-spec : {M : Type 1} → statement M
 nostrimel-allocate-spec =
-    tie.close (tie.spec (λ c. search needs) (λ c. search needs) (λ c. search needs) returns)
+    tie.close (tie.spec (λ c. omega arith) (λ c. omega arith) (λ c. omega arith) returns)

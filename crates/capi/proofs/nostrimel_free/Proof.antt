@@ -1,7 +1,7 @@
 -- `nostrimel_free` meets its contract. Assumes nothing.
+use native.Mathlib.Omega.{arith}
 use mathlib.Core.Path.{_∙_, ap}
 use Rattle.model.specs.Calls.{reading}
-use borrow.Author.Needs.{needs}
 use Rattle.capi.proofs.nostrimel_free.Statement.{statement}
 use Rattle.capi.proofs.nostrimel_free.Tie as tie
 
@@ -9,4 +9,4 @@ returns : tie.Need-returns
 returns c = let e = c .before .before .before .call .ensures in (c .refusal-of .ensures ∙ ap (λ x. reading x .refusal) (e .0), e .1)
 
 pub nostrimel-free-spec : {M : Type 1} → statement M
-nostrimel-free-spec = tie.close (tie.spec (λ c. search needs) (λ c. search needs) (λ c. search needs) returns)
+nostrimel-free-spec = tie.close (tie.spec (λ c. omega arith) (λ c. omega arith) (λ c. omega arith) returns)

@@ -1,7 +1,7 @@
 -- `nostrimel_init` meets its contract. Assumes nothing.
+use native.Mathlib.Omega.{arith}
 use mathlib.Core.Path.{_∙_, ap}
 use Rattle.model.specs.Calls.{reading}
-use borrow.Author.Needs.{needs}
 use Rattle.capi.proofs.nostrimel_init.Statement.{statement}
 use Rattle.capi.proofs.nostrimel_init.Tie as tie
 
@@ -9,4 +9,4 @@ returns : tie.Need-returns
 returns c = let e = c .before .before .before .init .ensures in (c .refusal-of .ensures ∙ ap (λ x. reading x .refusal) (e .0), e .1)
 
 pub nostrimel-init-spec : {M : Type 1} → statement M
-nostrimel-init-spec = tie.close (tie.spec (λ c. search needs) (λ c. search needs) (λ c. search needs) returns)
+nostrimel-init-spec = tie.close (tie.spec (λ c. omega arith) (λ c. omega arith) (λ c. omega arith) returns)

@@ -1,6 +1,6 @@
 -- `nostrimel_listing` meets its contract. Assumes nothing.
+use native.Mathlib.Omega.{arith}
 use mathlib.Core.Path.{_∙_, ap}
-use borrow.Author.Needs.{needs}
 use Rattle.model.specs.Calls.{reading}
 use Rattle.capi.specs.Values.{firstOr}
 use Rattle.capi.proofs.nostrimel_listing.Statement.{statement}
@@ -16,4 +16,4 @@ returns c =
 
 pub nostrimel-listing-spec : {M : Type 1} → statement M
 nostrimel-listing-spec =
-    tie.close (tie.spec (λ c. search needs) (λ c. search needs) (λ c. search needs) (λ c. search needs) returns)
+    tie.close (tie.spec (λ c. omega arith) (λ c. omega arith) (λ c. omega arith) (λ c. omega arith) returns)

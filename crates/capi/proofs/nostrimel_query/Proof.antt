@@ -1,6 +1,6 @@
 -- `nostrimel_query` meets its contract. Assumes nothing.
+use native.Mathlib.Omega.{arith}
 use mathlib.Core.Path.{_∙_, ap}
-use borrow.Author.Needs.{needs}
 use Rattle.model.specs.Calls.{reading}
 use Rattle.capi.specs.Values.{firstOr, secondOr}
 use Rattle.capi.proofs.nostrimel_query.Statement.{statement}
@@ -17,4 +17,4 @@ returns c =
     (d .0 ∙ ap (λ x. reading x .refusal) (e .0), (e .1, (first, second)))
 
 pub nostrimel-query-spec : {M : Type 1} → statement M
-nostrimel-query-spec = tie.close (tie.spec (λ c. search needs) (λ c. search needs) (λ c. search needs) returns)
+nostrimel-query-spec = tie.close (tie.spec (λ c. omega arith) (λ c. omega arith) (λ c. omega arith) returns)

@@ -1,8 +1,8 @@
 -- `nostrimel_trim` meets its contract. Assumes nothing.
+use native.Mathlib.Omega.{arith}
 use mathlib.Core.Path.{_∙_, ap}
 use Rattle.capi.specs.Values.{firstOr}
 use Rattle.model.specs.Calls.{reading}
-use borrow.Author.Needs.{needs}
 use Rattle.capi.proofs.nostrimel_trim.Statement.{statement}
 use Rattle.capi.proofs.nostrimel_trim.Tie as tie
 
@@ -17,4 +17,4 @@ returns c =
     let e = t .trim .ensures in let d = c .tell-first .ensures in (d .0 ∙ ap (λ x. reading x .refusal) (e .0), (e .1, d .1 ∙ ap (λ x. firstOr (s .args .count .now) (reading x .values)) (e .0)))
 
 pub nostrimel-trim-spec : {M : Type 1} → statement M
-nostrimel-trim-spec = tie.close (tie.spec (λ c. search needs) (λ c. search needs) (λ c. search needs) returns)
+nostrimel-trim-spec = tie.close (tie.spec (λ c. omega arith) (λ c. omega arith) (λ c. omega arith) returns)

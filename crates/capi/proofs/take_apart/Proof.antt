@@ -1,8 +1,8 @@
 -- `take_apart` meets its contract. Assumes nothing.
+use native.Mathlib.Omega.{arith}
 use mathlib.Core.Path.{_∙_, sym, ap}
 use mathlib.Core.Bool.{false}
 use Rattle.capi.specs.Values.{toldOf}
-use borrow.Author.Needs.{needs}
 use Rattle.capi.proofs.take_apart.Statement.{statement}
 use Rattle.capi.proofs.take_apart.Tie as tie
 
@@ -26,16 +26,16 @@ pub take-apart-spec : {M : Type 1} → statement M
 take-apart-spec =
     tie.close
     (tie.spec
-    (λ c. search needs)
-    (λ c. search needs)
-    (λ c. search needs)
-    (λ c. search needs)
-    (λ c. search needs)
-    (λ c. search needs)
-    (λ c. search needs)
-    (λ c. search needs)
-    (λ c. search needs)
-    (λ c. search needs)
+    (λ c. omega arith)
+    (λ c. omega arith)
+    (λ c. omega arith)
+    (λ c. omega arith)
+    (λ c. omega arith)
+    (λ c. omega arith)
+    (λ c. omega arith)
+    (λ c. omega arith)
+    (λ c. omega arith)
+    (λ c. omega arith)
     returns
     returns-2
     returns-3

@@ -1,8 +1,8 @@
 -- `tell_both` meets its contract. Assumes nothing.
+use native.Mathlib.Omega.{arith}
 use mathlib.Core.Path.{_∙_, ap}
 use mathlib.Core.Bool.{cond}
 use Rattle.capi.proofs.Values.{refusal-told, first-told, second-told}
-use borrow.Author.Needs.{needs}
 use Rattle.capi.proofs.tell_both.Statement.{statement}
 use Rattle.capi.proofs.tell_both.Tie as tie
 
@@ -16,4 +16,4 @@ returns c =
     (ap (λ t. t .refusal) e ∙ refusal-told (a .answer), (first, second))
 
 pub tell-both-spec : {M : Type 1} → statement M
-tell-both-spec = tie.close (tie.spec (λ c. search needs) (λ c. search needs) (λ c. search needs) returns)
+tell-both-spec = tie.close (tie.spec (λ c. omega arith) (λ c. omega arith) (λ c. omega arith) returns)

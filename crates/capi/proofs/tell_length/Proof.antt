@@ -1,8 +1,8 @@
 -- `tell_length` meets its contract. Assumes nothing.
+use native.Mathlib.Omega.{arith}
 use mathlib.Core.Path.{_∙_, ap}
 use mathlib.Core.Bool.{cond}
 use Rattle.capi.proofs.Values.{refusal-told, first-told}
-use borrow.Author.Needs.{needs}
 use Rattle.capi.proofs.tell_length.Statement.{statement}
 use Rattle.capi.proofs.tell_length.Tie as tie
 
@@ -14,4 +14,4 @@ returns c =
     (ap (λ t. t .refusal) e ∙ refusal-told (a .answer), c .put-length .ensures ∙ ap (λ t. cond (t .some) (t .first) (a .value .now)) e ∙ first-told (a .answer) _)
 
 pub tell-length-spec : {M : Type 1} → statement M
-tell-length-spec = tie.close (tie.spec (λ c. search needs) (λ c. search needs) returns)
+tell-length-spec = tie.close (tie.spec (λ c. omega arith) (λ c. omega arith) returns)

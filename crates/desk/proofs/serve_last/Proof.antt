@@ -1,7 +1,7 @@
 -- `desk::serve_last` meets its contract. Assumes nothing.
+use native.Mathlib.Omega.{arith}
 use mathlib.Core.Path.{sym, _∙_}
 use Rattle.desk.proofs.Turns.{followed-line, followed-none}
-use borrow.Author.Needs.{needs}
 use Rattle.desk.proofs.serve_last.Statement.{statement}
 use Rattle.desk.proofs.serve_last.Tie as tie
 
@@ -33,11 +33,11 @@ pub serve-last-spec : {M : Type 1} → statement M
 serve-last-spec =
     tie.close
     (tie.spec
-    (λ c. search needs)
-    (λ c. search needs)
-    (λ c. search needs)
-    (λ c. search needs)
-    (λ c. search needs)
-    (λ c. search needs)
+    (λ c. omega arith)
+    (λ c. omega arith)
+    (λ c. omega arith)
+    (λ c. omega arith)
+    (λ c. omega arith)
+    (λ c. omega arith)
     returns
     returns-2)

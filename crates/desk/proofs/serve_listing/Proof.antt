@@ -6,7 +6,6 @@ use mathlib.Core.Path.{_∙_, subst}
 use native.Mathlib.Omega.{arith}
 use denote.Enum.Declared.{tagOf}
 use types.Run.{OneOf}
-use borrow.Author.Needs.{needs}
 use Rattle.model.specs.declared.Answer.the-variants.{Counted}
 use Rattle.model.proofs.Answer as answer
 use Rattle.slab.proofs.Promises.{listing-unchanged}
@@ -50,13 +49,13 @@ pub serve-listing-spec : {M : Type 1} → statement M
 serve-listing-spec =
     tie.close
     (tie.spec
-    (λ c. search needs)
-    (λ c. search needs)
-    (λ c. search needs)
-    (λ c. search needs)
-    (λ c. search needs)
+    (λ c. omega arith)
+    (λ c. omega arith)
+    (λ c. omega arith)
+    (λ c. omega arith)
+    (λ c. omega arith)
     returns
-    (λ c. search needs)
-    (λ c. search needs)
-    (λ c. search needs)
+    (λ c. omega arith)
+    (λ c. omega arith)
+    (λ c. omega arith)
     returns-2)

@@ -1,6 +1,6 @@
 -- `desk::serve_next` meets its contract. Assumes nothing.
+use native.Mathlib.Omega.{arith}
 use Rattle.desk.proofs.Turns.{followed-line, followed-none, turn-by}
-use borrow.Author.Needs.{needs}
 use Rattle.desk.proofs.serve_next.Statement.{statement}
 use Rattle.desk.proofs.serve_next.Tie as tie
 
@@ -32,11 +32,11 @@ pub serve-next-spec : {M : Type 1} → statement M
 serve-next-spec =
     tie.close
     (tie.spec
-    (λ c. search needs)
-    (λ c. search needs)
-    (λ c. search needs)
-    (λ c. search needs)
-    (λ c. search needs)
-    (λ c. search needs)
+    (λ c. omega arith)
+    (λ c. omega arith)
+    (λ c. omega arith)
+    (λ c. omega arith)
+    (λ c. omega arith)
+    (λ c. omega arith)
     returns
     returns-2)

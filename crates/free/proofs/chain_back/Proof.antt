@@ -2,7 +2,6 @@
 use native.Mathlib.Omega.{arith}
 use mathlib.Core.Path.{sym, _∙_}
 use Rattle.free.proofs.Live.{live-here, live-owner, live-class, live-page, mid-lent, mid-room, mid-front, mid-stays}
-use borrow.Author.Needs.{needs}
 use Rattle.free.proofs.chain_back.Statement.{statement}
 use Rattle.free.proofs.chain_back.Tie as tie
 
@@ -81,8 +80,8 @@ chain-back-spec =
     zone-put-back-requires
     cast-list-front
     list-front-requires
-    (λ c. search needs)
+    (λ c. omega arith)
     returns
     zone-put-back-requires-2
-    (λ c. search needs)
+    (λ c. omega arith)
     returns-2)

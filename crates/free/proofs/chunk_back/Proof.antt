@@ -82,11 +82,11 @@ chunk-back-spec =
     zone-class-requires
     (λ c κs. search needs)
     zone-idle-requires
-    (λ c. search needs)
+    (λ c. omega arith)
     returns
     list-count-requires
-    (λ c. search needs)
+    (λ c. omega arith)
     returns-2
     retire-requires
-    (λ c. search needs)
+    (λ c. omega arith)
     returns-3)

@@ -121,21 +121,21 @@ pub free-spec : {M : Type 1} → statement M
 free-spec =
     tie.close
     (tie.spec
-    (λ c. search needs)
+    (λ c. omega arith)
     returns
     (λ c κs. search needs)
-    (λ c. search needs)
-    (λ c. search needs)
-    (λ c. search needs)
+    (λ c. omega arith)
+    (λ c. omega arith)
+    (λ c. omega arith)
     returns-2
     give-back-requires
-    (λ c. search needs)
-    (λ c. search needs)
+    (λ c. omega arith)
+    (λ c. omega arith)
     returns-3
     chunk-back-requires
-    (λ c. search needs)
+    (λ c. omega arith)
     returns-4
-    (λ c. search needs)
+    (λ c. omega arith)
     returns-5
-    (λ c. search needs)
+    (λ c. omega arith)
     returns-6)

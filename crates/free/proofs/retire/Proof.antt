@@ -5,7 +5,6 @@ use lib.ListN.{length}
 use Rattle.model.specs.Numbers.{mostSpare}
 use Rattle.metadata.specs.Decoding.{decode}
 use Rattle.free.proofs.Retired.{zone-page, zone-class, off-lent, off-count, off-room, off-spared, off-stands, off-apart, off-total, off-released}
-use borrow.Author.Needs.{needs}
 use Rattle.free.proofs.retire.Statement.{statement}
 use Rattle.free.proofs.retire.Tie as tie
 
@@ -88,8 +87,8 @@ retire-spec =
     spare-count-requires
     cast-spare-front
     spare-front-requires
-    (λ c. search needs)
+    (λ c. omega arith)
     returns
     give-back-requires
-    (λ c. search needs)
+    (λ c. omega arith)
     returns-2)

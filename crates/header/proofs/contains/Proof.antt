@@ -2,7 +2,6 @@
 use mathlib.Core.Path.{ap, _∙_}
 use native.Mathlib.Omega.{arith}
 use lib.Dec.{ltb}
-use borrow.Author.Needs.{needs}
 use Rattle.header.proofs.Steps.{header-length, class-times}
 use Rattle.header.proofs.contains.Statement.{statement}
 use Rattle.header.proofs.contains.Tie as tie
@@ -19,10 +18,10 @@ pub contains-spec : {M : Type 1} → statement M
 contains-spec =
     tie.close
     (tie.spec
-    (λ c. search needs)
-    (λ c. search needs)
-    (λ c. search needs)
+    (λ c. omega arith)
+    (λ c. omega arith)
+    (λ c. omega arith)
     part-count-between-end
-    (λ c. search needs)
-    (λ c. search needs)
+    (λ c. omega arith)
+    (λ c. omega arith)
     returns)

@@ -1,6 +1,5 @@
 -- `header::first` meets its contract. Assumes nothing.
 use native.Mathlib.Omega.{arith}
-use borrow.Author.Needs.{needs}
 use Rattle.header.proofs.Steps.{header-length, lists-most, first-below, first-above, first-own}
 use Rattle.header.proofs.first.Statement.{statement}
 use Rattle.header.proofs.first.Tie as tie
@@ -59,17 +58,17 @@ pub first-spec : {M : Type 1} → statement M
 first-spec =
     tie.close
     (tie.spec
-    (λ c. search needs)
-    (λ c. search needs)
-    (λ c. search needs)
+    (λ c. omega arith)
+    (λ c. omega arith)
+    (λ c. omega arith)
     part-count-between-end
-    (λ c. search needs)
+    (λ c. omega arith)
     add-slot
     mul-slot
     shared-slice-read-slot
     returns
-    (λ c. search needs)
+    (λ c. omega arith)
     returns-2
-    (λ c. search needs)
-    (λ c. search needs)
+    (λ c. omega arith)
+    (λ c. omega arith)
     returns-3)

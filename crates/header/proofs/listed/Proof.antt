@@ -1,7 +1,6 @@
 -- `header::listed` meets its contract. Assumes nothing.
 use mathlib.Core.Path.{_∙_}
 use native.Mathlib.Omega.{arith}
-use borrow.Author.Needs.{needs}
 use Rattle.header.proofs.Steps.{header-length, lists-most, listed-count}
 use Rattle.header.proofs.listed.Statement.{statement}
 use Rattle.header.proofs.listed.Tie as tie
@@ -19,9 +18,9 @@ pub listed-spec : {M : Type 1} → statement M
 listed-spec =
     tie.close
     (tie.spec
-    (λ c. search needs)
-    (λ c. search needs)
+    (λ c. omega arith)
+    (λ c. omega arith)
     part-count-between-end
-    (λ c. search needs)
+    (λ c. omega arith)
     cast-result
     returns)

@@ -1,6 +1,5 @@
 -- `header::pages` meets its contract. Assumes nothing.
 use native.Mathlib.Omega.{arith}
-use borrow.Author.Needs.{needs}
 use Rattle.header.proofs.Steps.{header-length}
 use Rattle.header.proofs.pages.Statement.{statement}
 use Rattle.header.proofs.pages.Tie as tie
@@ -9,4 +8,4 @@ shared-slice-read-result : tie.Need-shared-slice-read-result
 shared-slice-read-result c = omega (arith, header-length (c .before .pre))
 
 pub pages-spec : {M : Type 1} → statement M
-pages-spec = tie.close (tie.spec shared-slice-read-result (λ c. search needs))
+pages-spec = tie.close (tie.spec shared-slice-read-result (λ c. omega arith))

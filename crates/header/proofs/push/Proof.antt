@@ -1,6 +1,5 @@
 -- `header::push` meets its contract. Assumes nothing.
 use native.Mathlib.Omega.{arith}
-use borrow.Author.Needs.{needs}
 use Rattle.header.proofs.Encoded.{lists-size}
 use Rattle.header.proofs.Steps.{header-length, lists-most, step-push}
 use Rattle.header.proofs.push.Statement.{statement}
@@ -40,16 +39,16 @@ pub push-spec : {M : Type 1} → statement M
 push-spec =
     tie.close
     (tie.spec
-    (λ c. search needs)
-    (λ c. search needs)
+    (λ c. omega arith)
+    (λ c. omega arith)
     part-count-between-end
-    (λ c. search needs)
-    (λ c. search needs)
-    (λ c. search needs)
-    (λ c. search needs)
+    (λ c. omega arith)
+    (λ c. omega arith)
+    (λ c. omega arith)
+    (λ c. omega arith)
     part-shift-in-end
-    (λ c. search needs)
-    (λ c. search needs)
+    (λ c. omega arith)
+    (λ c. omega arith)
     shift-in-requires
-    (λ c. search needs)
+    (λ c. omega arith)
     returns)

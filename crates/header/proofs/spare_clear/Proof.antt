@@ -1,6 +1,5 @@
 -- `header::spare_clear` meets its contract. Assumes nothing.
 use native.Mathlib.Omega.{arith}
-use borrow.Author.Needs.{needs}
 use Rattle.header.proofs.Steps.{header-length, step-spare-clear}
 use Rattle.header.proofs.spare_clear.Statement.{statement}
 use Rattle.header.proofs.spare_clear.Tie as tie
@@ -14,4 +13,4 @@ returns c = step-spare-clear (c .before .before .before .before .before .pre) _ 
 pub spare-clear-spec : {M : Type 1} → statement M
 spare-clear-spec =
     tie.close
-    (tie.spec (λ c. search needs) (λ c. search needs) part-clear-end (λ c. search needs) (λ c. search needs) returns)
+    (tie.spec (λ c. omega arith) (λ c. omega arith) part-clear-end (λ c. omega arith) (λ c. omega arith) returns)

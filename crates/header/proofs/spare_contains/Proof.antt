@@ -2,7 +2,6 @@
 use mathlib.Core.Path.{ap, _∙_}
 use native.Mathlib.Omega.{arith}
 use lib.Dec.{ltb}
-use borrow.Author.Needs.{needs}
 use Rattle.header.proofs.Steps.{header-length, spare-times}
 use Rattle.header.proofs.spare_contains.Statement.{statement}
 use Rattle.header.proofs.spare_contains.Tie as tie
@@ -17,9 +16,9 @@ pub spare-contains-spec : {M : Type 1} → statement M
 spare-contains-spec =
     tie.close
     (tie.spec
-    (λ c. search needs)
-    (λ c. search needs)
+    (λ c. omega arith)
+    (λ c. omega arith)
     part-count-between-end
-    (λ c. search needs)
-    (λ c. search needs)
+    (λ c. omega arith)
+    (λ c. omega arith)
     returns)

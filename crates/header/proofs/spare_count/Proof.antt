@@ -1,7 +1,6 @@
 -- `header::spare_count` meets its contract. Assumes nothing.
 use mathlib.Core.Path.{_∙_}
 use native.Mathlib.Omega.{arith}
-use borrow.Author.Needs.{needs}
 use Rattle.header.proofs.Steps.{header-length, spare-most, spare-length}
 use Rattle.header.proofs.spare_count.Statement.{statement}
 use Rattle.header.proofs.spare_count.Tie as tie
@@ -19,9 +18,9 @@ pub spare-count-spec : {M : Type 1} → statement M
 spare-count-spec =
     tie.close
     (tie.spec
-    (λ c. search needs)
-    (λ c. search needs)
+    (λ c. omega arith)
+    (λ c. omega arith)
     part-count-between-end
-    (λ c. search needs)
+    (λ c. omega arith)
     cast-result
     returns)

@@ -22,12 +22,12 @@ pub spare-pop-spec : {M : Type 1} → statement M
 spare-pop-spec =
     tie.close
     (tie.spec
-    (λ c. search needs)
-    (λ c. search needs)
+    (λ c. omega arith)
+    (λ c. omega arith)
     slice-read-words
     slice-write-words
-    (λ c. search needs)
-    (λ c. search needs)
+    (λ c. omega arith)
+    (λ c. omega arith)
     slice-write-words-2
     (λ c. search needs)
     returns)

@@ -1,6 +1,5 @@
 -- `header::spare_push` meets its contract. Assumes nothing.
 use native.Mathlib.Omega.{arith}
-use borrow.Author.Needs.{needs}
 use Rattle.header.proofs.Steps.{header-length, step-spare-push}
 use Rattle.header.proofs.spare_push.Statement.{statement}
 use Rattle.header.proofs.spare_push.Tie as tie
@@ -15,10 +14,10 @@ pub spare-push-spec : {M : Type 1} → statement M
 spare-push-spec =
     tie.close
     (tie.spec
-    (λ c. search needs)
-    (λ c. search needs)
+    (λ c. omega arith)
+    (λ c. omega arith)
     part-shift-in-end
-    (λ c. search needs)
-    (λ c. search needs)
-    (λ c. search needs)
+    (λ c. omega arith)
+    (λ c. omega arith)
+    (λ c. omega arith)
     returns)

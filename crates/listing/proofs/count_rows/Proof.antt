@@ -2,7 +2,6 @@
 use Rattle.listing.proofs.Walks.{Counting, count-start, count-next, count-few, count-more, count-end}
 use Prim.Native.Nat.{_-_}
 use native.Mathlib.Omega.{arith}
-use borrow.Author.Needs.{needs}
 use Rattle.listing.proofs.count_rows.Statement.{statement}
 use Rattle.listing.proofs.count_rows.Tie as tie
 
@@ -63,7 +62,7 @@ count-rows-spec =
     μ-loop
     loop-holds
     kind-requires
-    (λ c. search needs)
+    (λ c. omega arith)
     add-rows
     size-requires
     add-p

@@ -38,11 +38,11 @@ pub list-into-spec : {M : Type 1} → statement M
 list-into-spec =
     tie.close
     (tie.spec
-    (λ c. search needs)
+    (λ c. omega arith)
     (λ c κs. search needs)
-    (λ c. search needs)
+    (λ c. omega arith)
     returns
     (λ c κs. search needs)
     cast-bytes
-    (λ c. search needs)
+    (λ c. omega arith)
     returns-2)

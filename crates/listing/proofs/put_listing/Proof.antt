@@ -1,9 +1,9 @@
 -- `put_listing` meets its contract: three pieces. Assumes nothing.
+use native.Mathlib.Omega.{arith}
 use Rattle.listing.proofs.Lengths.{listing-bounded}
 use Rattle.listing.proofs.Rows.{left-sections}
 use Rattle.text.proofs.Left.{left-step, left-bounded, left-done}
 use Rattle.model.specs.Ascii.{ascii}
-use borrow.Author.Needs.{needs}
 use Rattle.listing.proofs.put_listing.Statement.{statement}
 use Rattle.listing.proofs.put_listing.Tie as tie
 
@@ -47,11 +47,11 @@ pub put-listing-spec : {M : Type 1} → statement M
 put-listing-spec =
     tie.close
     (tie.spec
-    (λ c. search needs)
+    (λ c. omega arith)
     put-section-requires
-    (λ c. search needs)
+    (λ c. omega arith)
     put-section-requires-2
-    (λ c. search needs)
+    (λ c. omega arith)
     put-section-requires-3
-    (λ c. search needs)
+    (λ c. omega arith)
     returns)

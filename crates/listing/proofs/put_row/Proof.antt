@@ -1,4 +1,5 @@
 -- `put_row` meets its contract: by the kind, what is told of the segment at the page is its row. Assumes nothing.
+use native.Mathlib.Omega.{arith}
 use Rattle.listing.proofs.Here.{text-none, text-zone, text-run, text-direct, bounded-as, wrote-nothing}
 use Rattle.text.proofs.Left.{wrote-as}
 use Rattle.pages.proofs.Inverse.{stands-zone, stands-direct}
@@ -112,16 +113,16 @@ put-row-spec =
     returns
     zone-part-requires
     put-zone-requires
-    (λ c. search needs)
+    (λ c. omega arith)
     returns-2
     (λ c κs. search needs)
-    (λ c. search needs)
+    (λ c. omega arith)
     put-line-requires
-    (λ c. search needs)
+    (λ c. omega arith)
     returns-3
     group-requires
-    (λ c. search needs)
-    (λ c. search needs)
+    (λ c. omega arith)
+    (λ c. omega arith)
     put-line-requires-2
-    (λ c. search needs)
+    (λ c. omega arith)
     returns-4)

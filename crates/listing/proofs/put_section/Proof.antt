@@ -1,4 +1,5 @@
 -- `put_section` meets its contract: two pieces. Assumes nothing.
+use native.Mathlib.Omega.{arith}
 use Rattle.listing.specs.Rows.{rowsOf}
 use Rattle.pages.specs.Decoding.{segmentsOf}
 use Rattle.listing.proofs.Rows.{left-section}
@@ -34,4 +35,4 @@ returns c =
 
 pub put-section-spec : {M : Type 1} → statement M
 put-section-spec =
-    tie.close (tie.spec (λ c κs. search needs) put-named-requires put-rows-requires (λ c. search needs) returns)
+    tie.close (tie.spec (λ c κs. search needs) put-named-requires put-rows-requires (λ c. omega arith) returns)

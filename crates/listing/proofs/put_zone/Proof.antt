@@ -1,4 +1,5 @@
 -- `put_zone` meets its contract. Assumes nothing.
+use native.Mathlib.Omega.{arith}
 use Rattle.listing.proofs.Here.{bounded-as}
 use Rattle.text.proofs.Left.{wrote-as}
 use Rattle.model.specs.Text.{line}
@@ -39,9 +40,9 @@ put-zone-spec =
     tie.close
     (tie.spec
     (λ c κs. search needs)
-    (λ c. search needs)
+    (λ c. omega arith)
     (λ c κs. search needs)
-    (λ c. search needs)
+    (λ c. omega arith)
     put-line-requires
-    (λ c. search needs)
+    (λ c. omega arith)
     returns)

@@ -1,6 +1,6 @@
 -- `nostrimel_check` meets its contract. Assumes nothing.
+use native.Mathlib.Omega.{arith}
 use mathlib.Core.Path.{sym, _∙_}
-use borrow.Author.Needs.{needs}
 use Rattle.measure.proofs.nostrimel_check.Statement.{statement}
 use Rattle.measure.proofs.nostrimel_check.Tie as tie
 
@@ -11,4 +11,4 @@ returns-2 : tie.Need-returns-2
 returns-2 c = rw (sym (c .before .check .ensures) ∙ c .if1 .left)
 
 pub nostrimel-check-spec : {M : Type 1} → statement M
-nostrimel-check-spec = tie.close (tie.spec (λ c. search needs) returns returns-2)
+nostrimel-check-spec = tie.close (tie.spec (λ c. omega arith) returns returns-2)

@@ -9,7 +9,6 @@ use native.Mathlib.Omega.{arith}
 use mathlib.Core.Path.{sym, _∙_}
 use Prim.Native.Nat.{_≤_}
 use borrow.Author.Tests.{not-true, not-false}
-use borrow.Author.Needs.{needs}
 use Rattle.metadata.proofs.check.Statement.{statement}
 use Rattle.metadata.proofs.check.Tie as tie
 
@@ -101,21 +100,21 @@ check-spec =
     (tie.spec
     returns
     slice-aggregate-check
-    (λ c. search needs)
+    (λ c. omega arith)
     returns-2
     slice-aggregate-pages
     pages-requires
-    (λ c. search needs)
+    (λ c. omega arith)
     words-for-requires
     returns-3
-    (λ c. search needs)
-    (λ c. search needs)
-    (λ c. search needs)
+    (λ c. omega arith)
+    (λ c. omega arith)
+    (λ c. omega arith)
     check-requires-2
     returns-4
     slice-aggregate-lists-fit
-    (λ c. search needs)
-    (λ c. search needs)
-    (λ c. search needs)
+    (λ c. omega arith)
+    (λ c. omega arith)
+    (λ c. omega arith)
     lists-fit-requires
     returns-5)

@@ -109,7 +109,7 @@ lists-fit-spec =
     μ-loop
     (λ c κs. search needs)
     (λ c κs. search needs)
-    (λ c. search needs)
+    (λ c. omega arith)
     loop-holds
     fits-at-requires
     returns

@@ -4,7 +4,6 @@ use Rattle.metadata.proofs.States.{state-read, state-pages}
 use lib.Seq.{length-take-le}
 use native.Mathlib.Omega.{arith}
 use mathlib.Core.Path.{sym, _∙_}
-use borrow.Author.Needs.{needs}
 use Rattle.metadata.proofs.pages.Statement.{statement}
 use Rattle.metadata.proofs.pages.Tie as tie
 
@@ -18,4 +17,4 @@ returns : tie.Need-returns
 returns c = c .pages .ensures ∙ sym (state-pages _ (c .before .before .before .pre))
 
 pub pages-spec : {M : Type 1} → statement M
-pages-spec = tie.close (tie.spec slice-aggregate-pages pages-requires (λ c. search needs) returns)
+pages-spec = tie.close (tie.spec slice-aggregate-pages pages-requires (λ c. omega arith) returns)

@@ -1,4 +1,5 @@
 -- `reset` meets its contract. Assumes nothing.
+use native.Mathlib.Omega.{arith}
 use mathlib.Core.Path.{sym, _∙_, ap}
 use Rattle.metadata.specs.Decoding.{decode}
 use Rattle.model.specs.declared.Answer.the-variants.{Counted}
@@ -6,7 +7,6 @@ use Rattle.model.proofs.Allocated.{group-least}
 use borrow.Author.Tests.{not-true, not-false}
 use Rattle.steps.proofs.Outcomes.{by-rule}
 use Rattle.reset.proofs.Answers.{reset-bad, reset-done}
-use borrow.Author.Needs.{needs}
 use Rattle.reset.proofs.reset.Statement.{statement}
 use Rattle.reset.proofs.reset.Tie as tie
 
@@ -35,4 +35,4 @@ returns-2 c =
     (ap Counted (d .0) ∙ ap (λ y. y .answer) (sym e), by-rule _ _ _ e (d .1) .1)
 
 pub reset-spec : {M : Type 1} → statement M
-reset-spec = tie.close (tie.spec (λ c. search needs) returns sweep-requires (λ c. search needs) returns-2)
+reset-spec = tie.close (tie.spec (λ c. omega arith) returns sweep-requires (λ c. omega arith) returns-2)

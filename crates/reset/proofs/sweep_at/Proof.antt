@@ -110,15 +110,15 @@ sweep-at-spec =
     (tie.spec
     kind-at-requires
     sweep-zone-requires
-    (λ c. search needs)
+    (λ c. omega arith)
     returns
     size-at-requires
     add-next
-    (λ c. search needs)
+    (λ c. omega arith)
     returns-2
     group-at-requires
     sweep-direct-requires
+    (λ c. omega arith)
     (λ c. search needs)
-    (λ c. search needs)
-    (λ c. search needs)
+    (λ c. omega arith)
     returns-4)

@@ -1,4 +1,5 @@
 -- `sweep_direct` meets its contract. Assumes nothing.
+use native.Mathlib.Omega.{arith}
 use Rattle.reset.proofs.Steps.{direct-good, direct-low, direct-run, direct-gone}
 use borrow.Author.Needs.{needs}
 use Rattle.reset.proofs.sweep_direct.Statement.{statement}
@@ -28,4 +29,4 @@ returns c =
 
 pub sweep-direct-spec : {M : Type 1} → statement M
 sweep-direct-spec =
-    tie.close (tie.spec (λ c κs. search needs) sub-behind-run behind-run-requires (λ c. search needs) returns)
+    tie.close (tie.spec (λ c κs. search needs) sub-behind-run behind-run-requires (λ c. omega arith) returns)

@@ -5,7 +5,6 @@ use Rattle.reset.proofs.Steps.{walk-live, walk-stays, walk-low, walk-go
 use native.Mathlib.Omega.{arith}
 use Prim.Native.Nat.{_-_}
 use borrow.Author.Tests.{not-true, not-false}
-use borrow.Author.Needs.{needs}
 use Rattle.reset.proofs.sweep_zone.Statement.{statement}
 use Rattle.reset.proofs.sweep_zone.Tie as tie
 
@@ -177,8 +176,8 @@ sweep-zone-spec =
     behind-run-requires
     same-length
     returns
-    (λ c. search needs)
-    (λ c. search needs)
+    (λ c. omega arith)
+    (λ c. omega arith)
     loop-again-2
     add-next
     same-length-2

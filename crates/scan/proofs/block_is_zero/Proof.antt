@@ -4,7 +4,6 @@ use mathlib.Core.Path.{_≡_, sym}
 use native.Mathlib.Omega.{arith}
 use lib.Dec.{eqb}
 use lib.ListN.{length, take}
-use borrow.Author.Needs.{needs}
 use Rattle.lemmas.specs.Every.{every}
 use Rattle.lemmas.specs.Zeros.{isZero}
 use Rattle.lemmas.proofs.Bits.{or-more}
@@ -36,9 +35,9 @@ block-is-zero-spec =
     Inv-loop
     μ-loop
     loop-holds
-    (λ c. search needs)
-    (λ c. search needs)
-    (λ c. search needs)
-    (λ c. search needs)
+    (λ c. omega arith)
+    (λ c. omega arith)
+    (λ c. omega arith)
+    (λ c. omega arith)
     loop-again
     returns)

@@ -4,7 +4,6 @@ use mathlib.Core.List.{_++_}
 use mathlib.Core.Path.{_≡_, refl}
 use native.Mathlib.Omega.{arith}
 use lib.ListN.{length, drop, length-set}
-use borrow.Author.Needs.{needs}
 use Rattle.lemmas.specs.Zeros.{zeros}
 use Rattle.scan.proofs.Clearing.{clear-none, clear-more, clear-done}
 use Rattle.scan.proofs.clear.Statement.{statement}
@@ -35,10 +34,10 @@ clear-spec =
     Inv-loop
     μ-loop
     loop-holds
-    (λ c. search needs)
-    (λ c. search needs)
-    (λ c. search needs)
-    (λ c. search needs)
+    (λ c. omega arith)
+    (λ c. omega arith)
+    (λ c. omega arith)
+    (λ c. omega arith)
     loop-again
     same-length
     returns)

@@ -1,10 +1,10 @@
 -- `arena_pages` meets its contract. Assumes nothing.
+use native.Mathlib.Omega.{arith}
 use mathlib.Core.Path.{_≡_, sym, _∙_}
 use mathlib.Core.Bool.{true, false}
 use borrow.Author.Tests.{not-true, not-false}
 use Rattle.metadata.specs.Decoding.{isState}
 use Rattle.slab.proofs.Acting.{never-true, never-false, pages-none, pages-some}
-use borrow.Author.Needs.{needs}
 use Rattle.slab.proofs.arena_pages.Statement.{statement}
 use Rattle.slab.proofs.arena_pages.Tie as tie
 
@@ -34,4 +34,4 @@ returns-2 c =
     pages-some _ passes _ (c .pages .ensures)
 
 pub arena-pages-spec : {M : Type 1} → statement M
-arena-pages-spec = tie.close (tie.spec (λ c. search needs) returns pages-requires returns-2)
+arena-pages-spec = tie.close (tie.spec (λ c. omega arith) returns pages-requires returns-2)

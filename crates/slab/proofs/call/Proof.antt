@@ -1,6 +1,6 @@
 -- `call` meets its contract. Assumes nothing.
+use native.Mathlib.Omega.{arith}
 use Rattle.slab.proofs.Acting.{refused-answer, refused-words, arena-of, same-call}
-use borrow.Author.Needs.{needs}
 use Rattle.slab.proofs.call.Statement.{statement}
 use Rattle.slab.proofs.call.Tie as tie
 
@@ -63,18 +63,18 @@ pub call-spec : {M : Type 1} → statement M
 call-spec =
     tie.close
     (tie.spec
-    (λ c. search needs)
-    (λ c. search needs)
+    (λ c. omega arith)
+    (λ c. omega arith)
     returns
-    (λ c. search needs)
+    (λ c. omega arith)
     allocate-in-requires
-    (λ c. search needs)
+    (λ c. omega arith)
     free-in-requires
-    (λ c. search needs)
+    (λ c. omega arith)
     reset-in-requires
-    (λ c. search needs)
+    (λ c. omega arith)
     returns-2
-    (λ c. search needs)
+    (λ c. omega arith)
     returns-3
-    (λ c. search needs)
+    (λ c. omega arith)
     returns-4)

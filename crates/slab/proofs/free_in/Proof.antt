@@ -1,6 +1,6 @@
 -- `free_in` meets its contract. Assumes nothing.
+use native.Mathlib.Omega.{arith}
 use Rattle.slab.proofs.Acting.{arena-few, arena-inside, arena-part, arena-good, arena-served}
-use borrow.Author.Needs.{needs}
 use Rattle.slab.proofs.free_in.Statement.{statement}
 use Rattle.slab.proofs.free_in.Tie as tie
 
@@ -34,5 +34,5 @@ free-in-spec =
     slice-relend-prefix-free
     slice-aggregate-free
     free-requires
-    (λ c. search needs)
+    (λ c. omega arith)
     returns)

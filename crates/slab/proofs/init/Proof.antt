@@ -3,7 +3,6 @@ use Rattle.slab.proofs.Fresh.{set-up-done, no-pages, many-pages, few-wo
 use lib.Seq.{length-take-le}
 use mathlib.Core.Path.{sym, _∙_}
 use native.Mathlib.Omega.{arith}
-use borrow.Author.Needs.{needs}
 use Rattle.slab.proofs.init.Statement.{statement}
 use Rattle.slab.proofs.init.Tie as tie
 
@@ -57,10 +56,10 @@ init-spec =
     (tie.spec
     returns
     returns-2
-    (λ c. search needs)
+    (λ c. omega arith)
     returns-3
-    (λ c. search needs)
+    (λ c. omega arith)
     slice-aggregate-set-up
     set-up-requires
-    (λ c. search needs)
+    (λ c. omega arith)
     returns-4)

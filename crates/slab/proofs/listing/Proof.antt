@@ -1,8 +1,8 @@
 -- `listing` meets its contract. Assumes nothing.
+use native.Mathlib.Omega.{arith}
 use mathlib.Core.List.{List}
 use mathlib.Core.Path.{sym}
 use Prim.Native.Nat.{ℕ}
-use borrow.Author.Needs.{needs}
 use Rattle.slab.specs.Arena.{Arena}
 use Rattle.slab.proofs.Words.{listing-same}
 use Rattle.slab.proofs.Acting.{refused-answer, refused-words, refused-text, arena-of, arena-few, arena-inside, arena-holds, arena-listing, arena-text}
@@ -46,14 +46,14 @@ pub listing-spec : {M : Type 1} → statement M
 listing-spec =
     tie.close
     (tie.spec
-    (λ c. search needs)
-    (λ c. search needs)
+    (λ c. omega arith)
+    (λ c. omega arith)
     returns
     words-for-requires
-    (λ c. search needs)
-    (λ c. search needs)
+    (λ c. omega arith)
+    (λ c. omega arith)
     part-list-into-end
     list-into-requires
-    (λ c. search needs)
-    (λ c. search needs)
+    (λ c. omega arith)
+    (λ c. omega arith)
     returns-2)

@@ -1,6 +1,6 @@
 -- `query` meets its contract. Assumes nothing.
+use native.Mathlib.Omega.{arith}
 use mathlib.Core.Path.{sym}
-use borrow.Author.Needs.{needs}
 use Rattle.slab.specs.Arena.{Arena}
 use Rattle.slab.proofs.Words.{query-same}
 use Rattle.slab.proofs.Acting.{refused-answer, refused-words, arena-of, arena-few, arena-inside, arena-part, arena-good, arena-answer}
@@ -33,12 +33,12 @@ pub query-spec : {M : Type 1} → statement M
 query-spec =
     tie.close
     (tie.spec
-    (λ c. search needs)
-    (λ c. search needs)
+    (λ c. omega arith)
+    (λ c. omega arith)
     returns
     words-for-requires
     slice-reshare-prefix-describe
     slice-aggregate-describe
     describe-requires
-    (λ c. search needs)
+    (λ c. omega arith)
     returns-2)

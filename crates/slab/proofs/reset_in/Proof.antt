@@ -1,6 +1,6 @@
 -- `reset_in` meets its contract. Assumes nothing.
+use native.Mathlib.Omega.{arith}
 use Rattle.slab.proofs.Acting.{arena-few, arena-inside, arena-part, arena-good, arena-served}
-use borrow.Author.Needs.{needs}
 use Rattle.slab.proofs.reset_in.Statement.{statement}
 use Rattle.slab.proofs.reset_in.Tie as tie
 
@@ -34,5 +34,5 @@ reset-in-spec =
     slice-relend-prefix-reset
     slice-aggregate-reset
     reset-requires
-    (λ c. search needs)
+    (λ c. omega arith)
     returns)

@@ -1,8 +1,8 @@
 -- `trim` meets its contract. Assumes nothing.
+use native.Mathlib.Omega.{arith}
 use Rattle.slab.proofs.Acting.{refused-answer, refused-words, arena-of, arena-few, arena-inside, arena-part, arena-good, arena-served}
 use Rattle.model.specs.declared.Answer.the-variants.{Counted}
 use mathlib.Core.Path.{ap}
-use borrow.Author.Needs.{needs}
 use Rattle.slab.proofs.trim.Statement.{statement}
 use Rattle.slab.proofs.trim.Tie as tie
 
@@ -42,12 +42,12 @@ pub trim-spec : {M : Type 1} → statement M
 trim-spec =
     tie.close
     (tie.spec
-    (λ c. search needs)
-    (λ c. search needs)
+    (λ c. omega arith)
+    (λ c. omega arith)
     returns
     words-for-requires
     slice-relend-prefix-trim-all
     slice-aggregate-trim-all
     trim-all-requires
-    (λ c. search needs)
+    (λ c. omega arith)
     returns-2)

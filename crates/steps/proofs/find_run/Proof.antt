@@ -1,9 +1,9 @@
 -- `find_run` meets its contract. Assumes nothing.
+use native.Mathlib.Omega.{arith}
 use mathlib.Core.Path.{_≡_}
 use Rattle.steps.proofs.Body.{has-header, body-holds, of-body}
 use Rattle.pages.specs.Places.{found}
 use Rattle.model.specs.Pages.{claim}
-use borrow.Author.Needs.{needs}
 use Rattle.steps.proofs.find_run.Statement.{statement}
 use Rattle.steps.proofs.find_run.Tie as tie
 
@@ -22,4 +22,4 @@ returns c = let s = c .before .before .before in of-body (s .pre .0) (λ m. c .f
 pub find-run-spec : {M : Type 1} → statement M
 find-run-spec =
     tie.close
-    (tie.spec sub-find-run part-find-run-start (λ c. search needs) find-run-requires returns)
+    (tie.spec sub-find-run part-find-run-start (λ c. omega arith) find-run-requires returns)

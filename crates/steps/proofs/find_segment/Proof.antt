@@ -1,8 +1,8 @@
 -- `find_segment` meets its contract. Assumes nothing.
+use native.Mathlib.Omega.{arith}
 use mathlib.Core.Path.{_≡_}
 use Rattle.steps.proofs.Body.{has-header, body-holds, of-body}
 use Rattle.pages.specs.Places.{spotFrom}
-use borrow.Author.Needs.{needs}
 use Rattle.steps.proofs.find_segment.Statement.{statement}
 use Rattle.steps.proofs.find_segment.Tie as tie
 
@@ -21,4 +21,4 @@ returns c = let s = c .before .before .before in of-body (s .pre .0) (λ m. c .f
 pub find-segment-spec : {M : Type 1} → statement M
 find-segment-spec =
     tie.close
-    (tie.spec sub-find-segment part-find-segment-start (λ c. search needs) find-segment-requires returns)
+    (tie.spec sub-find-segment part-find-segment-start (λ c. omega arith) find-segment-requires returns)

@@ -1,4 +1,5 @@
 -- `give_back` meets its contract. Assumes nothing.
+use native.Mathlib.Omega.{arith}
 use Rattle.steps.proofs.Body.{has-pages, has-header, body-holds, in-body, body-back, release-total}
 use mathlib.Core.Bool.{false}
 use mathlib.Core.Path.{_≡_}
@@ -9,7 +10,6 @@ use Rattle.model.specs.Valid.{Apart}
 use Rattle.model.specs.Pages.{release}
 use Rattle.model.specs.Zone.{Zone}
 use Rattle.model.specs.Arena.{Segment, pages}
-use borrow.Author.Needs.{needs}
 use Rattle.steps.proofs.give_back.Statement.{statement}
 use Rattle.steps.proofs.give_back.Tie as tie
 
@@ -38,7 +38,7 @@ give-back-spec =
     (tie.spec
     sub-give-back
     part-give-back-start
-    (λ c. search needs)
+    (λ c. omega arith)
     give-back-requires
-    (λ c. search needs)
+    (λ c. omega arith)
     returns)

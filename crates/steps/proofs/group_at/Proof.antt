@@ -1,9 +1,9 @@
 -- `group_at` meets its contract. Assumes nothing.
+use native.Mathlib.Omega.{arith}
 use Rattle.steps.proofs.Body.{has-header, body-holds, in-body}
 use Rattle.pages.specs.Places.{Stands}
 use Rattle.model.specs.Arena.{direct}
 use Prim.Native.Nat.{ℕ}
-use borrow.Author.Needs.{needs}
 use Rattle.steps.proofs.group_at.Statement.{statement}
 use Rattle.steps.proofs.group_at.Tie as tie
 
@@ -20,4 +20,4 @@ returns : tie.Need-returns
 returns c = λ b k g s. c .group .ensures b k g (in-body (c .before .before .before .pre .0 .0) (λ m. Stands m (c .before .before .before .args .p) b (direct k g)) s)
 
 pub group-at-spec : {M : Type 1} → statement M
-group-at-spec = tie.close (tie.spec sub-group part-group-start (λ c. search needs) group-requires returns)
+group-at-spec = tie.close (tie.spec sub-group part-group-start (λ c. omega arith) group-requires returns)

@@ -1,9 +1,9 @@
 -- `list_front` meets its contract. Assumes nothing.
+use native.Mathlib.Omega.{arith}
 use Rattle.metadata.specs.Decoding.{decode}
 use mathlib.Core.Path.{refl}
 use Rattle.steps.proofs.Body.{has-header, header-long}
 use Rattle.steps.proofs.Lent.{header-lent, header-put}
-use borrow.Author.Needs.{needs}
 use Rattle.steps.proofs.list_front.Statement.{statement}
 use Rattle.steps.proofs.list_front.Tie as tie
 
@@ -24,4 +24,4 @@ returns c = header-put (c .before .before .before .before .before .pre .0) _ _ _
 pub list-front-spec : {M : Type 1} → statement M
 list-front-spec =
     tie.close
-    (tie.spec slice-relend-prefix-push slice-aggregate-push push-requires (λ c. search needs) returns)
+    (tie.spec slice-relend-prefix-push slice-aggregate-push push-requires (λ c. omega arith) returns)

@@ -1,9 +1,9 @@
 -- `list_without` meets its contract. Assumes nothing.
+use native.Mathlib.Omega.{arith}
 use Rattle.metadata.specs.Decoding.{decode}
 use mathlib.Core.Path.{refl}
 use Rattle.steps.proofs.Body.{has-header, header-long}
 use Rattle.steps.proofs.Lent.{header-lent, header-put}
-use borrow.Author.Needs.{needs}
 use Rattle.steps.proofs.list_without.Statement.{statement}
 use Rattle.steps.proofs.list_without.Tie as tie
 
@@ -28,5 +28,5 @@ list-without-spec =
     slice-relend-prefix-remove
     slice-aggregate-remove
     remove-requires
-    (λ c. search needs)
+    (λ c. omega arith)
     returns)

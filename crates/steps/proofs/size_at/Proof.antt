@@ -1,10 +1,10 @@
 -- `size_at` meets its contract. Assumes nothing.
+use native.Mathlib.Omega.{arith}
 use Rattle.steps.proofs.Body.{has-header, body-holds, in-body}
 use Rattle.pages.specs.Places.{Stands}
 use Rattle.model.specs.Zone.{Zone}
 use Rattle.model.specs.Arena.{Segment}
 use Prim.Native.Nat.{ℕ}
-use borrow.Author.Needs.{needs}
 use Rattle.steps.proofs.size_at.Statement.{statement}
 use Rattle.steps.proofs.size_at.Tie as tie
 
@@ -21,4 +21,4 @@ returns : tie.Need-returns
 returns c = λ b x s. c .size .ensures b x (in-body (c .before .before .before .pre .0 .0) (λ m. Stands m (c .before .before .before .args .p) b x) s)
 
 pub size-at-spec : {M : Type 1} → statement M
-size-at-spec = tie.close (tie.spec sub-size part-size-start (λ c. search needs) size-requires returns)
+size-at-spec = tie.close (tie.spec sub-size part-size-start (λ c. omega arith) size-requires returns)

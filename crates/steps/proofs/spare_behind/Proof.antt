@@ -1,9 +1,9 @@
 -- `spare_behind` meets its contract. Assumes nothing.
+use native.Mathlib.Omega.{arith}
 use Rattle.metadata.specs.Decoding.{decode}
 use mathlib.Core.Path.{refl}
 use Rattle.steps.proofs.Body.{has-header, header-long}
 use Rattle.steps.proofs.Lent.{header-lent, header-put}
-use borrow.Author.Needs.{needs}
 use Rattle.steps.proofs.spare_behind.Statement.{statement}
 use Rattle.steps.proofs.spare_behind.Tie as tie
 
@@ -28,5 +28,5 @@ spare-behind-spec =
     slice-relend-prefix-spare-pop
     slice-aggregate-spare-pop
     spare-pop-requires
-    (λ c. search needs)
+    (λ c. omega arith)
     returns)

@@ -1,9 +1,9 @@
 -- `spare_front` meets its contract. Assumes nothing.
+use native.Mathlib.Omega.{arith}
 use Rattle.metadata.specs.Decoding.{decode}
 use mathlib.Core.Path.{refl}
 use Rattle.steps.proofs.Body.{has-header, header-long}
 use Rattle.steps.proofs.Lent.{header-lent, header-put}
-use borrow.Author.Needs.{needs}
 use Rattle.steps.proofs.spare_front.Statement.{statement}
 use Rattle.steps.proofs.spare_front.Tie as tie
 
@@ -28,5 +28,5 @@ spare-front-spec =
     slice-relend-prefix-spare-push
     slice-aggregate-spare-push
     spare-push-requires
-    (λ c. search needs)
+    (λ c. omega arith)
     returns)

@@ -1,9 +1,9 @@
 -- `spare_none` meets its contract. Assumes nothing.
+use native.Mathlib.Omega.{arith}
 use Rattle.metadata.specs.Decoding.{decode}
 use mathlib.Core.Path.{refl}
 use Rattle.steps.proofs.Body.{has-header, header-long}
 use Rattle.steps.proofs.Lent.{header-lent, header-put}
-use borrow.Author.Needs.{needs}
 use Rattle.steps.proofs.spare_none.Statement.{statement}
 use Rattle.steps.proofs.spare_none.Tie as tie
 
@@ -28,5 +28,5 @@ spare-none-spec =
     slice-relend-prefix-spare-clear
     slice-aggregate-spare-clear
     spare-clear-requires
-    (λ c. search needs)
+    (λ c. omega arith)
     returns)

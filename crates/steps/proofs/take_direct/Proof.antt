@@ -1,11 +1,11 @@
 -- `take_direct` meets its contract. Assumes nothing.
+use native.Mathlib.Omega.{arith}
 use mathlib.Core.Path.{refl}
 use Prim.Native.Nat.{ℕ, _<_, _≤_}
 use Rattle.pages.specs.Places.{Stands}
 use Rattle.model.specs.Pages.{carve}
 use Rattle.model.specs.Arena.{run, direct}
 use Rattle.steps.proofs.Body.{has-header, body-holds, in-body, body-back, carve-total}
-use borrow.Author.Needs.{needs}
 use Rattle.steps.proofs.take_direct.Statement.{statement}
 use Rattle.steps.proofs.take_direct.Tie as tie
 
@@ -33,7 +33,7 @@ take-direct-spec =
     (tie.spec
     sub-take-direct
     part-take-direct-start
-    (λ c. search needs)
+    (λ c. omega arith)
     take-direct-requires
-    (λ c. search needs)
+    (λ c. omega arith)
     returns)

@@ -8,7 +8,6 @@ use Rattle.model.specs.Pages.{carve}
 use Rattle.model.specs.Zone.{newZone}
 use Rattle.model.specs.Arena.{run, zone}
 use Rattle.steps.proofs.Body.{has-header, body-holds, in-body, body-back, carve-total}
-use borrow.Author.Needs.{needs}
 use Rattle.steps.proofs.take_zone.Statement.{statement}
 use Rattle.steps.proofs.take_zone.Tie as tie
 
@@ -36,7 +35,7 @@ take-zone-spec =
     (tie.spec
     sub-take-zone
     part-take-zone-start
-    (λ c. search needs)
+    (λ c. omega arith)
     take-zone-requires
-    (λ c. search needs)
+    (λ c. omega arith)
     returns)

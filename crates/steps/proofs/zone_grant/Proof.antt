@@ -3,7 +3,6 @@ use native.Mathlib.Omega.{arith}
 use mathlib.Core.Path.{_∙_, ap}
 use Rattle.model.specs.Zone.{full, nextChunk, granted}
 use Rattle.steps.proofs.ZonePart.{part-page, part-end, part-zone, part-is, part-put}
-use borrow.Author.Needs.{needs}
 use Rattle.steps.proofs.zone_grant.Statement.{statement}
 use Rattle.steps.proofs.zone_grant.Tie as tie
 
@@ -45,9 +44,9 @@ zone-grant-spec =
     words-for-requires
     add-e
     mul-grant
-    (λ c. search needs)
-    (λ c. search needs)
+    (λ c. omega arith)
+    (λ c. omega arith)
     part-grant-end
     grant-requires
-    (λ c. search needs)
+    (λ c. omega arith)
     returns)

@@ -1,7 +1,6 @@
 -- `zone_part` meets its contract. Assumes nothing.
 use native.Mathlib.Omega.{arith}
 use Rattle.steps.proofs.ZonePart.{part-page, part-end, part-zone, part-is}
-use borrow.Author.Needs.{needs}
 use Rattle.steps.proofs.zone_part.Statement.{statement}
 use Rattle.steps.proofs.zone_part.Tie as tie
 
@@ -30,7 +29,7 @@ zone-part-spec =
     words-for-requires
     add-e
     mul-result
-    (λ c. search needs)
-    (λ c. search needs)
+    (λ c. omega arith)
+    (λ c. omega arith)
     part-result-end
     returns)

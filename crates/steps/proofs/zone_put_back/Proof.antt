@@ -5,7 +5,6 @@ use mathlib.Core.Path.{sym, subst}
 use lib.ListN.{getD}
 use Rattle.model.specs.Zone.{putBack}
 use Rattle.steps.proofs.ZonePart.{part-page, part-end, part-zone, part-is, part-put}
-use borrow.Author.Needs.{needs}
 use Rattle.steps.proofs.zone_put_back.Statement.{statement}
 use Rattle.steps.proofs.zone_put_back.Tie as tie
 
@@ -44,9 +43,9 @@ zone-put-back-spec =
     words-for-requires
     add-e
     mul-put-back
-    (λ c. search needs)
-    (λ c. search needs)
+    (λ c. omega arith)
+    (λ c. omega arith)
     part-put-back-end
     put-back-requires
-    (λ c. search needs)
+    (λ c. omega arith)
     returns)

@@ -2,7 +2,6 @@
 use native.Mathlib.Omega.{arith}
 use Rattle.model.specs.Zone.{newZone}
 use Rattle.steps.proofs.ZonePart.{part-page, part-end, part-put}
-use borrow.Author.Needs.{needs}
 use Rattle.steps.proofs.zone_renew.Statement.{statement}
 use Rattle.steps.proofs.zone_renew.Tie as tie
 
@@ -35,9 +34,9 @@ zone-renew-spec =
     words-for-requires
     add-e
     mul-set-up
-    (λ c. search needs)
-    (λ c. search needs)
+    (λ c. omega arith)
+    (λ c. omega arith)
     part-set-up-end
-    (λ c. search needs)
-    (λ c. search needs)
+    (λ c. omega arith)
+    (λ c. omega arith)
     returns)

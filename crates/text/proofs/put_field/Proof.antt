@@ -1,5 +1,5 @@
 -- `text::put_field` meets its contract: two pieces. Assumes nothing.
-use borrow.Author.Needs.{needs}
+use native.Mathlib.Omega.{arith}
 use Rattle.text.proofs.Lines.{left-field}
 use Rattle.text.proofs.Left.{left-step, left-bounded, left-done}
 use Rattle.text.proofs.put_field.Statement.{statement}
@@ -15,4 +15,4 @@ returns : tie.Need-returns
 returns c = left-done (left-step (left-step (left-field _ _) (c .before .before .before .before .before .before .put-number .ensures)) (c .before .before .put-byte .ensures))
 
 pub put-field-spec : {M : Type 1} → statement M
-put-field-spec = tie.close (tie.spec put-number-requires put-byte-requires (λ c. search needs) returns)
+put-field-spec = tie.close (tie.spec put-number-requires put-byte-requires (λ c. omega arith) returns)

@@ -5,7 +5,6 @@ use mathlib.Core.List.{[], _∷_}
 use mathlib.Core.Path.{_≡_, refl, sym, ap, _∙_}
 use native.Mathlib.Omega.{arith}
 use lib.ListN.{length, drop}
-use borrow.Author.Needs.{needs}
 use Rattle.model.specs.Text.{line}
 use Rattle.text.proofs.Lines.{fields, line-none, left-line, left-number, left-end}
 use Rattle.text.proofs.Left.{Left, left-step, left-bounded, left-done, wrote-as}
@@ -70,15 +69,15 @@ put-line-spec =
     Inv-loop
     μ-loop
     put-byte-requires
-    (λ c. search needs)
+    (λ c. omega arith)
     returns
     loop-holds
-    (λ c. search needs)
-    (λ c. search needs)
-    (λ c. search needs)
-    (λ c. search needs)
+    (λ c. omega arith)
+    (λ c. omega arith)
+    (λ c. omega arith)
+    (λ c. omega arith)
     put-field-requires
-    (λ c. search needs)
+    (λ c. omega arith)
     loop-less
     loop-again
     same-length-2

@@ -1,5 +1,5 @@
 -- `text::put_named` meets its contract: three pieces. Assumes nothing.
-use borrow.Author.Needs.{needs}
+use native.Mathlib.Omega.{arith}
 use Rattle.text.proofs.Lines.{left-named}
 use Rattle.text.proofs.Left.{left-step, left-bounded, left-done}
 use Rattle.text.proofs.put_named.Statement.{statement}
@@ -39,4 +39,4 @@ returns c =
 pub put-named-spec : {M : Type 1} → statement M
 put-named-spec =
     tie.close
-    (tie.spec put-bytes-requires put-byte-requires put-field-requires (λ c. search needs) returns)
+    (tie.spec put-bytes-requires put-byte-requires put-field-requires (λ c. omega arith) returns)

@@ -5,7 +5,6 @@ use mathlib.Core.Path.{_≡_, sym, _∙_}
 use native.Mathlib.Omega.{arith}
 use lib.ListN.{length, drop, getD}
 use borrow.Author.Tests.{not-true, not-false}
-use borrow.Author.Needs.{needs}
 use Rattle.text.specs.Numbers.{largest, numberAt}
 use Rattle.text.proofs.Scan.{numberOn, none-past, none-other, begins, on-end, on-stop, on-zero, on-large, on-more}
 use Rattle.text.proofs.Decimal.{digit-range}
@@ -108,24 +107,24 @@ read-number-spec =
     Inv-loop
     μ-loop
     returns
-    (λ c. search needs)
-    (λ c. search needs)
+    (λ c. omega arith)
+    (λ c. omega arith)
     returns-2
     sub-value
-    (λ c. search needs)
-    (λ c. search needs)
+    (λ c. omega arith)
+    (λ c. omega arith)
     loop-holds
-    (λ c. search needs)
-    (λ c. search needs)
+    (λ c. omega arith)
+    (λ c. omega arith)
     cast-t17
     returns-3
     returns-4
     mul-v
     sub-value-2
-    (λ c. search needs)
+    (λ c. omega arith)
     add-v
     returns-5
-    (λ c. search needs)
+    (λ c. omega arith)
     loop-less
     loop-again
     cast-t20

@@ -1,7 +1,7 @@
 -- `give_zone` meets its contract. Assumes nothing.
+use native.Mathlib.Omega.{arith}
 use Rattle.model.specs.Arena.{run}
 use Rattle.trim.proofs.Words.{given-here, given-listed, given-after, give-asks, size-asks, run-there}
-use borrow.Author.Needs.{needs}
 use Rattle.trim.proofs.give_zone.Statement.{statement}
 use Rattle.trim.proofs.give_zone.Tie as tie
 
@@ -33,7 +33,7 @@ give-zone-spec =
     (tie.spec
     unlist-requires
     give-back-requires
-    (λ c. search needs)
+    (λ c. omega arith)
     size-at-requires
-    (λ c. search needs)
+    (λ c. omega arith)
     returns)

@@ -3,7 +3,6 @@ use Rattle.trim.proofs.Trimming.{Trimming, trim-start, stands, trim-ins
 use mathlib.Core.Path.{sym, _∙_}
 use Prim.Native.Nat.{_-_}
 use native.Mathlib.Omega.{arith}
-use borrow.Author.Needs.{needs}
 use Rattle.trim.proofs.trim_all.Statement.{statement}
 use Rattle.trim.proofs.trim_all.Tie as tie
 
@@ -133,9 +132,9 @@ trim-all-spec =
     loop-holds
     idle-at-requires
     give-zone-requires
-    (λ c. search needs)
+    (λ c. omega arith)
     add-p
-    (λ c. search needs)
+    (λ c. omega arith)
     loop-less
     loop-again
     size-at-requires

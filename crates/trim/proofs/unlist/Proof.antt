@@ -23,4 +23,4 @@ returns c =
 pub unlist-spec : {M : Type 1} → statement M
 unlist-spec =
     tie.close
-    (tie.spec (λ c κs. search needs) cast-list-without list-without-requires (λ c. search needs) returns)
+    (tie.spec (λ c κs. search needs) cast-list-without list-without-requires (λ c. omega arith) returns)

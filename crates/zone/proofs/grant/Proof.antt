@@ -1,7 +1,6 @@
 -- `grant` meets its contract: an untouched chunk, else the one returned last. Assumes nothing.
 use mathlib.Core.Path.{_∙_}
 use native.Mathlib.Omega.{arith}
-use borrow.Author.Needs.{needs}
 use Rattle.zone.proofs.Figures.{zone-size, class-small, hand-out-words, taken}
 use Rattle.zone.proofs.Words.{words-encoding}
 use Rattle.zone.proofs.grant.Statement.{statement}
@@ -46,8 +45,8 @@ grant-spec =
     slice-read-touched
     chunk-count-requires
     hand-out-requires
-    (λ c. search needs)
+    (λ c. omega arith)
     returns
     take-last-requires
-    (λ c. search needs)
+    (λ c. omega arith)
     returns-2)

@@ -1,7 +1,6 @@
 -- `owner` meets its contract. Assumes nothing.
 use mathlib.Core.Path.{sym, _∙_}
 use native.Mathlib.Omega.{arith}
-use borrow.Author.Needs.{needs}
 use Rattle.zone.proofs.Decoded.{owner-live, owner-none}
 use Rattle.zone.proofs.Figures.{zone-size, owner-far, owner-read}
 use Rattle.zone.proofs.owner.Statement.{statement}
@@ -21,4 +20,4 @@ returns-3 c = sym (owner-none _ (c .if2 .left)) ∙ owner-read _ (c .before .bef
 
 pub owner-spec : {M : Type 1} → statement M
 owner-spec =
-    tie.close (tie.spec returns (λ c. search needs) (λ c. search needs) shared-slice-read-state returns-2 returns-3)
+    tie.close (tie.spec returns (λ c. omega arith) (λ c. omega arith) shared-slice-read-state returns-2 returns-3)

@@ -1,7 +1,7 @@
 -- `slots::gather` meets its contract. The loop's invariant: `Gathered`. Assumes nothing.
+use native.Mathlib.Omega.{arith}
 use Prim.Native.Nat.{_-_}
 use lib.ListN.{length}
-use borrow.Author.Needs.{needs}
 use Rattle.header.proofs.Scans.{Gathered, gathered-start, gathered-skip, gathered-keep, gathered-done}
 use Rattle.header.proofs.slots.gather.Statement.{statement}
 use Rattle.header.proofs.slots.gather.Tie as tie
@@ -34,15 +34,15 @@ gather-spec =
     Inv-loop
     μ-loop
     loop-holds
-    (λ c. search needs)
-    (λ c. search needs)
-    (λ c. search needs)
-    (λ c. search needs)
+    (λ c. omega arith)
+    (λ c. omega arith)
+    (λ c. omega arith)
+    (λ c. omega arith)
     loop-again
-    (λ c. search needs)
-    (λ c. search needs)
-    (λ c. search needs)
-    (λ c. search needs)
+    (λ c. omega arith)
+    (λ c. omega arith)
+    (λ c. omega arith)
+    (λ c. omega arith)
     loop-again-2
     same-length
     returns)

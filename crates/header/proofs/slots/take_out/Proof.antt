@@ -1,6 +1,5 @@
 -- `slots::take_out` meets its contract. Assumes nothing.
 use native.Mathlib.Omega.{arith}
-use borrow.Author.Needs.{needs}
 use Rattle.lemmas.proofs.Distinct.{length-remove}
 use Rattle.header.proofs.Scans.{closed-put}
 use Rattle.header.proofs.slots.take_out.Statement.{statement}
@@ -40,11 +39,11 @@ pub take-out-spec : {M : Type 1} → statement M
 take-out-spec =
     tie.close
     (tie.spec
-    (λ c. search needs)
+    (λ c. omega arith)
     mul-clear
     sub-clear
     part-clear-start
-    (λ c. search needs)
-    (λ c. search needs)
-    (λ c. search needs)
+    (λ c. omega arith)
+    (λ c. omega arith)
+    (λ c. omega arith)
     returns)

@@ -24,4 +24,4 @@ returns-2 c =
 pub zone-size-spec : {M : Type 1} → statement M
 zone-size-spec =
     tie.close
-    (tie.spec returns (λ c. search needs) slice-aggregate-check (λ c. search needs) (λ c κs. search needs) returns-2)
+    (tie.spec returns (λ c. omega arith) slice-aggregate-check (λ c. omega arith) (λ c κs. search needs) returns-2)

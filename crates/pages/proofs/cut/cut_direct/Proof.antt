@@ -5,7 +5,6 @@ use Rattle.model.specs.Arena.{run, direct}
 use lib.ListN.{length}
 use mathlib.Core.Path.{sym, ap, refl}
 use native.Mathlib.Omega.{arith}
-use borrow.Author.Needs.{needs}
 use Rattle.pages.proofs.cut.cut_direct.Statement.{statement}
 use Rattle.pages.proofs.cut.cut_direct.Tie as tie
 
@@ -56,15 +55,15 @@ pub cut-direct-spec : {M : Type 1} → statement M
 cut-direct-spec =
     tie.close
     (tie.spec
-    (λ c. search needs)
+    (λ c. omega arith)
     slice-relend-prefix-put-direct
     slice-aggregate-put-direct
     put-direct-requires
-    (λ c. search needs)
+    (λ c. omega arith)
     sub-put-rest
     part-put-rest-start
     part-put-rest-end
-    (λ c. search needs)
+    (λ c. omega arith)
     put-rest-requires
-    (λ c. search needs)
+    (λ c. omega arith)
     returns)

@@ -6,7 +6,6 @@ use Rattle.model.specs.Arena.{run, zone}
 use lib.ListN.{length}
 use mathlib.Core.Path.{sym, ap, refl}
 use native.Mathlib.Omega.{arith}
-use borrow.Author.Needs.{needs}
 use Rattle.pages.proofs.cut.cut_zone.Statement.{statement}
 use Rattle.pages.proofs.cut.cut_zone.Tie as tie
 
@@ -63,15 +62,15 @@ pub cut-zone-spec : {M : Type 1} → statement M
 cut-zone-spec =
     tie.close
     (tie.spec
-    (λ c. search needs)
+    (λ c. omega arith)
     slice-relend-prefix-set-up
     slice-aggregate-set-up
     set-up-requires
-    (λ c. search needs)
+    (λ c. omega arith)
     sub-put-rest
     part-put-rest-start
     part-put-rest-end
-    (λ c. search needs)
+    (λ c. omega arith)
     put-rest-requires
-    (λ c. search needs)
+    (λ c. omega arith)
     returns)

@@ -18,4 +18,4 @@ returns c = stored-direct _ _ _ (c .pre)
 pub put-direct-spec : {M : Type 1} → statement M
 put-direct-spec =
     tie.close
-    (tie.spec (λ c. search needs) (λ c. search needs) slice-write-part-2 slice-write-part-3 (λ c. search needs) returns)
+    (tie.spec (λ c. omega arith) (λ c. omega arith) slice-write-part-2 slice-write-part-3 (λ c. search needs) returns)

@@ -2,7 +2,6 @@
 use Rattle.pages.proofs.Words.{zero-blank, rest-none, rest-some}
 use mathlib.Core.Path.{_∙_}
 use native.Mathlib.Omega.{arith}
-use borrow.Author.Needs.{needs}
 use Rattle.pages.proofs.cut.put_rest.Statement.{statement}
 use Rattle.pages.proofs.cut.put_rest.Tie as tie
 
@@ -16,4 +15,4 @@ returns-2 : tie.Need-returns-2
 returns-2 c = c .before .before .put-run .ensures ∙ rest-some _ (omega arith)
 
 pub put-rest-spec : {M : Type 1} → statement M
-put-rest-spec = tie.close (tie.spec returns put-run-requires (λ c. search needs) returns-2)
+put-rest-spec = tie.close (tie.spec returns put-run-requires (λ c. omega arith) returns-2)

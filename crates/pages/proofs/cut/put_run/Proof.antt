@@ -14,4 +14,4 @@ returns c = stored-run _ _ (c .pre)
 
 pub put-run-spec : {M : Type 1} → statement M
 put-run-spec =
-    tie.close (tie.spec (λ c. search needs) (λ c. search needs) slice-write-part-2 (λ c. search needs) returns)
+    tie.close (tie.spec (λ c. omega arith) (λ c. omega arith) slice-write-part-2 (λ c. search needs) returns)

@@ -1,9 +1,9 @@
 -- `cut::set_up` meets its contract. Assumes nothing.
+use native.Mathlib.Omega.{arith}
 use Rattle.lemmas.specs.Zeros.{zeros}
 use mathlib.Core.Path.{_∙_, sym, ap}
 use Rattle.pages.proofs.Laws.{encoding-one}
 use Rattle.pages.proofs.Words.{zero-blank}
-use borrow.Author.Needs.{needs}
 use Rattle.pages.proofs.cut.set_up.Statement.{statement}
 use Rattle.pages.proofs.cut.set_up.Tie as tie
 
@@ -16,4 +16,4 @@ returns : tie.Need-returns
 returns c = c .before .before .put-run .ensures ∙ sym (encoding-one _)
 
 pub set-up-spec : {M : Type 1} → statement M
-set-up-spec = tie.close (tie.spec (λ c. search needs) put-run-requires (λ c. search needs) returns)
+set-up-spec = tie.close (tie.spec (λ c. omega arith) put-run-requires (λ c. omega arith) returns)

@@ -2,7 +2,6 @@
 use Rattle.pages.proofs.Middle.{run-inside, run-part, run-put}
 use Rattle.model.specs.Arena.{direct}
 use native.Mathlib.Omega.{arith}
-use borrow.Author.Needs.{needs}
 use Rattle.pages.proofs.cut.take_direct.Statement.{statement}
 use Rattle.pages.proofs.cut.take_direct.Tie as tie
 
@@ -40,9 +39,9 @@ take-direct-spec =
     mul-e
     add-e
     mul-cut-direct
-    (λ c. search needs)
-    (λ c. search needs)
+    (λ c. omega arith)
+    (λ c. omega arith)
     part-cut-direct-end
     cut-direct-requires
-    (λ c. search needs)
+    (λ c. omega arith)
     returns)

@@ -2,7 +2,6 @@
 use Rattle.pages.proofs.Middle.{run-inside, run-part, run-put}
 use Rattle.model.specs.Arena.{zone}
 use native.Mathlib.Omega.{arith}
-use borrow.Author.Needs.{needs}
 use Rattle.pages.proofs.cut.take_zone.Statement.{statement}
 use Rattle.pages.proofs.cut.take_zone.Tie as tie
 
@@ -38,9 +37,9 @@ take-zone-spec =
     mul-e
     add-e
     mul-cut-zone
-    (λ c. search needs)
-    (λ c. search needs)
+    (λ c. omega arith)
+    (λ c. omega arith)
     part-cut-zone-end
     cut-zone-requires
-    (λ c. search needs)
+    (λ c. omega arith)
     returns)

@@ -2,7 +2,6 @@
 use Prim.Native.Nat.{_-_}
 use mathlib.Core.Path.{_≡_}
 use native.Mathlib.Omega.{arith}
-use borrow.Author.Needs.{needs}
 use Rattle.pages.specs.Places.{found, firstRun}
 use Rattle.pages.proofs.Search.{Searching, search-start, search-none, run-inside, search-hit, search-past}
 use Rattle.pages.proofs.find.find_run.Statement.{statement}
@@ -53,8 +52,8 @@ find-run-spec =
     μ-loop
     loop-holds
     next-run-requires
-    (λ c. search needs)
-    (λ c. search needs)
+    (λ c. omega arith)
+    (λ c. omega arith)
     add-p
     loop-less
     loop-again

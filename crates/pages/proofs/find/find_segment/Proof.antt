@@ -4,7 +4,6 @@ use Rattle.pages.proofs.Walk.{walk-start, next, walk-end}
 use Rattle.pages.specs.Places.{spotFrom}
 use Prim.Native.Nat.{_-_}
 use native.Mathlib.Omega.{arith}
-use borrow.Author.Needs.{needs}
 use Rattle.pages.proofs.find.find_segment.Statement.{statement}
 use Rattle.pages.proofs.find.find_segment.Tie as tie
 
@@ -73,7 +72,7 @@ find-segment-spec =
     kind-requires
     add-if1
     returns
-    (λ c. search needs)
+    (λ c. omega arith)
     add-p
     loop-less
     loop-again

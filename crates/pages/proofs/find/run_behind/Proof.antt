@@ -3,7 +3,6 @@ use Rattle.pages.proofs.Search.{none-behind, read-behind, run-behind, o
 use Rattle.pages.proofs.Walk.{read-at}
 use mathlib.Core.Path.{_∙_}
 use native.Mathlib.Omega.{arith}
-use borrow.Author.Needs.{needs}
 use Rattle.pages.proofs.find.run_behind.Statement.{statement}
 use Rattle.pages.proofs.find.run_behind.Tie as tie
 
@@ -62,6 +61,6 @@ run-behind-spec =
     add-wide
     mul-wide
     shared-slice-read-wide
-    (λ c. search needs)
+    (λ c. omega arith)
     returns-2
     returns-3)

@@ -41,5 +41,5 @@ size-spec =
     add-wide
     mul-wide-2
     shared-slice-read-wide
-    (λ c. search needs)
+    (λ c. omega arith)
     returns-2)

@@ -2,7 +2,6 @@
 use native.Mathlib.Omega.{arith}
 use Rattle.pages.proofs.Walk.{read-at}
 use Rattle.pages.proofs.Inverse.{zone-lent}
-use borrow.Author.Needs.{needs}
 use Rattle.pages.proofs.find.zone_part.Statement.{statement}
 use Rattle.pages.proofs.find.zone_part.Tie as tie
 
@@ -22,4 +21,4 @@ returns : tie.Need-returns
 returns c = λ b z s. zone-lent (read-at (c .before .pre .0) s)
 
 pub zone-part-spec : {M : Type 1} → statement M
-zone-part-spec = tie.close (tie.spec mul-a add-e mul-result (λ c. search needs) (λ c. search needs) part-result-end returns)
+zone-part-spec = tie.close (tie.spec mul-a add-e mul-result (λ c. omega arith) (λ c. omega arith) part-result-end returns)

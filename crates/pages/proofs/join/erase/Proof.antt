@@ -26,8 +26,8 @@ erase-spec =
     tie.close
     (tie.spec
     slice-read-if1
-    (λ c. search needs)
-    (λ c. search needs)
+    (λ c. omega arith)
+    (λ c. omega arith)
     (λ c. search needs)
     slice-write-part
     slice-write-part-2

@@ -49,21 +49,21 @@ pub fuse-spec : {M : Type 1} → statement M
 fuse-spec =
     tie.close
     (tie.spec
-    (λ c. search needs)
-    (λ c. search needs)
-    (λ c. search needs)
-    (λ c. search needs)
-    (λ c. search needs)
-    (λ c. search needs)
+    (λ c. omega arith)
+    (λ c. omega arith)
+    (λ c. omega arith)
+    (λ c. omega arith)
+    (λ c. omega arith)
+    (λ c. omega arith)
     part-erase-end
     erase-requires
-    (λ c. search needs)
+    (λ c. omega arith)
     sub-erase-rest
     part-erase-rest-start
     part-erase-rest-end
     erase-rest-requires
-    (λ c. search needs)
-    (λ c. search needs)
+    (λ c. omega arith)
+    (λ c. omega arith)
     put-run-requires
-    (λ c. search needs)
+    (λ c. omega arith)
     (λ c. search needs))

@@ -1,7 +1,6 @@
 -- `join::give_back` meets its contract. Assumes nothing.
 use Rattle.pages.proofs.Given.{given-inside, given-words, given-put}
 use native.Mathlib.Omega.{arith}
-use borrow.Author.Needs.{needs}
 use Rattle.pages.proofs.join.give_back.Statement.{statement}
 use Rattle.pages.proofs.join.give_back.Tie as tie
 
@@ -74,9 +73,9 @@ give-back-spec =
     mul-e
     add-e-3
     mul-fuse
-    (λ c. search needs)
-    (λ c. search needs)
+    (λ c. omega arith)
+    (λ c. omega arith)
     part-fuse-end
     fuse-requires
-    (λ c. search needs)
+    (λ c. omega arith)
     returns)

@@ -2,7 +2,6 @@
 use mathlib.Core.List.{[], _∷_}
 use mathlib.Core.Path.{ap, _∙_}
 use native.Mathlib.Omega.{arith}
-use borrow.Author.Needs.{needs}
 use Rattle.model.specs.Text.{line}
 use Rattle.text.proofs.Left.{wrote-as}
 use Rattle.uplink.proofs.Says.{pair-bounded, pair-short}
@@ -32,9 +31,9 @@ pub put-block-spec : {M : Type 1} → statement M
 put-block-spec =
     tie.close
     (tie.spec
-    (λ c. search needs)
-    (λ c. search needs)
-    (λ c. search needs)
+    (λ c. omega arith)
+    (λ c. omega arith)
+    (λ c. omega arith)
     put-line-requires
-    (λ c. search needs)
+    (λ c. omega arith)
     returns)

@@ -1,5 +1,5 @@
 -- `uplink::line_with` meets its contract. Assumes nothing.
-use borrow.Author.Needs.{needs}
+use native.Mathlib.Omega.{arith}
 use Rattle.uplink.specs.Grammar.{lineWith}
 use Rattle.uplink.proofs.grammar.line_with.Statement.{statement}
 use Rattle.uplink.proofs.grammar.line_with.Tie as tie
@@ -24,13 +24,13 @@ pub line-with-spec : {M : Type 1} → statement M
 line-with-spec =
     tie.close
     (tie.spec
-    (λ c. search needs)
-    (λ c. search needs)
-    (λ c. search needs)
-    (λ c. search needs)
-    (λ c. search needs)
-    (λ c. search needs)
-    (λ c. search needs)
+    (λ c. omega arith)
+    (λ c. omega arith)
+    (λ c. omega arith)
+    (λ c. omega arith)
+    (λ c. omega arith)
+    (λ c. omega arith)
+    (λ c. omega arith)
     returns
     returns-2
     returns-3

@@ -1,5 +1,5 @@
 -- `uplink::parse` meets its contract. Assumes nothing.
-use borrow.Author.Needs.{needs}
+use native.Mathlib.Omega.{arith}
 use Rattle.uplink.proofs.Parsing.{line-empty, line-letter}
 use Rattle.uplink.proofs.grammar.parse.Statement.{statement}
 use Rattle.uplink.proofs.grammar.parse.Tie as tie
@@ -15,7 +15,7 @@ parse-spec =
     tie.close
     (tie.spec
     returns
-    (λ c. search needs)
-    (λ c. search needs)
-    (λ c. search needs)
+    (λ c. omega arith)
+    (λ c. omega arith)
+    (λ c. omega arith)
     returns-2)

@@ -1,6 +1,6 @@
 -- `uplink::read_numbers` meets its contract: each test is one of the definition's. Assumes nothing.
+use native.Mathlib.Omega.{arith}
 use mathlib.Core.Path.{sym, _∙_}
-use borrow.Author.Needs.{needs}
 use Rattle.uplink.proofs.Parsing.{first-none, first-other, first-missing, first-then}
 use Rattle.uplink.proofs.grammar.read_numbers.Statement.{statement}
 use Rattle.uplink.proofs.grammar.read_numbers.Tie as tie
@@ -37,12 +37,12 @@ read-numbers-spec =
     tie.close
     (tie.spec
     returns
-    (λ c. search needs)
+    (λ c. omega arith)
     returns-2
-    (λ c. search needs)
-    (λ c. search needs)
-    (λ c. search needs)
-    (λ c. search needs)
-    (λ c. search needs)
+    (λ c. omega arith)
+    (λ c. omega arith)
+    (λ c. omega arith)
+    (λ c. omega arith)
+    (λ c. omega arith)
     returns-3
     returns-4)

@@ -1,6 +1,6 @@
 -- `uplink::read_second` meets its contract: each test is one of the definition's. Assumes nothing.
+use native.Mathlib.Omega.{arith}
 use mathlib.Core.Path.{sym, _∙_}
-use borrow.Author.Needs.{needs}
 use Rattle.uplink.proofs.Parsing.{second-none, second-other, second-missing, second-last, second-more}
 use Rattle.uplink.proofs.grammar.read_second.Statement.{statement}
 use Rattle.uplink.proofs.grammar.read_second.Tie as tie
@@ -44,12 +44,12 @@ read-second-spec =
     tie.close
     (tie.spec
     returns
-    (λ c. search needs)
+    (λ c. omega arith)
     returns-2
-    (λ c. search needs)
-    (λ c. search needs)
-    (λ c. search needs)
-    (λ c. search needs)
+    (λ c. omega arith)
+    (λ c. omega arith)
+    (λ c. omega arith)
+    (λ c. omega arith)
     returns-3
     returns-4
     returns-5)

@@ -24,4 +24,4 @@ returns-3 c =
 
 pub finish-spec : {M : Type 1} → statement M
 finish-spec =
-    tie.close (tie.spec (λ c. search needs) returns returns-2 (λ c. search needs) returns-3)
+    tie.close (tie.spec (λ c. omega arith) returns returns-2 (λ c. omega arith) returns-3)

@@ -24,4 +24,4 @@ returns-2 c = c .parse .ensures ∙ line-part _ (c .before .before .before .if1 
 pub held-line-spec : {M : Type 1} → statement M
 held-line-spec =
     tie.close
-    (tie.spec returns array-share-prefix-line slice-aggregate-parse (λ c. search needs) returns-2)
+    (tie.spec returns array-share-prefix-line slice-aggregate-parse (λ c. omega arith) returns-2)

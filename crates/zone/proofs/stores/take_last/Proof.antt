@@ -4,7 +4,6 @@ use mathlib.Core.List.{List}
 use mathlib.Core.Path.{_≡_, ap, _∙_}
 use native.Mathlib.Omega.{arith}
 use lib.ListN.{getD, set, length-set}
-use borrow.Author.Needs.{needs}
 use Rattle.zone.specs.Encoding.{headWords}
 use Rattle.zone.specs.Decoding.{chainedIn, entryIn}
 use Rattle.zone.specs.Stores.{withState, withEntry, lastChunk}
@@ -55,14 +54,14 @@ pub take-last-spec : {M : Type 1} → statement M
 take-last-spec =
     tie.close
     (tie.spec
-    (λ c. search needs)
-    (λ c. search needs)
-    (λ c. search needs)
-    (λ c. search needs)
-    (λ c. search needs)
-    (λ c. search needs)
-    (λ c. search needs)
+    (λ c. omega arith)
+    (λ c. omega arith)
+    (λ c. omega arith)
+    (λ c. omega arith)
+    (λ c. omega arith)
+    (λ c. omega arith)
+    (λ c. omega arith)
     set-state-requires
-    (λ c. search needs)
+    (λ c. omega arith)
     same-length
     returns)
