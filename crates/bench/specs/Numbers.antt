@@ -2,10 +2,11 @@
 use Prim.Native.Nat.{ℕ}
 use Rattle.model.specs.Perform.{wordsFor}
 
--- Its words are enough for so many pages: 13,504.
+-- Its words are enough for so many pages, ..
 abbrev pub benchPages : ℕ
 benchPages = 24
 
+-- .. so there are 13,504.
 abbrev pub benchWords : ℕ
 benchWords = wordsFor benchPages
 

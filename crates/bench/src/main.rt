@@ -19,13 +19,13 @@ const WORDS: usize = 13504;
 
 const REPLY: usize = 207;
 
-// What serving leaves: the reader, and whether the input goes on. It ends where a reply cannot be written.
+// What serving leaves: the reader, and whether to go on. There is no going on where the input ends or a stream fails.
 struct Served {
     reader: Reader,
     on: bool,
 }
 
-// Its words when it begins, all zero: they encode no valid state.
+// The words that the program begins with, all zero: they encode no valid state.
 fn fresh_words() -> [u32; WORDS]
     ensures { λ r. ⌜ benchWords ≡ length r ⌝ }
     ensures { λ r. ⌜ r ≡ zeros benchWords ⌝ }
@@ -43,7 +43,7 @@ fn write_out(replies: &[u8]) -> bool {
     false
 }
 
-// The same of standard input.
+// The line that says that standard input cannot be read.
 fn tell_unread() {
     io::write_all(STDERR_FILENO, b"bench: standard input cannot be read\n");
 }
@@ -84,7 +84,7 @@ fn serve_end(reader: Reader, meta: &mut [u32], out: &mut [u8])
     write_out(&out[..len]);
 }
 
-// Reads what is there and serves it. The input goes on unless a read brings no byte, and it ends where a stream fails.
+// Reads what is there and serves it. A read that brings no byte is the input's end.
 fn serve_read(reader: Reader, meta: &mut [u32], input: &mut [u8], out: &mut [u8]) -> Served
     requires { ⌜ Sound reader ⌝ }
     requires { ⌜ replyRoom ≤ length (now out) ⌝ }

@@ -1,11 +1,12 @@
 //! What people read, held to the tree: every file, theorem, definition, function and edit that a document names is there, in the file
 //! that it is said to be in; every relative link leads somewhere; every edit stands in the tables of wrong answers; every crate and every
-//! file of the rules in the architecture.
+//! file of the rules in the architecture. And crates.txt names for each crate just those that it cites.
 //!
 //!     cargo test --offline --locked -p tests --test documents
 //!
 //! A name stands in backticks. A word in backticks that names nothing of the tree has to be one of `FOREIGN`, so nothing is passed over.
 
+mod edges;
 mod markdown;
 mod names;
 
@@ -202,6 +203,25 @@ fn the_architecture_has_every_crate_and_every_file_of_the_rules() {
     let mut files = names.stems("crates/model/specs");
     files.remove("Lib");
     assert_eq!(told, files, "the table of the rules' files");
+}
+
+#[test]
+fn every_crate_stands_on_just_those_that_it_cites() {
+    let listed = edges::listed(&root());
+    let crates: BTreeSet<String> = listed.keys().cloned().collect();
+    let (mut faults, mut edges) = (Vec::new(), 0);
+    for (name, below) in &listed {
+        let cited = edges::named(&root(), &crates, name);
+        edges += cited.len();
+        for other in below.symmetric_difference(&cited) {
+            faults.push(match below.contains(other) {
+                true => format!("{name} is said to stand on {other}, and does not name it"),
+                false => format!("{name} names {other}, and crates.txt does not say so"),
+            });
+        }
+    }
+    hold(faults);
+    assert!(edges >= 80, "{edges} edges");
 }
 
 /// Where a document says of a folder or a file 'about N lines of definitions', there are as many, give or take a twentieth: lines that are

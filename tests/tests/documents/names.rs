@@ -22,7 +22,7 @@ pub const FOREIGN: [&str; 33] = [
     "axioms=2",
     "native=",
     "sum=",
-    "rattle-kit-5b",
+    "rattle-kit-5b-plain",
     "memset",
     "search",
     "N",
