@@ -54,7 +54,7 @@ module _ (w : List ℕ) (h : Facts w) where
   lists-legal : Legal keyLimit 0 (mid atLists listSlots w)
   lists-legal = legal-of keyLimit 0 _ (h .lists)
 
-  spare-size : length (mid atSpare spareSlots w) ≡ 2
+  spare-size : length (mid atSpare spareSlots w) ≡ spareSlots
   spare-size = length-mid atSpare spareSlots w (let a = h .size in omega arith)
 
   -- The keys in the slots are those of the lists that are read.

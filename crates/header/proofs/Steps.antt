@@ -103,7 +103,7 @@ module _ {w : List ℕ} {n : ℕ} {spare : List ℕ} {lists : List (List ℕ)} (
       let b = lists-size w header-length in
       omega arith
 
-  pub spare-most : (low high : ℕ) {k : ℕ} → k ≡ count (holds low high) (mid atSpare spareSlots w) → k ≤ 2
+  pub spare-most : (low high : ℕ) {k : ℕ} → k ≡ count (holds low high) (mid atSpare spareSlots w) → k ≤ spareSlots
   spare-most low high e =
       let a = count-le-length (holds low high) (mid atSpare spareSlots w) in
       let b = ap length spare-words ∙ length-slots spareSlots spare in

@@ -9,7 +9,7 @@ use native.Mathlib.Omega.{arith}
 use lib.Dec.{ltb, leb}
 use borrow.Author.Tests.{leb-true, leb-false, ltb-true, ltb-false, lt-ltb, le-ltb}
 use Rattle.lemmas.proofs.Cases.{bool, true-false, clash}
-use Rattle.model.specs.Numbers.{pageBytes, zoneBytes}
+use Rattle.model.specs.Numbers.{pageBytes, zoneBytes, zonePages}
 use Rattle.model.specs.Arena.{Segment, run, direct, zone, pages, bytes, total, locate, edit, Each}
 use Rattle.model.specs.PageMap.{Occupancy, PageMap, idle, whole}
 use Rattle.model.specs.Pages.{FreeRun, claim, withRun, joined, freePages, release}
@@ -101,9 +101,9 @@ row-run n pos b (run k ∷ r) h w = bool (ltb (w .0) k)
 row-run n pos b (direct k g ∷ r) h w = bool (ltb (w .0) k)
     (λ t. true-false (clear-first (direct k g) r (w .0) (ltb-true (w .0) k t) (w .1 (w .0) (omega arith) (omega arith))) refl)
     (λ t. later n _ r (row-run n pos false r (h .1) (row-past n (w .0) (direct k g) r (ltb-false (w .0) k t) (w .1))))
-row-run n pos b (zone l ∷ r) h w = bool (ltb (w .0) 8)
-    (λ t. true-false (cc (clear-first (zone l) r (w .0) (ltb-true (w .0) 8 t) (w .1 (w .0) (omega arith) (omega arith)))) refl)
-    (λ t. later n (zone l) r (row-run n pos false r (h .1) (row-past n (w .0) (zone l) r (ltb-false (w .0) 8 t) (w .1))))
+row-run n pos b (zone l ∷ r) h w = bool (ltb (w .0) zonePages)
+    (λ t. true-false (cc (clear-first (zone l) r (w .0) (ltb-true (w .0) zonePages t) (w .1 (w .0) (omega arith) (omega arith)))) refl)
+    (λ t. later n (zone l) r (row-run n pos false r (h .1) (row-past n (w .0) (zone l) r (ltb-false (w .0) zonePages t) (w .1))))
 
 -- What the claim finds is a row of clear pages.
 pub found-row : (n : ℕ) (m : PageMap) (h : FreeRun) → 0 < n → claim n m ≡ some h → Row n m

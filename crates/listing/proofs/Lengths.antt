@@ -132,7 +132,7 @@ direct-row p n g h k = omega (arith, line-three p n g, decimal-tens n, decimal-l
 run-row : (p n : ℕ) → 0 < n → length (line (p ∷ n ∷ [])) + 1 < width p + 7 * n
 run-row p n h = omega (arith, line-two p n, decimal-tens n)
 
-zone-row : (p : ℕ) (z : Zone) → ValidZone z → length (line (p ∷ z .class ∷ liveCount (padded (chunks (z .class)) (z .owners)) ∷ [])) + 1 < width p + 7 * 8
+zone-row : (p : ℕ) (z : Zone) → ValidZone z → length (line (p ∷ z .class ∷ liveCount (padded (chunks (z .class)) (z .owners)) ∷ [])) + 1 < width p + 7 * zonePages
 zone-row p z v =
     let live = liveCount (padded (chunks (z .class)) (z .owners)) in
     let few : z .class < classCount = v .class in
@@ -170,7 +170,7 @@ all-spent p (zone z ∷ r) w =
     omega (
       arith,
       length-append row (lines (zoneLines (p + zonePages) (shown r))),
-      spent-more p 8 (total r) _ _ (omega arith) (zone-row p z (w .0 .1)) (all-spent _ r (w .1)),
+      spent-more p zonePages (total r) _ _ (omega arith) (zone-row p z (w .0 .1)) (all-spent _ r (w .1)),
     )
 
 -- Direct blocks are at most as many as the pages.
@@ -203,7 +203,7 @@ longest-grows n k h =
     let e : n + (k - n) ≡ k = omega arith in
     omega (arith, longest-is n, longest-is k, decimal-grows k n h, ap pageRows e, sum-split pageRow n (k - n))
 
-pub longest-figures : (longest 24 ≡ 207) × (longest 256 ≡ 2220)
+pub longest-figures : (longest 24 ≡ 207) × (longest mostPages ≡ 2220)
 unfolding longest listingText section lines line decimal digits ascii
 longest-figures = (refl, refl)
 

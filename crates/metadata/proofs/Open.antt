@@ -41,7 +41,7 @@ length-open p (run n ∷ r) = length-open (p + n) r ∙ omega arith
 length-open p (direct n g ∷ r) = length-open (p + n) r ∙ omega arith
 length-open p (zone z ∷ r) = bool (full z) (λ t. rw t (length-open _ r ∙ omega arith)) (λ t. rw t (omega (arith, length-open (p + zonePages) r)))
 
-pub few-open : (m : List (Segment Zone)) → sumOpen m * 8 ≤ total m
+pub few-open : (m : List (Segment Zone)) → sumOpen m * zonePages ≤ total m
 unfolding sumOpen
 few-open [] = omega arith
 few-open (run n ∷ r) = omega (arith, few-open r)

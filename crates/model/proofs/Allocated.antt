@@ -11,7 +11,7 @@ use lib.Dec.{ltb, leb}
 use lib.ListN.{getD}
 use borrow.Author.Tests.{ltb-true, ltb-false, leb-true, ne-eqb}
 use Rattle.lemmas.proofs.Cases.{bool, and-left, and-right}
-use Rattle.model.specs.Numbers.{mostGroup, classCount, pageBytes}
+use Rattle.model.specs.Numbers.{mostGroup, classCount, pageBytes, zonePages}
 use Rattle.model.specs.declared.Refusal.{Refusal}
 use Rattle.model.specs.declared.Refusal.the-variants.{BadGroup, BadSize, NoRoom}
 use Rattle.model.specs.declared.Answer.the-variants.{Granted, Refused}
@@ -82,15 +82,15 @@ module _ (s : State) where
       (rw (carve-retold occupancy h n _ _) (carve-only (pageMap s) h n _ p found refl (direct-alone n g)))
 
   module _ (c g : ℕ) (class : c < classCount) (least : 0 < g) where
-    zone-law : (h : Option FreeRun) → claim 8 (s .segments) ≡ h → Allocated s g (room c) (zoneFrom c g s h)
+    zone-law : (h : Option FreeRun) → claim zonePages (s .segments) ≡ h → Allocated s g (room c) (zoneFrom c g s h)
     zone-law none e = denies NoRoom refl refl
     zone-law (some h) e =
-        let found = claim-retold occupancy 8 _ ∙ e in
-        gives _ (chunk c 0 g) refl (carve-fresh (pageMap s) h 8 (omega arith) found) refl refl
-        (rw (carve-retold occupancy h 8 _ _, ← new-first c g class least) (carve-only (pageMap s) h 8 _ (omega arith) found refl (new-alone c g)))
+        let found = claim-retold occupancy zonePages _ ∙ e in
+        gives _ (chunk c 0 g) refl (carve-fresh (pageMap s) h zonePages (omega arith) found) refl refl
+        (rw (carve-retold occupancy h zonePages _ _, ← new-first c g class least) (carve-only (pageMap s) h zonePages _ (omega arith) found refl (new-alone c g)))
 
     spare-law : Valid s → (l : List ℕ) → s .spare ≡ l → Allocated s g (room c) (fromSpare c g s l)
-    spare-law v [] e = zone-law (claim 8 (s .segments)) refl
+    spare-law v [] e = zone-law (claim zonePages (s .segments)) refl
     spare-law v (q ∷ qs) e =
         let f = v .spared q (rw e (List·Memᴰ·head refl)) in
         let there = shown-at (s .segments) q (f .0) (f .1) in

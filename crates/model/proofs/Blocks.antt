@@ -11,7 +11,7 @@ use lib.Dec.{ltb, eqb}
 use lib.ListN.{length, getD, List·getD-eq-default}
 use borrow.Author.Tests.{ltb-true, ltb-false, eqb-true, lt-ltb}
 use Rattle.lemmas.proofs.Cases.{bool, true-false, cond-same}
-use Rattle.model.specs.Numbers.{pageBytes, zoneBytes}
+use Rattle.model.specs.Numbers.{pageBytes, zoneBytes, zonePages}
 use Rattle.model.specs.Sizes.{room, chunks}
 use Rattle.model.specs.Arena.{Segment, run, direct, zone, pages, bytes, total, Place, locate, edit}
 use Rattle.model.specs.PageMap.{Occupancy, padded, PageMap, allZero, idle, Block, chunk, chunkOf, blockIn, blockThere, blockAt}
@@ -150,7 +150,7 @@ chunk-only o f m d c i l l′ e fe h other b at =
     )
 
 -- An idle zone gives way to any segment of 8 pages without a block, or is set up anew.
-pub idle-still : (o : ℕ) (f : Segment Occupancy → List (Segment Occupancy)) (m : PageMap) (d : ℕ) (l : Occupancy) → locate o m ≡ some (record { away = d; segment = zone l }) → idle l ≡ true → total (f (zone l)) ≡ 8 → ((k : ℕ) → k < zoneBytes → blockAt (f (zone l)) k ≡ none) → Still m (edit o f m)
+pub idle-still : (o : ℕ) (f : Segment Occupancy → List (Segment Occupancy)) (m : PageMap) (d : ℕ) (l : Occupancy) → locate o m ≡ some (record { away = d; segment = zone l }) → idle l ≡ true → total (f (zone l)) ≡ zonePages → ((k : ℕ) → k < zoneBytes → blockAt (f (zone l)) k ≡ none) → Still m (edit o f m)
 idle-still o f m d l e i t h =
     let E = edited o f m e t in
     (λ q. E .rest (λ _. Unit {0}) (λ k u v. h k u ∙ sym (idle-blockIn k l i)) q tt, E .size)

@@ -13,7 +13,7 @@ use lib.Seq.{getD-set-same, getD-set-other}
 use borrow.Author.Tests.{ltb-true, ltb-false, eqb-true, eqb-false}
 use Rattle.lemmas.specs.Times.{Distinct}
 use Rattle.lemmas.proofs.Cases.{bool, clash, by-eq}
-use Rattle.model.specs.Numbers.{classCount, pageBytes}
+use Rattle.model.specs.Numbers.{classCount, mostSpare, pageBytes}
 use Rattle.model.specs.Arena.{Segment, run, zone, total, locate, Each}
 use Rattle.model.specs.Zone.{Zone, full}
 use Rattle.model.specs.State.{State, listOf, arranged, Begins, ZoneAt, putZone}
@@ -101,7 +101,7 @@ pub record Move (s : State) (m : List (Segment Zone)) (c p : ℕ) (l sp : List �
   pub spare-kept : (q : ℕ) → (q ≡ p → ⊥) → List·Memᴰ q (s .spare) → List·Memᴰ q sp
   pub once : Distinct l
   pub once-spare : Distinct sp
-  pub few : length sp ≤ 2
+  pub few : length sp ≤ mostSpare
 
 pub rearranged : (s : State) (m : List (Segment Zone)) (c p : ℕ) (l sp : List ℕ) → Valid s → Move s m c p l sp → Valid (arranged s m (set (s .lists) c l) sp)
 rearranged s m c p l sp h v = record {

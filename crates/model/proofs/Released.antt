@@ -11,7 +11,7 @@ use lib.Dec.{eqb}
 use lib.ListN.{getD}
 use borrow.Author.Tests.{eqb-true, ne-eqb}
 use Rattle.lemmas.proofs.Cases.{bool, clash, none-some}
-use Rattle.model.specs.Numbers.{pageBytes, zoneBytes}
+use Rattle.model.specs.Numbers.{pageBytes, zoneBytes, zonePages}
 use Rattle.model.specs.Sizes.{room}
 use Rattle.model.specs.Arena.{Segment, run, direct, zone, Place, locate, edit}
 use Rattle.model.specs.PageMap.{Occupancy, PageMap, idle, Block, whole, chunk, chunkOf, blockIn, blockThere, blockAt}
@@ -85,7 +85,7 @@ release-only o m n g e =
 
 pub release-still : (o : ℕ) (m : PageMap) (d : ℕ) (l : Occupancy) → locate o m ≡ some (record { away = d; segment = zone l }) → idle l ≡ true → Still m (release o m)
 release-still o m d l e i =
-    let a = idle-still o freePages m d l e i refl (λ k h. one-block (run 8) k h) in
+    let a = idle-still o freePages m d l e i refl (λ k h. one-block (run zonePages) k h) in
     let b = rejoined-still (edit o freePages m) in
     (λ q. b .0 q ∙ a .0 q, b .1 ∙ a .1)
 

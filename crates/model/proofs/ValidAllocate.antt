@@ -11,7 +11,7 @@ use lib.ListN.{length}
 use borrow.Author.Tests.{ltb-true, ltb-false}
 use Rattle.lemmas.specs.Times.{Distinct}
 use Rattle.lemmas.proofs.Cases.{bool, either, clash}
-use Rattle.model.specs.Numbers.{mostGroup, classCount, pageBytes}
+use Rattle.model.specs.Numbers.{mostGroup, classCount, pageBytes, zonePages}
 use Rattle.model.specs.Sizes.{classOf, pagesFor}
 use Rattle.model.specs.Arena.{Segment, run, direct, zone, pages, total, locate, Each}
 use Rattle.model.specs.Zone.{Zone, full, newZone, nextChunk, granted}
@@ -90,21 +90,21 @@ module _ (s : State) (h : Valid s) (g : ℕ) (least : 0 < g) (most : g ≤ mostG
 
   module _ (c : ℕ) (class : c < classCount) where
     -- A new zone at page p, where no zone was or an idle one, is the only one on its class's list.
-    zone-valid : listOf s c ≡ [] → (o : Option FreeRun) → claim 8 (s .segments) ≡ o → Valid ((zoneFrom c g s o) .after)
+    zone-valid : listOf s c ≡ [] → (o : Option FreeRun) → claim zonePages (s .segments) ≡ o → Valid ((zoneFrom c g s o) .after)
     zone-valid el none e = h
     zone-valid el (some o) e =
         let p = o .page in
         let new = zone (newZone c g) in
-        let m = carve o 8 new (s .segments) in
-        let run-there = claim-found 8 _ o (omega arith) e .0 in
-        let begun : ZoneAt m p (newZone c g) = carved-new _ 8 new o (omega arith) refl e in
+        let m = carve o zonePages new (s .segments) in
+        let run-there = claim-found zonePages _ o (omega arith) e .0 in
+        let begun : ZoneAt m p (newZone c g) = carved-new _ zonePages new o (omega arith) refl e in
         let no-zone : (z : Zone) → ZoneAt (s .segments) p z → ⊥ = λ z. not-run (s .segments) (p * pageBytes) (o .size) z run-there in
         rearranged s m c p (p ∷ []) (s .spare) h (record {
-          size = carved-size _ 8 new o (omega arith) refl e;
-          apart = carved-apart _ 8 new o (omega arith) refl e (λ k r a. a) (h .apart);
-          sound = carved-sound _ 8 new o (omega arith) refl e (new-valid c g class least most) (h .sound);
-          kept = λ q y b ne. carved-kept _ 8 new o (omega arith) refl e q y b;
-          back = λ q y b ne. go q y ne (carved-back _ 8 new o (omega arith) refl e q y b);
+          size = carved-size _ zonePages new o (omega arith) refl e;
+          apart = carved-apart _ zonePages new o (omega arith) refl e (λ k r a. a) (h .apart);
+          sound = carved-sound _ zonePages new o (omega arith) refl e (new-valid c g class least most) (h .sound);
+          kept = λ q y b ne. carved-kept _ zonePages new o (omega arith) refl e q y b;
+          back = λ q y b ne. go q y ne (carved-back _ zonePages new o (omega arith) refl e q y b);
           alone = λ k ne i. let w = h .listed k p i in no-zone (w .0) (w .1);
           here-listed = λ _. (newZone c g, begun, refl, new-open c g class);
           here-spared = λ i. absurd (let w = h .spared p i in no-zone (w .0) (w .1));
@@ -124,7 +124,7 @@ module _ (s : State) (h : Valid s) (g : ℕ) (least : 0 < g) (most : g ≤ mostG
         go q y ne (inr a) = absurd (ne (a .0))
 
     spare-valid : listOf s c ≡ [] → (l : List ℕ) → s .spare ≡ l → Valid ((fromSpare c g s l) .after)
-    spare-valid el [] e = zone-valid el (claim 8 (s .segments)) refl
+    spare-valid el [] e = zone-valid el (claim zonePages (s .segments)) refl
     spare-valid el (p ∷ ps) e =
         let inn : List·Memᴰ p (s .spare) = rw e (List·Memᴰ·head refl) in
         let w = h .spared p inn in

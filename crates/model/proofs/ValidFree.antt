@@ -144,7 +144,7 @@ module _ (s : State) (h : Valid s) (o c i g : ℕ) (C : ChunkAt s o c i g) where
   stays-valid = rearranged s chained c p relisted (s .spare) h stays
 
   -- .. or it moves to the front of the empty list, ..
-  retires : idleZone z′ ≡ true → length (s .spare) < 2 → Move s chained c p (remove p relisted) (p ∷ s .spare)
+  retires : idleZone z′ ≡ true → length (s .spare) < mostSpare → Move s chained c p (remove p relisted) (p ∷ s .spare)
   retires t u = record {
     size = stays .size;
     apart = stays .apart;

@@ -7,7 +7,7 @@ use native.Mathlib.Omega.{arith}
 use lib.ListN.{length, getD, drop, length-append}
 use lib.Seq.{drop-at}
 use Rattle.lemmas.proofs.Zeros.{length-zeros}
-use Rattle.model.specs.Numbers.{pageWords}
+use Rattle.model.specs.Numbers.{pageWords, zonePages}
 use Rattle.model.specs.Arena.{Segment, run, direct, zone, pages, total, Each}
 use Rattle.model.specs.Zone.{Zone}
 use Rattle.model.proofs.Arena.{total-append}
@@ -57,7 +57,7 @@ pub group-is : (n g : ℕ) (w : List ℕ) → getD (segmentEncoding (direct n g)
 unfolding segmentEncoding
 group-is n g w = refl
 
-pub zone-size : (x : Segment Zone) → kindOf x ≡ kindZone → pages x ≡ 8
+pub zone-size : (x : Segment Zone) → kindOf x ≡ kindZone → pages x ≡ zonePages
 zone-size (run n) h = absurd (omega arith)
 zone-size (direct n g) h = absurd (omega arith)
 zone-size (zone z) h = refl

@@ -69,7 +69,7 @@ module _ (n : ℕ) (w : List ℕ) (long : Long n w) where
   unfolding sizeAt segmentEncoding
   size-leads = bool (eqb (getD w 0 0) 3)
       (λ t. rw t (bool (leb zonePages n && isZone (take zoneWords w))
-      (λ u. rw u (λ _. as-zone (leb-true 8 n (and-left _ _ u)) (zone-iff (take zoneWords w) .0 (and-right (leb zonePages n) _ u))))
+      (λ u. rw u (λ _. as-zone (leb-true zonePages n (and-left _ _ u)) (zone-iff (take zoneWords w) .0 (and-right (leb zonePages n) _ u))))
       (λ u. rw u (λ h. absurd (omega arith)))))
       (λ t. rw t (bool (eqb (getD w 0 0) 1)
       (λ u. rw u (λ h. as-run (eqb-true _ 1 u) (size-if _ h)))
@@ -77,7 +77,7 @@ module _ (n : ℕ) (w : List ℕ) (long : Long n w) where
       (λ v. rw v (λ h. as-direct (eqb-true _ 2 v) (size-if _ h)))
       (λ v. rw v (λ h. absurd (omega arith)))))))
     where
-      as-zone : 8 ≤ n → (z : Zone) × ValidZone z × (take zoneWords w ≡ zoneEncoding z) → (x : Segment Zone) × Leads n w x × (8 ≡ pages x)
+      as-zone : zonePages ≤ n → (z : Zone) × ValidZone z × (take zoneWords w ≡ zoneEncoding z) → (x : Segment Zone) × Leads n w x × (zonePages ≡ pages x)
       as-zone h f = (zone (f .0), record { ok = (omega arith, f .1); within = h; words = f .2 }, refl)
 
       as-run : getD w 0 0 ≡ kindRun → (1 ≤ getD w 1 0) × (getD w 1 0 ≤ n) × (zeroFrom 2 (getD w 1 0) w ≡ true) × (sizeIf n w (zeroFrom 2 (getD w 1 0) w) ≡ getD w 1 0) → (x : Segment Zone) × Leads n w x × (sizeIf n w (zeroFrom 2 (getD w 1 0) w) ≡ pages x)
@@ -128,7 +128,7 @@ module _ (n : ℕ) (w : List ℕ) (long : Long n w) where
       (and-both (groupIn w) _ (and-both _ _ (le-leb 1 (getD w 2 0) (omega arith)) (le-leb (getD w 2 0) mostGroup (omega arith)))
       (rw s (is-zero 3 len w (omega (arith, long .0, l .within)) (omega (arith, l .ok .0)) (subst (λ v. Zero v 3 (pageWords * len)) (sym (l .words)) (direct-zero len g))))) ∙ s)
   leads-size (zone z) l =
-      let k : getD w 0 0 ≡ 3 = cc (front 8 0 w (omega arith), zone-first z) in
+      let k : getD w 0 0 ≡ 3 = cc (front zonePages 0 w (omega arith), zone-first z) in
       rw (eq-eqb _ 3 k, le-leb zonePages n (l .within), ap isZone (l .words) ∙ encoding-zone z (l .ok .1))
 
 -- The same as the code finds it, case by case -------------------------------------------------------------------------------------

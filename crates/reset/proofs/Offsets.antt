@@ -39,7 +39,7 @@ module _ (g p : ℕ) (r : List (Segment Zone)) where
   at-direct k = rw (eq-eqb g g refl) (cc (on k ((p + k) * pageBytes) refl))
 
   pub at-zone : (z : Zone) → offsetsAt g p (zone z ∷ r) ≡ offsetsIn g p 0 z ++ offsetsAt g (p + zonePages) r
-  at-zone z = λ j. chunkOffsets g (from j) (room (z .class)) (occupancy z .groups) ++ offsetsFrom g ((sym (on 8 ((p + zonePages) * pageBytes) refl)) j) (shown r)
+  at-zone z = λ j. chunkOffsets g (from j) (room (z .class)) (occupancy z .groups) ++ offsetsFrom g ((sym (on zonePages ((p + zonePages) * pageBytes) refl)) j) (shown r)
     where
       from : p * pageBytes ≡ p * pageBytes + 0 * room (z .class)
       from = omega arith

@@ -241,7 +241,7 @@ module _ {g c n p b i k : ℕ} {t : State} {w : List ℕ} (h : InZone g t c w n 
         pub gone-segments : decode v .segments ≡ release (p * pageBytes) (putZone p (putBack i (h .z)) (decode w .segments))
         gone-segments = rw decoded freed-as
 
-        pub gone-joined : Joined (putZone p (putBack i (h .z)) (decode w .segments)) p b 8 (h .stands .behind)
+        pub gone-joined : Joined (putZone p (putBack i (h .z)) (decode w .segments)) p b zonePages (h .stands .behind)
         gone-joined =
             joined-run _ p b _
             (put-apart (s .segments) p z _ (zone-begins s p b z (h .stands)) (h .good .valid .apart))

@@ -62,7 +62,7 @@ module _ {m : List (Segment Zone)} {p b a : ℕ} {z : Zone} (t : Between m p b a
     unfolding between-stands
     between-released =
         ap (joined (λ _. false) 0) (edit-stands between-stands freePages (omega arith) ∙ run-then (t .before) b _)
-        ∙ joined-local (t .before) (t .behind) b 8 a (omega arith) front (no-run-ends false false 0 (t .before) front (t .no-run) (λ _. refl)) (t .apart)
+        ∙ joined-local (t .before) (t .behind) b zonePages a (omega arith) front (no-run-ends false false 0 (t .before) front (t .no-run) (λ _. refl)) (t .apart)
 
     -- The run that they become part of.
     pub between-run : Stands (release (p * pageBytes) m) (p - b) 0 (run (b + zonePages + a))

@@ -85,7 +85,7 @@ list-swept c p (x ∷ r) ls h =
 -- ---- against the zone that stands at a page
 
 -- A page at which no zone is met stays; so does one in front of all segments.
-by-past : (c p q : ℕ) (x : Segment Zone) → (pages x ≡ 8 → p ≡ q → ⊥) → staysBy c p x q ≡ true
+by-past : (c p q : ℕ) (x : Segment Zone) → (pages x ≡ zonePages → p ≡ q → ⊥) → staysBy c p x q ≡ true
 by-past c p q (run n) h = refl
 by-past c p q (direct n g) h = refl
 by-past c p q (zone z) h = rw (ne-eqb p q (h refl)) (rw (cond-same _ true) (cond-same (idleZone z) true))

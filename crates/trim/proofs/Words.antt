@@ -117,7 +117,7 @@ module _ {w : List ℕ} (h : Lent w) (apart : Apart false (decode w .segments)) 
   -- What the steps on such words ask.
   module _ (n : ℕ) (all : n ≡ total m) {v : List ℕ} where
     pub give-asks : Encodes v (unlisted (z .class) p (decode w)) → (Lent v × (n ≡ total (decode v .segments))) ×
-        (Apart false (decode v .segments) × ((x : Segment Zone) × Stands (decode v .segments) p b x × (pages x ≡ 8) × (runPages x ≡ 0)))
+        (Apart false (decode v .segments) × ((x : Segment Zone) × Stands (decode v .segments) p b x × (pages x ≡ zonePages) × (runPages x ≡ 0)))
     give-asks k = ((lent k, in-words k (λ s. n ≡ total (s .segments)) all), (in-words k (λ s. Apart false (s .segments)) apart, (zone z, in-words k (λ s. Stands (s .segments) p b (zone z)) stands, refl, refl)))
 
     pub size-asks : Encodes v (released p (unlisted (z .class) p (decode w))) → (Lent v × (n ≡ total (decode v .segments))) × ((b′ : ℕ) × (x : Segment Zone) × Stands (decode v .segments) (p - b) b′ x)

@@ -19,7 +19,7 @@ slice-aggregate-check c = sym (length-take-le zoneWords (c .before .before .befo
 returns-2 : tie.Need-returns-2
 returns-2 c =
     c .pages-if .ensures ∙ rw (le-leb zonePages (c .before .before .before .before .before .args .left) (omega (arith, c .before .before .before .if1 .left)))
-    (ap (λ t. cond t 8 0) (c .before .check .ensures))
+    (ap (λ t. cond t zonePages 0) (c .before .check .ensures))
 
 pub zone-size-spec : {M : Type 1} → statement M
 zone-size-spec =

@@ -1,4 +1,5 @@
 -- `cut::take_zone` meets its contract. Assumes nothing.
+use Rattle.model.specs.Numbers.{zonePages}
 use Rattle.pages.proofs.Middle.{run-inside, run-part, run-put}
 use Rattle.model.specs.Arena.{zone}
 use native.Mathlib.Omega.{arith}
@@ -27,7 +28,7 @@ cut-zone-requires c κs =
     (run-part (h .0) (h .1 .1) (omega (arith, h .1 .2)), h .1 .2, omega arith, h .1 .3)
 
 returns : tie.Need-returns
-returns c = let h = c .before .before .before .before .before .pre in run-put (h .0) (h .1 .1) (omega (arith, h .1 .2)) 8 (zone _) _ (c .before .before .cut-zone .ensures)
+returns c = let h = c .before .before .before .before .before .pre in run-put (h .0) (h .1 .1) (omega (arith, h .1 .2)) zonePages (zone _) _ (c .before .before .cut-zone .ensures)
 
 pub take-zone-spec : {M : Type 1} → statement M
 take-zone-spec =
