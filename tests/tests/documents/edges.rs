@@ -31,15 +31,16 @@ pub fn named(root: &Path, crates: &BTreeSet<String>, own: &str) -> BTreeSet<Stri
 }
 
 fn enter(path: &Path, found: &mut BTreeSet<String>) {
+    if !path.exists() {
+        return;
+    }
     if path.is_dir() {
         for entry in fs::read_dir(path).expect("a folder") {
             enter(&entry.expect("an entry").path(), found);
         }
         return;
     }
-    let Ok(text) = fs::read_to_string(path) else {
-        return;
-    };
+    let text = fs::read_to_string(path).expect("UTF-8");
     let is_letter = |letter: char| letter.is_ascii_alphanumeric() || letter == '_';
     // A library of another crate's: `Rattle.NAME.`, where a crate's own go on with `·`.
     for behind in text.split("Rattle·").skip(1) {
@@ -50,12 +51,16 @@ fn enter(path: &Path, found: &mut BTreeSet<String>) {
         }
     }
     // The first name of a path in code.
-    let pieces: Vec<&str> = text.split("::").collect();
-    for piece in &pieces[..pieces.len() - 1] {
-        let start = piece.rfind(|letter| !is_letter(letter));
-        if let Some(start) = start {
-            let name = piece[start..].trim_start_matches(|letter| !is_letter(letter));
-            found.insert(name.to_string());
+    if path.extension().map_or(false, |kind| kind == "rt") {
+        let is_code = |line: &&str| !line.trim_start().starts_with("//");
+        let code: Vec<&str> = text.lines().filter(is_code).collect();
+        let code = code.join("\n");
+        for (at, _) in code.match_indices("::") {
+            let start = code[..at].rfind(|letter| !is_letter(letter));
+            let start = start.map_or(0, |before| before + 1);
+            if !code[..start].ends_with(':') {
+                found.insert(code[start..at].to_string());
+            }
         }
     }
 }

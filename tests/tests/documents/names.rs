@@ -7,7 +7,7 @@ use std::path::{Path, PathBuf};
 
 /// Words in backticks that are no names of the tree: of the bench program's lines and answers, of C and Rattle, of the kit and of shells;
 /// files that are built; and the signs of the cases.
-pub const FOREIGN: [&str; 33] = [
+pub const FOREIGN: [&str; 34] = [
     "?",
     ">",
     ".out",
@@ -25,6 +25,7 @@ pub const FOREIGN: [&str; 33] = [
     "rattle-kit-5b-plain",
     "memset",
     "search",
+    "omega",
     "N",
     "logic-built",
     "logic-built=trusted",
