@@ -56,10 +56,10 @@ fn enter(path: &Path, found: &mut BTreeSet<String>) {
         let code: Vec<&str> = text.lines().filter(is_code).collect();
         let code = code.join("\n");
         for (at, _) in code.match_indices("::") {
-            let start = code[..at].rfind(|letter| !is_letter(letter));
-            let start = start.map_or(0, |before| before + 1);
-            if !code[..start].ends_with(':') {
-                found.insert(code[start..at].to_string());
+            let mut names = code[..at].rsplit(|letter| !is_letter(letter));
+            let name = names.next().unwrap_or("");
+            if !code[..at - name.len()].ends_with(':') {
+                found.insert(name.to_string());
             }
         }
     }
