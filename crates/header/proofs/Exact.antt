@@ -123,9 +123,3 @@ module _ {w : List ℕ} {n : ℕ} {spare : List ℕ} {lists : List (List ℕ)} (
 
   pub encodes-header : Header w
   encodes-header = check-header w encodes-check
-
--- A second step works on what the first one left: what is made of the words read is made of what they encode.
-pub encodes-read {ℓ} : {A : Type ℓ} (f : ℕ → List ℕ → List (List ℕ) → A) {w : List ℕ} {n : ℕ} {spare : List ℕ} {lists : List (List ℕ)} → Encodes w n spare lists
-    → f (pagesIn w) (spareIn w) (listsIn w) ≡ f n spare lists
-encodes-read f {w} {n} {spare} {lists} h =
-    cc (pages-read h, spare-read h, lists-read h)
