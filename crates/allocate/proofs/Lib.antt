@@ -1,4 +1,5 @@
 pub mod Found
+pub mod Sourced
 pub mod Places
 pub mod Between
 pub mod Served

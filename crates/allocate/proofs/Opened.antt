@@ -3,7 +3,7 @@
 use Prim.Native.Nat.{ℕ, _*_, _<_}
 use mathlib.Core.Path.{_≡_, refl, sym, ap, _∙_, subst}
 use mathlib.Core.List.{List, [], _∷_, List·Memᴰ, List·Memᴰ·head}
-use mathlib.Core.Option.{none, some}
+use mathlib.Core.Option.{some}
 use native.Mathlib.Omega.{arith}
 use lib.ListN.{length, getD, set, drop}
 use Rattle.model.specs.Numbers.{pageBytes, zonePages, mostPages}
@@ -12,26 +12,31 @@ use Rattle.model.specs.declared.Refusal.the-variants.{NoRoom}
 use Rattle.model.specs.Arena.{Segment, zone}
 use Rattle.model.specs.Zone.{Zone, newZone}
 use Rattle.model.specs.State.{State, listOf, arranged, putZone}
-use Rattle.model.specs.Pages.{claim, carve}
+use Rattle.model.specs.Pages.{carve}
 use Rattle.model.specs.Valid.{Valid}
 use Rattle.model.specs.Calls.{Outcome}
-use Rattle.model.specs.Allocate.{opened, zoneFrom, fromSpare, chunkFrom}
+use Rattle.model.specs.Allocate.{sought, opened, zoneFrom, fromSpare, chunkFrom}
+use Rattle.model.proofs.Trimmed.{trimmed-empty}
+use Rattle.model.proofs.Sought.{sought-from}
 use Rattle.model.proofs.ValidAllocate.{chunk-valid}
 use Rattle.header.specs.declared.Front.the-variants.{Page, Nothing}
 use Rattle.header.specs.Front.{frontOf}
 use Rattle.header.specs.Keys.{keysOf}
 use Rattle.header.specs.Encoding.{listSlots}
 use Rattle.header.proofs.Kept.{fits-spare-pop}
+use Rattle.pages.specs.declared.Found.{Found}
 use Rattle.pages.specs.declared.Found.the-variants as search
-use Rattle.pages.specs.Places.{found}
 use Rattle.metadata.specs.Encoding.{encode}
 use Rattle.metadata.specs.Decoding.{decode}
-use Rattle.steps.specs.Lent.{Encodes, ZoneHere}
+use Rattle.steps.specs.Lent.{Encodes, ZoneHere, Good}
+use Rattle.steps.specs.Outcomes.{Makes}
 use Rattle.steps.specs.Moves.{fronted, spared, rezoned, carved}
 use Rattle.steps.proofs.Lent.{lent-decoded}
 use Rattle.steps.proofs.Kept.{had-room}
 use Rattle.allocate.specs.Asked.{Asked}
-use Rattle.allocate.proofs.Found.{front-page, front-nothing, found-run, found-nothing}
+use Rattle.allocate.specs.Finds.{Finds}
+use Rattle.allocate.proofs.Sourced.{none-sought, none-words, Sourced, sourced}
+use Rattle.allocate.proofs.Found.{front-page, front-nothing}
 use Rattle.steps.proofs.Zones.{zone-there}
 use Rattle.allocate.proofs.Places.{Free, free}
 use Rattle.allocate.proofs.Between.{follows, between}
@@ -49,19 +54,24 @@ module _ {w : List ℕ} {n c g : ℕ} (h : Asked w n c g) (empty : frontOf (list
   none-open : listOf s c ≡ []
   none-open = front-nothing (listOf s c) empty
 
+  classes : {v : List ℕ} → Good v n → c < length (decode v .lists)
+  classes k = omega (arith, k .lent .fits .classes, h .class)
+
   result-valid : (o : Outcome State) → chunkFrom c g s (listOf s c) ≡ o → Valid (o .after)
   result-valid o e = subst (λ x. Valid (x .after)) e (chunk-valid s (h .good .valid) g (h .least) (h .most) c (h .class) (listOf s c) refl)
 
-  -- The new zone at page p goes onto its list, where the segments are now m′ and the empty list is sp.
-  module _ (p : ℕ) (m′ : List (Segment Zone)) (sp : List ℕ) (rule : chunkFrom c g s (listOf s c) ≡ opened c s m′ p sp) (s₂ : State) (same : s₂ .lists ≡ s .lists) {w₂ : List ℕ} (k : Encodes w₂ s₂) where
+  -- The new zone at page p goes onto its list. The state t, in which that list is empty, was laid anew: the segments are now m′ and the
+  -- empty list is sp.
+  module _ (t : State) (bare : listOf t c ≡ []) (classes : c < length (t .lists)) (p : ℕ) (m′ : List (Segment Zone)) (sp : List ℕ)
+      (rule : chunkFrom c g s (listOf s c) ≡ opened c t m′ p sp) (s₂ : State) (same : s₂ .lists ≡ t .lists) {w₂ : List ℕ} (k : Encodes w₂ s₂) where
     list-room : length (keysOf (decode w₂ .lists)) < listSlots
     list-room =
-        let ok : Valid (arranged s m′ (set (s .lists) c (p ∷ listOf s c)) sp) = subst (λ l. Valid (arranged s m′ (set (s .lists) c (p ∷ l)) sp)) (sym none-open) (result-valid (opened c s m′ p sp) rule) in
-        subst (λ x. length (keysOf x) < listSlots) (sym (ap (λ x. x .lists) (lent-decoded k) ∙ same)) (had-room s c p m′ sp ok (omega (arith, h .good .lent .fits .classes, h .class)))
+        let ok : Valid (arranged t m′ (set (t .lists) c (p ∷ listOf t c)) sp) = subst (λ l. Valid (arranged t m′ (set (t .lists) c (p ∷ l)) sp)) (sym bare) (result-valid (opened c t m′ p sp) rule) in
+        subst (λ x. length (keysOf x) < listSlots) (sym (ap (λ x. x .lists) (lent-decoded k) ∙ same)) (had-room t c p m′ sp ok classes)
 
     list-put : s₂ .segments ≡ m′ → s₂ .spare ≡ sp → {w₃ : List ℕ} → w₃ ≡ encode (fronted c p (decode w₂)) → w₃ ≡ encode (chunkFrom c g s (listOf s c) .after)
     list-put a b e =
-        let ls = ap (λ ls. set ls c (p ∷ getD ls c [])) same ∙ ap (λ l. set (s .lists) c (p ∷ l)) none-open in
+        let ls = ap (λ ls. set ls c (p ∷ getD ls c [])) same ∙ ap (λ l. set (t .lists) c (p ∷ l)) bare in
         follows (λ x. fronted c p x) k e ∙ (λ i. encode (record { segments = a i; lists = ls i; spare = b i })) ∙ ap (λ o. encode (o .after)) (sym rule)
 
   -- The first zone of the empty list ------------------------------------------------------------------------------------------------
@@ -100,52 +110,69 @@ module _ {w : List ℕ} {n c g : ℕ} (h : Asked w n c g) (empty : frontOf (list
         renewed-words = between s₁ (opened c s (putZone p new m) p ps .after) (behind-words .fits) (result-valid (opened c s (putZone p new m) p ps) renew-rule) (follows (λ x. rezoned p new x) behind-words e₂)
 
         pub renewed-room : length (keysOf (decode w₂ .lists)) < listSlots
-        renewed-room = list-room p (putZone p new m) ps renew-rule (rezoned p new s₁) refl renewed-words
+        renewed-room = list-room s none-open (classes (h .good)) p (putZone p new m) ps renew-rule (rezoned p new s₁) refl renewed-words
 
         pub renewed : {w₃ : List ℕ} → w₃ ≡ encode (fronted c p (decode w₂)) → w₃ ≡ encode (chunkFrom c g s (listOf s c) .after)
-        renewed e₃ = list-put p (putZone p new m) ps renew-rule (rezoned p new s₁) refl renewed-words refl (ap (drop 1) spare-is) e₃
+        renewed e₃ = list-put s none-open (classes (h .good)) p (putZone p new m) ps renew-rule (rezoned p new s₁) refl renewed-words refl (ap (drop 1) spare-is) e₃
 
   -- Pages from the runs -------------------------------------------------------------------------------------------------------------
 
   module _ (bare : frontOf (s .spare) ≡ Nothing) where
-    zone-rule : chunkFrom c g s (listOf s c) ≡ zoneFrom c g s (claim zonePages m)
+    zone-rule : chunkFrom c g s (listOf s c) ≡ zoneFrom c g s (sought zonePages s)
     zone-rule = ap (chunkFrom c g s) none-open ∙ ap (fromSpare c g s) (front-nothing (s .spare) bare)
 
+    some-pages : 0 < zonePages
+    some-pages = omega arith
+
     -- There are none.
-    no-zone : found (claim zonePages m) ≡ search.Nothing → chunkFrom c g s (listOf s c) ≡ zoneFrom c g s none
-    no-zone e = zone-rule ∙ ap (zoneFrom c g s) (found-nothing (claim zonePages m) e)
+    pub no-zone : {v : List ℕ} {r : Found} → r ≡ search.Nothing → Finds s (sought zonePages s) r v → Makes (chunkFrom c g s (listOf s c)) (Refused NoRoom) v
+    no-zone told e =
+        let rule = zone-rule ∙ ap (zoneFrom c g s) (none-sought (h .good) some-pages told e) in
+        (ap (λ o. o .answer) (sym rule), none-words (h .good) some-pages told e ∙ ap (λ o. encode (o .after)) (sym rule))
 
-    pub no-zone-answer : found (claim zonePages m) ≡ search.Nothing → Refused NoRoom ≡ chunkFrom c g s (listOf s c) .answer
-    no-zone-answer e = ap (λ o. o .answer) (sym (no-zone e))
+    module _ {v : List ℕ} {r : Found} {p k : ℕ} (told : r ≡ search.Run p k) (e : Finds s (sought zonePages s) r v) where
+      from : Sourced (h .good) some-pages v p k
+      from = sourced (h .good) some-pages told e
 
-    pub no-zone-words : found (claim zonePages m) ≡ search.Nothing → w ≡ encode (chunkFrom c g s (listOf s c) .after)
-    no-zone-words e = h .good .lent .words ∙ ap (λ o. encode (o .after)) (sym (no-zone e))
+      abbrev t : State
+      t = decode v
 
-    module _ {p k : ℕ} (run-found : found (claim zonePages m) ≡ search.Run p k) where
       abbrev m′ : List (Segment Zone)
-      m′ = carve (record { page = p; size = k }) zonePages (zone new) m
+      m′ = carve (record { page = p; size = k }) zonePages (zone new) (t .segments)
 
-      claimed : claim zonePages m ≡ some (record { page = p; size = k })
-      claimed = found-run (claim zonePages m) p k run-found
+      open-rule : chunkFrom c g s (listOf s c) ≡ opened c t m′ p (t .spare)
+      open-rule =
+          zone-rule ∙ ap (zoneFrom c g s) (from .is)
+          ∙ ap (λ x. zoneFrom c g s (some (record { state = from .source .state; free = x }))) (from .free)
+          ∙ ap (λ u. opened c u (carve (record { page = p; size = k }) zonePages (zone new) (u .segments)) p (u .spare)) (sym (from .decoded))
 
-      open-rule : chunkFrom c g s (listOf s c) ≡ opened c s m′ p (s .spare)
-      open-rule = zone-rule ∙ ap (zoneFrom c g s) claimed
+      -- The class's list is empty in the state that the pages are taken from, too.
+      open-bare : listOf t c ≡ []
+      open-bare =
+          ap (λ u. listOf u c) (from .decoded)
+          ∙ sought-from zonePages s (from .source) (from .is) .either (λ u. listOf u c ≡ []) none-open (trimmed-empty s c none-open)
 
-      pub open-free : Free m zonePages p k
-      open-free = free m zonePages p k (omega arith) claimed
+      pub open-good : Good v n
+      open-good = from .good
+
+      pub open-free : Free (t .segments) zonePages p k
+      open-free = free (t .segments) zonePages p k some-pages (from .claimed)
 
       pub open-page : p < mostPages
-      open-page = omega (arith, open-free .inside, open-free .enough, h .good .lent .fits .most)
+      open-page = omega (arith, open-free .inside, open-free .enough, open-good .lent .fits .most)
 
       pub open-answer : Granted (p * pageBytes) ≡ chunkFrom c g s (listOf s c) .answer
       open-answer = ap (λ o. o .answer) (sym open-rule)
 
-      module _ {w₁ : List ℕ} (e : w₁ ≡ encode (carved (record { page = p; size = k }) zonePages (zone new) s)) where
-        pub open-words : Encodes w₁ (carved (record { page = p; size = k }) zonePages (zone new) s)
-        open-words = between s (opened c s m′ p (s .spare) .after) (h .good .lent .fits) (result-valid (opened c s m′ p (s .spare)) open-rule) e
+      abbrev t₁ : State
+      t₁ = carved (record { page = p; size = k }) zonePages (zone new) t
+
+      module _ {w₁ : List ℕ} (f : w₁ ≡ encode (carved (record { page = p; size = k }) zonePages (zone new) (decode v))) where
+        pub open-words : Encodes w₁ t₁
+        open-words = between t (opened c t m′ p (t .spare) .after) (open-good .lent .fits) (result-valid (opened c t m′ p (t .spare)) open-rule) f
 
         pub open-room : length (keysOf (decode w₁ .lists)) < listSlots
-        open-room = list-room p m′ (s .spare) open-rule (carved (record { page = p; size = k }) zonePages (zone new) s) refl open-words
+        open-room = list-room t open-bare (classes open-good) p m′ (t .spare) open-rule t₁ refl open-words
 
         pub opened-words : {w₂ : List ℕ} → w₂ ≡ encode (fronted c p (decode w₁)) → w₂ ≡ encode (chunkFrom c g s (listOf s c) .after)
-        opened-words e₂ = list-put p m′ (s .spare) open-rule (carved (record { page = p; size = k }) zonePages (zone new) s) refl open-words refl refl e₂
+        opened-words e₂ = list-put t open-bare (classes open-good) p m′ (t .spare) open-rule t₁ refl open-words refl refl e₂

@@ -3,7 +3,6 @@ use Prim.Native.Nat.{ℕ, _*_, _≤_, _<_}
 use mathlib.Core.Path.{_≡_, refl, sym, ap, _∙_, subst}
 use mathlib.Core.Bool.{true, false}
 use mathlib.Core.List.{List}
-use mathlib.Core.Option.{some}
 use native.Mathlib.Omega.{arith}
 use lib.Dec.{leb}
 use borrow.Author.Tests.{leb-true, lt-ltb, le-ltb}
@@ -15,17 +14,17 @@ use Rattle.model.specs.declared.Refusal.the-variants.{BadGroup, BadSize, NoRoom
 use Rattle.model.specs.Sizes.{classOf, pagesFor}
 use Rattle.model.specs.Arena.{direct}
 use Rattle.model.specs.State.{State, listOf}
-use Rattle.model.specs.Pages.{claim}
 use Rattle.model.specs.Calls.{Outcome, refuses, groupOk, sizeOk}
-use Rattle.model.specs.Allocate.{directFrom, chunkFrom, supplied, allocate}
+use Rattle.model.specs.Allocate.{sought, directFrom, chunkFrom, supplied, allocate}
+use Rattle.pages.specs.declared.Found.{Found}
 use Rattle.pages.specs.declared.Found.the-variants as search
-use Rattle.pages.specs.Places.{found}
 use Rattle.metadata.specs.Encoding.{encode}
 use Rattle.metadata.specs.Decoding.{decode}
 use Rattle.steps.specs.Lent.{Good}
 use Rattle.steps.specs.Moves.{carved}
 use Rattle.steps.specs.Outcomes.{Makes}
-use Rattle.allocate.proofs.Found.{found-run, found-nothing}
+use Rattle.allocate.specs.Finds.{Finds}
+use Rattle.allocate.proofs.Sourced.{none-sought, none-words, Sourced, sourced}
 use Rattle.allocate.proofs.Places.{Free, free}
 
 -- What makes an outcome makes one that is the same.
@@ -48,7 +47,7 @@ module _ (s : State) (g n : ℕ) where
   pub small : (k : ℕ) → n < largeSize → k ≡ classOf n → chunkFrom k g s (listOf s k) ≡ supplied g n s
   small k h e = ap (λ j. chunkFrom j g s (listOf s j)) e ∙ rw (lt-ltb n largeSize h)
 
-  pub large : largeSize ≤ n → directFrom (pagesFor n) g s (claim (pagesFor n) (s .segments)) ≡ supplied g n s
+  pub large : largeSize ≤ n → directFrom (pagesFor n) g s (sought (pagesFor n) s) ≡ supplied g n s
   large h = rw (le-ltb n largeSize h)
 
 -- Whole pages.
@@ -56,18 +55,24 @@ module _ {w : List ℕ} {n need : ℕ} (h : Good w n) (pos : 0 < need) (g : ℕ)
   abbrev s : State
   s = decode w
 
-  pub no-pages : found (claim need (s .segments)) ≡ search.Nothing → Makes (directFrom need g s (claim need (s .segments))) (Refused NoRoom) w
-  no-pages e = made (ap (directFrom need g s) (sym (found-nothing (claim need (s .segments)) e))) (refl, h .lent .words)
+  pub no-pages : {v : List ℕ} {r : Found} → r ≡ search.Nothing → Finds s (sought need s) r v → Makes (directFrom need g s (sought need s)) (Refused NoRoom) v
+  no-pages told e = made (ap (directFrom need g s) (sym (none-sought h pos told e))) (refl, none-words h pos told e)
 
-  module _ {p k : ℕ} (e : found (claim need (s .segments)) ≡ search.Run p k) where
-    claimed : claim need (s .segments) ≡ some (record { page = p; size = k })
-    claimed = found-run (claim need (s .segments)) p k e
+  module _ {v : List ℕ} {r : Found} {p k : ℕ} (told : r ≡ search.Run p k) (e : Finds s (sought need s) r v) where
+    from : Sourced h pos v p k
+    from = sourced h pos told e
 
-    pub pages-free : Free (s .segments) need p k
-    pages-free = free (s .segments) need p k pos claimed
+    pub pages-good : Good v n
+    pages-good = from .good
+
+    pub pages-free : Free (decode v .segments) need p k
+    pages-free = free (decode v .segments) need p k pos (from .claimed)
 
     pub pages-page : p < mostPages
-    pages-page = omega (arith, pages-free .inside, pages-free .enough, h .lent .fits .most)
+    pages-page = omega (arith, pages-free .inside, pages-free .enough, pages-good .lent .fits .most)
 
-    pub pages-taken : {w₁ : List ℕ} → w₁ ≡ encode (carved (record { page = p; size = k }) need (direct need g) s) → Makes (directFrom need g s (claim need (s .segments))) (Granted (p * pageBytes)) w₁
-    pages-taken f = made (ap (directFrom need g s) (sym claimed)) (refl, f)
+    pub pages-taken : {w₁ : List ℕ} → w₁ ≡ encode (carved (record { page = p; size = k }) need (direct need g) (decode v)) → Makes (directFrom need g s (sought need s)) (Granted (p * pageBytes)) w₁
+    pages-taken f = made (ap (directFrom need g s) (sym (from .is))) (
+      ap (λ x. Granted (x .page * pageBytes)) (sym (from .free)),
+      f ∙ ap (λ u. encode (carved (record { page = p; size = k }) need (direct need g) u)) (from .decoded) ∙ ap (λ x. encode (carved x need (direct need g) (from .source .state))) (sym (from .free)),
+    )

@@ -2,15 +2,15 @@
 // steps; the words that it leaves are those of the state that the rule makes.
 ghost use mathlib.Core.Path.{_≡_};
 ghost use Prim.Native.Nat.{_≤_, _<_};
-ghost use Rattle.model.specs.Pages.{claim};
 ghost use Rattle.model.specs.State.{listOf};
 ghost use Rattle.model.specs.Calls.{sizeOk};
-ghost use Rattle.model.specs.Allocate.{directFrom, chunkFrom, supplied, allocate as allocated};
+ghost use Rattle.model.specs.Allocate.{sought, directFrom, chunkFrom, supplied, allocate as allocated};
 ghost use Rattle.header.specs.declared.Front.the-variants.{Page, Nothing};
 ghost use Rattle.header.specs.Front.{frontOf};
 ghost use Rattle.metadata.specs.Decoding.{decode};
 ghost use Rattle.steps.specs.Lent.{Good};
 ghost use Rattle.allocate.specs.Asked.{Asked};
+ghost use Rattle.allocate.specs.Finds.{Finds};
 ghost use Rattle.steps.specs.Outcomes.{Makes};
 ghost use Rattle.model.specs.Numbers.{mostGroup, mostBytes};
 use header::Front;
@@ -22,14 +22,30 @@ use model::numbers::PAGE_BYTES;
 use model::numbers::ZONE_PAGES;
 use pages::Found;
 
-// ---- whole pages
+// ---- pages
+
+// Finds a run of `need` pages, for a direct block or a zone: as the words are or, if there is none, as trim leaves them. It trims only
+// where that gives one, so that nothing has changed where nothing is found.
+fn find_pages(words: &mut [u32], n: usize, need: usize) -> Found
+    requires { ⌜ Good (now words) n × (0 < need) ⌝ }
+    ensures { λ r. ⌜ Finds (decode (now (words .entry))) (sought need (decode (now (words .entry)))) r (now (words .exit)) ⌝ }
+{
+    if let Found::Run { at, len } = steps::find_run(words, n, need) {
+        return Found::Run { at: at, len: len };
+    }
+    if steps::fits_trimmed(words, n, need) {
+        trim::trim_all(words, n);
+        return steps::find_run(words, n, need);
+    }
+    Found::Nothing
+}
 
 // `need` whole pages for the group.
 fn supply_pages(words: &mut [u32], n: usize, group: u32, need: usize) -> Answer
     requires { ⌜ Good (now words) n × (0 < need) ⌝ }
-    ensures { λ r. ⌜ Makes (directFrom need group (decode (now (words .entry))) (claim need (decode (now (words .entry)) .segments))) r (now (words .exit)) ⌝ }
+    ensures { λ r. ⌜ Makes (directFrom need group (decode (now (words .entry))) (sought need (decode (now (words .entry))))) r (now (words .exit)) ⌝ }
 {
-    let Found::Run { at, len } = steps::find_run(words, n, need) else {
+    let Found::Run { at, len } = find_pages(words, n, need) else {
         return Answer::Refused(Refusal::NoRoom);
     };
     steps::take_direct(words, n, at, len, need, group);
@@ -72,7 +88,7 @@ fn open_zone(words: &mut [u32], n: usize, class: u32, group: u32) -> Answer
     requires { ⌜ (frontOf (listOf (decode (now words)) class) ≡ Nothing) × (frontOf (decode (now words) .spare) ≡ Nothing) ⌝ }
     ensures { λ r. ⌜ Makes (chunkFrom class group (decode (now (words .entry))) (listOf (decode (now (words .entry))) class)) r (now (words .exit)) ⌝ }
 {
-    let Found::Run { at, len } = steps::find_run(words, n, ZONE_PAGES) else {
+    let Found::Run { at, len } = find_pages(words, n, ZONE_PAGES) else {
         return Answer::Refused(Refusal::NoRoom);
     };
     steps::take_zone(words, n, at, len, class, group);

@@ -17,16 +17,14 @@ use Rattle.model.specs.declared.Operation.the-variants.{Allocate, Free, Reset}
 use Rattle.model.specs.Sizes.{roomFor}
 use Rattle.model.specs.Arena.{total}
 use Rattle.model.specs.State.{State}
-use Rattle.model.specs.PageMap.{occupancy, PageMap, pageMap, idle, idleZone, Block, groupOf, roomOf, blockAt}
+use Rattle.model.specs.PageMap.{PageMap, pageMap, Block, groupOf, roomOf, blockAt}
 use Rattle.model.specs.Valid.{Valid}
-use Rattle.model.specs.Pages.{joined}
 use Rattle.model.specs.Calls.{Action, group, trim, query, listing, Outcome, grantOf, groupOk}
 use Rattle.model.specs.Free.{freeBlock, free, reset}
 use Rattle.model.specs.Trim.{trimmed}
 use Rattle.model.specs.Listing.{listingText}
 use Rattle.model.specs.Perform.{asked, serve}
-use Rattle.model.proofs.Joins.{joined-retold, total-joined}
-use Rattle.model.proofs.Blocks.{joined-blocks}
+use Rattle.model.proofs.Trimmed.{trimmed-still}
 use Rattle.model.proofs.Allocated.{Allocated, gives, denies, allocated, group-least}
 use Rattle.model.proofs.Freed.{freed-only}
 use Rattle.model.proofs.Reset.{isOf, without, reset-blocks}
@@ -213,16 +211,13 @@ module _ (n : ℕ) (s : State) (l : List Entry) (v : Valid s) (agree : (o : ℕ)
       }))
       (λ t. rw t (unchanged nothing s refl refl))
 
-  trimmed-map : pageMap (trimmed s) ≡ joined idle 0 (pageMap s)
-  trimmed-map = joined-retold occupancy idleZone idle (λ z. refl) 0 (s .segments)
-
   after-trim : After n s l nothing (trimmed s)
   after-trim = record {
     entries = l;
     live = refl;
-    agree = λ o. cc (trimmed-map, joined-blocks (pageMap s) o, agree o);
+    agree = λ o. trimmed-still s .0 o ∙ agree o;
     single = single;
-    size = ap (λ m. total m) trimmed-map ∙ total-joined idle 0 (pageMap s) ∙ omega arith;
+    size = trimmed-still s .1;
     change = equal refl;
   }
 

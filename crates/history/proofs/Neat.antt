@@ -2,20 +2,20 @@
 -- keep them so. Assumes nothing.
 use Prim.Native.Nat.{ℕ, zero, suc, _+_, _-_, _*_, _≤_, _<_}
 use mathlib.Core.Path.{_≡_, refl, sym, _∙_, ap}
-use mathlib.Core.List.{[], _∷_, _++_, List·Memᴰ·head, List·Memᴰ·tail}
+use mathlib.Core.List.{[], _∷_, _++_}
 use mathlib.Core.Option.{some}
 use mathlib.Core.Bool.{Bool, true, false}
 use native.Mathlib.Omega.{arith}
 use lib.Dec.{ltb, leb}
-use borrow.Author.Tests.{leb-true, leb-false, ltb-true, ltb-false, lt-ltb, le-ltb}
+use borrow.Author.Tests.{leb-true, leb-false, ltb-true, ltb-false, lt-ltb, le-ltb, le-leb}
 use Rattle.lemmas.proofs.Cases.{bool, true-false, clash}
 use Rattle.model.specs.Numbers.{pageBytes, zoneBytes, zonePages}
 use Rattle.model.specs.Arena.{Segment, run, direct, zone, pages, bytes, total, locate, edit, Each}
 use Rattle.model.specs.PageMap.{Occupancy, PageMap, idle, whole}
-use Rattle.model.specs.Pages.{FreeRun, claim, withRun, joined, freePages, release}
+use Rattle.model.specs.Pages.{FreeRun, claim, hasRun, withRun, joined, freePages, release}
 use Rattle.model.proofs.Arena.{split, locate-mid, each-edit, same-segment}
-use Rattle.model.proofs.Claim.{HasRun, claim-found}
-use Rattle.model.proofs.Joins.{run-append}
+use Rattle.model.proofs.Claim.{claim-found}
+use Rattle.model.proofs.Joins.{some-run, run-append}
 use Rattle.history.specs.Rows.{isClear, clearThere, Clear, Row}
 
 -- A trimmed map: runs have pages and stand apart, direct blocks have pages, every zone has a live chunk. (b: a run stands just before.)
@@ -46,6 +46,13 @@ joined-neat f n [] h = neat-run n [] tt
 joined-neat f n (run k ∷ r) h = joined-neat f (n + k) r (h .1)
 joined-neat f n (direct k g ∷ r) h = neat-run n _ (h .0, joined-neat f 0 r (h .1))
 joined-neat f n (zone l ∷ r) h = bool (f l) (λ t. rw t (joined-neat f _ r (h .1))) (λ t. rw t (neat-run n _ (h .0 t, joined-neat f 0 r (h .1))))
+
+-- Nothing is left to join: trim leaves a trimmed map as it is.
+pub neat-again : (m : PageMap) → (Neat false m → joined idle 0 m ≡ m) × ((n : ℕ) → 0 < n → Neat true m → joined idle n m ≡ run n ∷ m)
+neat-again [] = (λ h. refl, λ n p h. sym (some-run n [] p))
+neat-again (run k ∷ r) = (λ h. ap (λ n. joined idle n r) (let q : 0 + k ≡ k = omega arith in q) ∙ neat-again r .1 k (h .1) (h .2), λ n p h. true-false refl (h .0))
+neat-again (direct k g ∷ r) = (λ h. ap (λ l. direct k g ∷ l) (neat-again r .0 (h .1)), λ n p h. cc (some-run n (direct k g ∷ joined idle 0 r) p, neat-again r .0 (h .1)))
+neat-again (zone l ∷ r) = (λ h. rw (h .0) (ap (λ q. zone l ∷ q) (neat-again r .0 (h .1))), λ n p h. rw (h .0) (cc (some-run n (zone l ∷ joined idle 0 r) p, neat-again r .0 (h .1))))
 
 neat-fit : (b : Bool) (m : PageMap) → Neat b m → Each (Fit (λ _. false)) m
 neat-fit b [] h = tt
@@ -83,27 +90,27 @@ clear-past x r q c = ap (λ k. clearThere (locate k r)) (let e : q * pageBytes �
 row-past : (n p : ℕ) (x : Segment Occupancy) (r : PageMap) → pages x ≤ p → ((q : ℕ) → p ≤ q → q < p + n → Clear (x ∷ r) q) → Row n r
 row-past n p x r h c = (p - pages x, λ q a b. clear-past x r q (c _ (omega arith) (omega arith)))
 
-later : (n : ℕ) (x : Segment Occupancy) (r : PageMap) → HasRun n r → HasRun n (x ∷ r)
-later n x r h = (h .0, List·Memᴰ·tail (h .1), h .2)
-
 -- the page p is in the first segment
 clear-first : (x : Segment Occupancy) (r : PageMap) (p : ℕ) → p < pages x → Clear (x ∷ r) p → isClear x ≡ true
 clear-first x r p h c = rw (lt-ltb (p * pageBytes) (bytes x) (omega arith)) at c
 
+behind-run : (n k : ℕ) (r : PageMap) → hasRun n r ≡ true → hasRun n (run k ∷ r) ≡ true
+behind-run n k r e = bool (leb n k) (λ t. rw t) (λ t. rw t e)
+
 -- In a neat map a row of n clear pages lies in one run.
-pub row-run : (n : ℕ) → 0 < n → (b : Bool) (m : PageMap) → Neat b m → Row n m → HasRun n m
+pub row-run : (n : ℕ) → 0 < n → (b : Bool) (m : PageMap) → Neat b m → Row n m → hasRun n m ≡ true
 row-run n pos b [] h w = true-false (w .1 (w .0) (omega arith) (omega arith)) refl
 row-run n pos b (run k ∷ r) h w = bool (ltb (w .0) k)
     (λ t. bool (leb (w .0 + n) k)
-    (λ u. (k, List·Memᴰ·head refl, omega (arith, leb-true)))
+    (λ u. rw (le-leb n k (omega (arith, leb-true))))
     (λ u. absurd (front-taken r (h .2) (clear-past (run k) r 0 (w .1 (k + 0) (omega (arith, ltb-true)) (omega (arith, leb-false)))))))
-    (λ t. later n (run k) r (row-run n pos true r (h .2) (row-past n (w .0) (run k) r (ltb-false (w .0) k t) (w .1))))
+    (λ t. behind-run n k r (row-run n pos true r (h .2) (row-past n (w .0) (run k) r (ltb-false (w .0) k t) (w .1))))
 row-run n pos b (direct k g ∷ r) h w = bool (ltb (w .0) k)
     (λ t. true-false (clear-first (direct k g) r (w .0) (ltb-true (w .0) k t) (w .1 (w .0) (omega arith) (omega arith))) refl)
-    (λ t. later n _ r (row-run n pos false r (h .1) (row-past n (w .0) (direct k g) r (ltb-false (w .0) k t) (w .1))))
+    (λ t. (row-run n pos false r (h .1) (row-past n (w .0) (direct k g) r (ltb-false (w .0) k t) (w .1))))
 row-run n pos b (zone l ∷ r) h w = bool (ltb (w .0) zonePages)
     (λ t. true-false (cc (clear-first (zone l) r (w .0) (ltb-true (w .0) zonePages t) (w .1 (w .0) (omega arith) (omega arith)))) refl)
-    (λ t. later n (zone l) r (row-run n pos false r (h .1) (row-past n (w .0) (zone l) r (ltb-false (w .0) zonePages t) (w .1))))
+    (λ t. (row-run n pos false r (h .1) (row-past n (w .0) (zone l) r (ltb-false (w .0) zonePages t) (w .1))))
 
 -- What the claim finds is a row of clear pages.
 pub found-row : (n : ℕ) (m : PageMap) (h : FreeRun) → 0 < n → claim n m ≡ some h → Row n m

@@ -1,8 +1,9 @@
--- Requests of whole pages, and returns by which no chunk comes back, are functions of the page map: what they answer and which page
--- map they leave. From a trimmed page map such a request is refused exactly when no row of pages is clear. Assumes nothing.
+-- On a trimmed page map, requests of whole pages and returns by which no chunk comes back are functions of it: what they answer and
+-- which page map they leave, which is a trimmed one again. Such a request is refused exactly when no row of pages is clear. Assumes
+-- nothing.
 use Prim.Native.Nat.{ℕ, _*_, _≤_, _<_}
 use mathlib.Core.Path.{_≡_, refl, sym, _∙_, ap}
-use mathlib.Core.Option.{Option, none, some}
+use mathlib.Core.Option.{Option, none, some, Option·map}
 use mathlib.Core.Bool.{true, false, cond}
 use native.Mathlib.Omega.{arith}
 use lib.Dec.{eqb}
@@ -20,13 +21,16 @@ use Rattle.model.specs.State.{State}
 use Rattle.model.specs.PageMap.{occupancy, PageMap, pageMap, Block, whole, chunk, groupOf, blockAt}
 use Rattle.model.specs.Pages.{FreeRun, claim, carve, release}
 use Rattle.model.specs.Calls.{isRefused, groupOk, sizeOk}
-use Rattle.model.specs.Allocate.{directFrom, allocate}
+use Rattle.model.specs.Allocate.{foundIn, searched, sought, directFrom, allocate}
+use Rattle.model.specs.Trim.{trimmed}
 use Rattle.model.specs.Free.{freeBlock, free}
 use Rattle.model.specs.Perform.{asked}
 use Rattle.model.proofs.Claim.{claim-found, claim-none, claim-retold}
 use Rattle.model.proofs.Joins.{carve-retold, release-retold}
+use Rattle.model.proofs.Trimmed.{trimmed-map}
+use Rattle.model.proofs.Sought.{sought-first, sought-second}
 use Rattle.history.specs.Rows.{Row}
-use Rattle.history.proofs.Neat.{Neat, release-neat, carve-neat, row-run, found-row}
+use Rattle.history.proofs.Neat.{Neat, neat-again, release-neat, carve-neat, row-run, found-row}
 
 -- The steps on page maps -------------------------------------------------------------------------------------------------------
 
@@ -71,18 +75,29 @@ free-says s g o = bool (groupOk g) (λ t. rw t (go (blockAt (pageMap s) o))) (λ
     go none = refl
     go (some b) = bool (eqb (groupOf b) g) (λ t. rw t) (λ t. rw t)
 
-direct-map : (s : State) (n g : ℕ) (h : Option FreeRun) → pageMap ((directFrom n g s h) .after) ≡ mapDirect n g (pageMap s) h
+-- There a second search finds what the first did: nothing is to be given back.
+neat-sought : (s : State) (n : ℕ) → Neat false (pageMap s) → sought n s ≡ searched n s
+neat-sought s n h = go (claim n (s .segments)) refl
+  where
+    again : claim n (trimmed s .segments) ≡ claim n (s .segments)
+    again = sym (claim-retold occupancy n _) ∙ ap (claim n) (trimmed-map s ∙ neat-again (pageMap s) .0 h) ∙ claim-retold occupancy n _
+
+    go : (r : Option FreeRun) → claim n (s .segments) ≡ r → sought n s ≡ searched n s
+    go none e = sought-second n s e ∙ ap (Option·map (foundIn (trimmed s))) (again ∙ e) ∙ sym (ap (Option·map (foundIn s)) e)
+    go (some r) e = sought-first n s r e ∙ sym (ap (Option·map (foundIn s)) e)
+
+direct-map : (s : State) (n g : ℕ) (h : Option FreeRun) → pageMap ((directFrom n g s (Option·map (foundIn s) h)) .after) ≡ mapDirect n g (pageMap s) h
 direct-map s n g none = refl
 direct-map s n g (some h) = carve-retold occupancy h n _ (s .segments)
 
-direct-says : (s : State) (n g : ℕ) (h : Option FreeRun) → (directFrom n g s h) .answer ≡ sayDirect h
+direct-says : (s : State) (n g : ℕ) (h : Option FreeRun) → (directFrom n g s (Option·map (foundIn s) h)) .answer ≡ sayDirect h
 direct-says s n g none = refl
 direct-says s n g (some h) = refl
 
-allocate-both : (s : State) (g n : ℕ) → 8192 ≤ n → (pageMap ((allocate g n s) .after) ≡ mapAfter (pageMap s) g (Allocate n)) × ((allocate g n s) .answer ≡ sayAt (pageMap s) g (Allocate n))
-allocate-both s g n h = rw (le-ltb n 8192 h) (bool (groupOk g)
+allocate-both : (s : State) (g n : ℕ) → Neat false (pageMap s) → 8192 ≤ n → (pageMap ((allocate g n s) .after) ≡ mapAfter (pageMap s) g (Allocate n)) × ((allocate g n s) .answer ≡ sayAt (pageMap s) g (Allocate n))
+allocate-both s g n k h = rw (le-ltb n 8192 h) (bool (groupOk g)
     (λ t. rw t (bool (sizeOk n)
-    (λ u. rw (u, claim-retold occupancy _ _) (direct-map s _ g (claim (pagesFor n) (s .segments)), direct-says s _ g (claim (pagesFor n) (s .segments))))
+    (λ u. rw (u, neat-sought s (pagesFor n) k, claim-retold occupancy (pagesFor n) (s .segments)) (direct-map s _ g (claim (pagesFor n) (s .segments)), direct-says s _ g (claim (pagesFor n) (s .segments))))
     (λ u. rw u (refl, refl))))
     (λ t. rw t (refl, refl)))
 
@@ -96,15 +111,15 @@ free-map s g o a = bool (groupOk g) (λ t. rw t (go t (blockAt (pageMap s) o) re
         (λ u. absurd (let r : isRefused (sayAt (pageMap s) g (Free o)) ≡ true = ap isRefused (sym (free-says s g o)) ∙ a c i h e in let f : false ≡ true = rw (t, e, u) at r in true-false f refl))
         (λ u. rw u)
 
-pub call-map : (s : State) (g : ℕ) (q : Operation) → AllowedOn s g q → pageMap ((asked g q s) .after) ≡ mapAfter (pageMap s) g q
-call-map s g (Allocate n) a = allocate-both s g n a .0
-call-map s g (Free o) a = free-map s g o a
-call-map s g Reset a = absurd a
+pub call-map : (s : State) (g : ℕ) (q : Operation) → Neat false (pageMap s) → AllowedOn s g q → pageMap ((asked g q s) .after) ≡ mapAfter (pageMap s) g q
+call-map s g (Allocate n) h a = allocate-both s g n h a .0
+call-map s g (Free o) h a = free-map s g o a
+call-map s g Reset h a = absurd a
 
-pub call-says : (s : State) (g : ℕ) (q : Operation) → AllowedOn s g q → (asked g q s) .answer ≡ sayAt (pageMap s) g q
-call-says s g (Allocate n) a = allocate-both s g n a .1
-call-says s g (Free o) a = free-says s g o
-call-says s g Reset a = absurd a
+pub call-says : (s : State) (g : ℕ) (q : Operation) → Neat false (pageMap s) → AllowedOn s g q → (asked g q s) .answer ≡ sayAt (pageMap s) g q
+call-says s g (Allocate n) h a = allocate-both s g n h a .1
+call-says s g (Free o) h a = free-says s g o
+call-says s g Reset h a = absurd a
 
 -- What is allowed depends on the page map alone.
 pub allowed-same : (s t : State) (g : ℕ) (q : Operation) → pageMap s ≡ pageMap t → AllowedOn s g q → AllowedOn t g q
@@ -115,7 +130,7 @@ allowed-same s t g Reset e a = a
 -- A trimmed page map stays one ----------------------------------------------------------------------------------------------------
 
 pub call-neat : (s : State) (g : ℕ) (q : Operation) → Neat false (pageMap s) → AllowedOn s g q → Neat false (pageMap ((asked g q s) .after))
-call-neat s g q h a = rw (call-map s g q a) (go q a)
+call-neat s g q h a = rw (call-map s g q h a) (go q a)
   where
     m : PageMap
     m = pageMap s
@@ -140,7 +155,7 @@ pub record ExactOn (s : State) (g n : ℕ) : Type 0 where
   pub granted : Row (pagesFor n) (pageMap s) → (o : ℕ) × ((allocate g n s) .answer ≡ Granted o)
 
 pub request-exact : (s : State) (g n : ℕ) → Neat false (pageMap s) → 8192 ≤ n → groupOk g ≡ true → sizeOk n ≡ true → ExactOn s g n
-request-exact s g n h k t u = go (claim (pagesFor n) m) refl (allocate-both s g n k .1 ∙ says)
+request-exact s g n h k t u = go (claim (pagesFor n) m) refl (allocate-both s g n h k .1 ∙ says)
   where
     m : PageMap
     m = pageMap s
@@ -154,7 +169,7 @@ request-exact s g n h k t u = go (claim (pagesFor n) m) refl (allocate-both s g 
     go : (r : Option FreeRun) → claim (pagesFor n) m ≡ r → (allocate g n s) .answer ≡ sayDirect (claim (pagesFor n) m) → ExactOn s g n
     go none e x = record {
       refused = λ _. x ∙ ap sayDirect e;
-      granted = λ w. absurd (claim-none _ m e (row-run _ pos false m h w));
+      granted = λ w. true-false (row-run _ pos false m h w) (claim-none _ m e);
     }
     go (some r) e x = record {
       refused = λ w. absurd (w (found-row _ m r pos e));

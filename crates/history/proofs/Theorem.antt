@@ -26,7 +26,7 @@ use Rattle.model.specs.Calls.{Action, group, trim, Command, init, act, isRefuse
 use Rattle.model.specs.Trim.{trimmed}
 use Rattle.model.specs.Perform.{asked, serve, Metadata, wordsFor, holding, perform}
 use Rattle.model.proofs.Answers.{refusal-told, grant-told}
-use Rattle.model.proofs.Joins.{joined-retold}
+use Rattle.model.proofs.Trimmed.{trimmed-map}
 use Rattle.model.proofs.Validity.{fresh-valid, serve-valid, perform-leaves}
 use Rattle.model.proofs.Disjoint.{all-sized}
 use Rattle.history.specs.Ledger.{begins, unlessRefused, effect, Agrees}
@@ -43,9 +43,6 @@ all-fit [] h = tt
 all-fit (run n ∷ r) h = (tt, all-fit r (h .1))
 all-fit (direct n g ∷ r) h = (h .0 .0, all-fit r (h .1))
 all-fit (zone z ∷ r) h = (λ e. e, all-fit r (h .1))
-
-trimmed-map : (s : State) → pageMap (trimmed s) ≡ joined idle 0 (pageMap s)
-trimmed-map s = joined-retold occupancy idleZone idle (λ z. refl) 0 (s .segments)
 
 trimmed-neat : (s : State) → Valid s → Neat false (pageMap (trimmed s))
 trimmed-neat s v = rw (trimmed-map s) (joined-neat idle 0 (pageMap s) (all-fit (s .segments) (v .sound)))
@@ -90,17 +87,18 @@ module _ (B : Type 0) (view : B → Metadata) (next : B → Command → B) (says
   allowed-on k b s g (Free o) e a = λ c i h w. ap isRefused (sym (on-says k b s _ e)) ∙ a (pageMap s) (on-map k b s e) c i h w
   allowed-on k b s g Reset e a = a
 
-  same-answers : (q : List Call) (j k : ℕ) (b d : B) (s t : State) → On j b s → On k d t → pageMap s ≡ pageMap t → Sequence B view next says b q → answersTo B view next says b q ≡ answersTo B view next says d q
-  same-answers [] j k b d s t e f m a = refl
-  same-answers (c ∷ q) j k b d s t e f m a =
+  same-answers : (q : List Call) (j k : ℕ) (b d : B) (s t : State) → On j b s → On k d t → Neat false (pageMap s) → pageMap s ≡ pageMap t → Sequence B view next says b q → answersTo B view next says b q ≡ answersTo B view next says d q
+  same-answers [] j k b d s t e f h m a = refl
+  same-answers (c ∷ q) j k b d s t e f h m a =
       let g = c .group in
       let o = c .operation in
       let al = allowed-on j b s g o e (a .0) in
       let bl = allowed-same s t g o m al in
-      let said : says b (act (group c)) ≡ says d (act (group c)) = cc (on-says j b s (group c) e, call-says s g o al, call-says t g o bl, on-says k d t (group c) f) in
-      let maps : pageMap ((asked g o s) .after) ≡ pageMap ((asked g o t) .after) = cc (call-map s g o al, call-map t g o bl) in
-      let rest = same-answers q j k _ _ _ _ (on-next j b s (group c) e) (on-next k d t (group c) f) maps (a .1) in
-      λ i. said i ∷ rest i
+      let i = subst (Neat false) m h in
+      let said : says b (act (group c)) ≡ says d (act (group c)) = cc (on-says j b s (group c) e, call-says s g o h al, call-says t g o i bl, on-says k d t (group c) f) in
+      let maps : pageMap ((asked g o s) .after) ≡ pageMap ((asked g o t) .after) = cc (call-map s g o h al, call-map t g o i bl) in
+      let rest = same-answers q j k _ _ _ _ (on-next j b s (group c) e) (on-next k d t (group c) f) (call-neat s g o h al) maps (a .1) in
+      λ x. said x ∷ rest x
 
   exact-call : (k : ℕ) (b : B) (s : State) (g : ℕ) (q : Operation) → On k b s → Neat false (pageMap s) → AllowedOn s g q → ExactCall B view next says b (pageMap s) g q
   exact-call k b s g (Allocate n) e h a = λ t u.
@@ -135,8 +133,8 @@ module _ (B : Type 0) (view : B → Metadata) (next : B → Command → B) (says
       }
     where
       go : (q : List Call) → On j (next b (act trim)) (trimmed m) → On k (next d (act trim)) (trimmed e) → pageMap (trimmed m) ≡ pageMap (trimmed e) → Sequence B view next says (next b (act trim)) q ⊎ Sequence B view next says (next d (act trim)) q → answersTo B view next says (next b (act trim)) q ≡ answersTo B view next says (next d (act trim)) q
-      go q tm te maps (inl a) = same-answers q j k _ _ (trimmed m) (trimmed e) tm te maps a
-      go q tm te maps (inr a) = sym (same-answers q k j _ _ (trimmed e) (trimmed m) te tm (sym maps) a)
+      go q tm te maps (inl a) = same-answers q j k _ _ (trimmed m) (trimmed e) tm te (trimmed-neat m vm) maps a
+      go q tm te maps (inr a) = sym (same-answers q k j _ _ (trimmed e) (trimmed m) te tm (trimmed-neat e ve) (sym maps) a)
 
   -- Histories --------------------------------------------------------------------------------------------------------------------
 

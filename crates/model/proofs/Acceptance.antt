@@ -4,7 +4,7 @@
 use Prim.Native.Nat.{ℕ, zero, suc, _+_}
 use mathlib.Core.Path.{_≡_, refl}
 use mathlib.Core.List.{List, [], _∷_, _++_, map}
-use mathlib.Core.Option.{Option, none, some}
+use mathlib.Core.Option.{Option, none, some, orElse}
 use mathlib.Core.Bool.{cond}
 use lib.Dec.{ltb}
 use Rattle.model.specs.Numbers.{largeSize}
@@ -16,6 +16,7 @@ use Rattle.model.specs.Sizes.{step, rounded, classOf, room, chunksOf, ch
 use Rattle.model.specs.State.{State, listOf}
 use Rattle.model.specs.PageMap.{pageMap}
 use Rattle.model.specs.Pages.{claim}
+use Rattle.model.specs.Allocate.{sought}
 use Rattle.model.specs.Calls.{group, trim, query, Command, init, act}
 use Rattle.model.specs.Ascii.{ascii}
 use Rattle.model.specs.Text.{digits, decimal, line, lines}
@@ -105,16 +106,16 @@ afternoon = x 1 ∷ q 4 24576 ∷ t ∷ q 4 24576 ∷ []
 
 pub session-answers : replies blank (morning ++ (b 104 ∷ afternoon)) ≡
     Done ∷ Granted 0 ∷ Granted 104 ∷ Granted 32768 ∷ Granted 45056 ∷ Refused OtherGroup ∷ Done ∷ Granted 208 ∷ Block 2 104
-    ∷ Counted 1 ∷ Refused NoRoom ∷ Counted 1 ∷ Granted 45056 ∷ []
-unfolding replies blank morning afternoon step rounded classOf room chunks claim remove keep
+    ∷ Counted 1 ∷ Granted 45056 ∷ Counted 0 ∷ Granted 69632 ∷ []
+unfolding replies blank morning afternoon step rounded classOf room chunks claim orElse sought remove keep
 session-answers = refl
 
 pub first-listing : text ((leaves blank morning) .state) ≡ ascii "runs 1\n19 5\ndirect 1\n8 3 3\nzones 2\n0 12 2\n11 63 1\n"
-unfolding leaves blank morning text step rounded classOf room chunks claim remove keep listingText section ascii line lines decimal digits
+unfolding leaves blank morning text step rounded classOf room chunks claim orElse sought remove keep listingText section ascii line lines decimal digits
 first-listing = refl
 
-pub second-listing : text ((leaves blank (morning ++ afternoon)) .state) ≡ ascii "runs 1\n17 7\ndirect 2\n8 3 3\n11 6 4\nzones 1\n0 12 2\n"
-unfolding leaves blank morning afternoon text step rounded classOf room chunks claim remove keep listingText section ascii line lines decimal digits
+pub second-listing : text ((leaves blank (morning ++ afternoon)) .state) ≡ ascii "runs 1\n23 1\ndirect 3\n8 3 3\n11 6 4\n17 6 4\nzones 1\n0 12 2\n"
+unfolding leaves blank morning afternoon text step rounded classOf room chunks claim orElse sought remove keep listingText section ascii line lines decimal digits
 second-listing = refl
 
 -- The nine-request case -----------------------------------------------------------------------------------------------------
@@ -138,12 +139,12 @@ nine = s 24 ∷ (requests 9 ++ returns 9 0)
 
 -- All nine returned leave two zones on the empty list and one on its class's list, and no free page; ..
 pub nine-lists : (listsOf ((leaves blank nine) .state) ≡ (16 ∷ [], 8 ∷ 0 ∷ [])) × (text ((leaves blank nine) .state) ≡ ascii "runs 0\ndirect 0\nzones 3\n0 63 0\n8 63 0\n16 63 0\n")
-unfolding leaves blank nine requests returns listsOf text step rounded classOf room chunks claim remove keep listingText section ascii line lines decimal digits
+unfolding leaves blank nine requests returns listsOf text step rounded classOf room chunks claim orElse sought remove keep listingText section ascii line lines decimal digits
 nine-lists = (refl, refl)
 
--- .. 32,768 bytes are then refused by 6, and trim answers 3.
-pub nine-answers : replies (leaves blank nine) (q 1 32768 ∷ t ∷ q 1 32768 ∷ []) ≡ Refused NoRoom ∷ Counted 3 ∷ Granted 0 ∷ []
-unfolding leaves replies blank nine requests returns step rounded classOf room chunks claim remove keep
+-- .. 32,768 bytes are then granted, with all three zones given back: trim answers 0.
+pub nine-answers : replies (leaves blank nine) (q 1 32768 ∷ t ∷ q 1 32768 ∷ []) ≡ Granted 0 ∷ Counted 0 ∷ Granted 32768 ∷ []
+unfolding leaves replies blank nine requests returns step rounded classOf room chunks claim orElse sought remove keep
 nine-answers = refl
 
 -- 32 pages, thirteen such requests, the first twelve returned in order: the third zone is given back at once.
@@ -151,18 +152,34 @@ pub thirteen : List Command
 thirteen = s 32 ∷ (requests 13 ++ returns 12 0)
 
 pub thirteen-listing : text ((leaves (record { words = wordsFor 32; state = none }) thirteen) .state) ≡ ascii "runs 1\n16 8\ndirect 0\nzones 3\n0 63 0\n8 63 0\n24 63 1\n"
-unfolding leaves thirteen requests returns text step rounded classOf room chunks claim remove keep listingText section ascii line lines decimal digits
+unfolding leaves thirteen requests returns text step rounded classOf room chunks claim orElse sought remove keep listingText section ascii line lines decimal digits
 thirteen-listing = refl
 
 -- The rules that these cases do not show --------------------------------------------------------------------------------------
 
+-- The second search. A zone without a live chunk stays as long as a run suffices.
+pub one-search : replies blank (s 24 ∷ q 1 100 ∷ r 1 0 ∷ q 2 65536 ∷ t ∷ []) ≡ Done ∷ Granted 0 ∷ Done ∷ Granted 32768 ∷ Counted 1 ∷ []
+unfolding replies blank step rounded classOf room chunks claim orElse sought remove keep
+one-search = refl
+
+-- Three such zones, one on the list of each class, and no free page. A fourth class needs 8 pages: all three are given back. With a
+-- live chunk in the middle one, 9 pages are refused, and nothing is given back.
+pub three : List Command
+three = s 24 ∷ q 1 8191 ∷ q 2 100 ∷ q 3 200 ∷ r 1 0 ∷ r 3 65536 ∷ []
+
+pub second-search : (replies blank (three ++ (r 2 32768 ∷ q 4 300 ∷ t ∷ [])) ≡ Done ∷ Granted 0 ∷ Granted 32768 ∷ Granted 65536 ∷ Done ∷ Done ∷ Done ∷ Granted 0 ∷ Counted 0 ∷ [])
+    × (text ((leaves blank (three ++ (r 2 32768 ∷ q 4 300 ∷ []))) .state) ≡ ascii "runs 1\n8 16\ndirect 0\nzones 1\n0 25 1\n")
+    × (replies (leaves blank three) (q 4 36864 ∷ t ∷ []) ≡ Refused NoRoom ∷ Counted 2 ∷ [])
+unfolding leaves replies blank three text step rounded classOf room chunks claim orElse sought remove keep listingText section ascii line lines decimal digits
+second-search = (refl, refl, refl)
+
 -- Two runs are long enough: the first is taken. Pages that come back join with the runs on both sides.
 pub first-run-taken : (replies blank (s 24 ∷ q 1 8192 ∷ q 2 8192 ∷ q 3 8192 ∷ r 1 0 ∷ q 4 8192 ∷ []) ≡ Done ∷ Granted 0 ∷ Granted 8192 ∷ Granted 16384 ∷ Done ∷ Granted 0 ∷ [])
     × (text ((leaves blank (s 24 ∷ q 1 8192 ∷ q 2 8192 ∷ q 3 8192 ∷ q 4 8192 ∷ r 1 0 ∷ r 3 16384 ∷ r 2 8192 ∷ [])) .state) ≡ ascii "runs 2\n0 6\n8 16\ndirect 1\n6 2 4\nzones 0\n")
-unfolding leaves replies blank text step rounded classOf room chunks claim remove keep listingText section ascii line lines decimal digits
+unfolding leaves replies blank text step rounded classOf room chunks claim orElse sought remove keep listingText section ascii line lines decimal digits
 first-run-taken = (refl, refl)
 
 -- A zone from the empty list is set up anew: its chunks are handed out from chunk 0 on.
 pub set-up-anew : replies (leaves blank nine) (q 2 100 ∷ q 2 100 ∷ r 2 32768 ∷ q 2 100 ∷ x 2 ∷ []) ≡ Granted 32768 ∷ Granted 32872 ∷ Done ∷ Granted 32976 ∷ Counted 2 ∷ []
-unfolding leaves replies blank nine requests returns step rounded classOf room chunks claim remove keep
+unfolding leaves replies blank nine requests returns step rounded classOf room chunks claim orElse sought remove keep
 set-up-anew = refl

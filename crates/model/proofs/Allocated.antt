@@ -21,15 +21,17 @@ use Rattle.model.specs.Zone.{Zone, newZone, nextChunk, granted}
 use Rattle.model.specs.State.{State, listOf, Begins, ZoneAt}
 use Rattle.model.specs.PageMap.{padded, occupancy, pageMap, Block, whole, chunk, groupOf, roomOf, chunkOf, blockIn, blockAt}
 use Rattle.model.specs.Valid.{ValidZone, ValidSegment, Valid}
-use Rattle.model.specs.Pages.{FreeRun, claim}
+use Rattle.model.specs.Pages.{claim}
 use Rattle.model.specs.Calls.{Outcome, groupOk, sizeOk}
-use Rattle.model.specs.Allocate.{directFrom, zoneFrom, fromSpare, served, chunkFrom, allocate}
+use Rattle.model.specs.Allocate.{Source, sought, directFrom, zoneFrom, fromSpare, served, chunkFrom, allocate}
 use Rattle.model.proofs.Sizes.{chunk-begins, chunks-least, classed}
 use Rattle.model.proofs.Arena.{locate-retold, edit-retold, each-locate}
 use Rattle.model.proofs.Claim.{claim-retold}
 use Rattle.model.proofs.Joins.{carve-retold}
 use Rattle.model.proofs.Zones.{Grants, grants}
-use Rattle.model.proofs.Blocks.{idle-blockIn, Only, put-only, carve-only, blockIn-at, blockIn-other, padded-in, padded-other, chunk-only, live-chunk, allZero-padded}
+use Rattle.model.proofs.Blocks.{idle-blockIn, Only, Still, put-only, carve-only, blockIn-at, blockIn-other, padded-in, padded-other, chunk-only, live-chunk, allZero-padded}
+use Rattle.model.proofs.Trimmed.{trimmed-still}
+use Rattle.model.proofs.Sought.{sought-from}
 use Rattle.model.proofs.Released.{put-fresh, carve-fresh, chunk-fresh}
 
 -- A block of the group and room at the offset granted, or a refusal that leaves the state.
@@ -73,24 +75,38 @@ shown-at m p z e = cc (locate-retold occupancy (p * pageBytes) m)
 shown-zone : (c : ℕ) (z : Zone) → z .class ≡ c → occupancy z ≡ record { class = c; groups = padded (chunks c) (z .owners) }
 shown-zone c z e = cc
 
+-- A block made from the state u, which has the live blocks and the pages of s.
+made-from : (s u : State) (g r o : ℕ) (b : Block) (R : Outcome State) → Still (pageMap s) (pageMap u) → R .answer ≡ Granted o → blockAt (pageMap u) o ≡ none → groupOf b ≡ g → roomOf b ≡ r → Only (pageMap u) (pageMap (R .after)) o (some b) → Allocated s g r R
+made-from s u g r o b R k ans fresh grp rm only =
+    gives o b ans (sym (k .0 o) ∙ fresh) grp rm (only .0, λ q ne. only .1 q ne ∙ k .0 q, only .2 ∙ k .1)
+
 module _ (s : State) where
-  direct-law : (n g : ℕ) → 0 < n → (h : Option FreeRun) → claim n (s .segments) ≡ h → Allocated s g (n * pageBytes) (directFrom n g s h)
+  -- Pages are taken from the state as it is, or from the trimmed one.
+  source-still : (n : ℕ) (f : Source) → sought n s ≡ some f → Still (pageMap s) (pageMap (f .state))
+  source-still n f e = sought-from n s f e .either (λ u. Still (pageMap s) (pageMap u)) (λ q. refl, refl) (trimmed-still s)
+
+  source-claimed : (n : ℕ) (f : Source) → sought n s ≡ some f → claim n (pageMap (f .state)) ≡ some (f .free)
+  source-claimed n f e = claim-retold occupancy n _ ∙ sought-from n s f e .claimed
+
+  direct-law : (n g : ℕ) → 0 < n → (h : Option Source) → sought n s ≡ h → Allocated s g (n * pageBytes) (directFrom n g s h)
   direct-law n g p none e = denies NoRoom refl refl
-  direct-law n g p (some h) e =
-      let found = claim-retold occupancy n _ ∙ e in
-      gives _ (whole n g) refl (carve-fresh (pageMap s) h n p found) refl refl
-      (rw (carve-retold occupancy h n _ _) (carve-only (pageMap s) h n _ p found refl (direct-alone n g)))
+  direct-law n g p (some f) e =
+      let m = pageMap (f .state) in
+      let found = source-claimed n f e in
+      made-from s (f .state) g _ _ (whole n g) _ (source-still n f e) refl (carve-fresh m (f .free) n p found) refl refl
+      (rw (carve-retold occupancy (f .free) n _ _) (carve-only m (f .free) n _ p found refl (direct-alone n g)))
 
   module _ (c g : ℕ) (class : c < classCount) (least : 0 < g) where
-    zone-law : (h : Option FreeRun) → claim zonePages (s .segments) ≡ h → Allocated s g (room c) (zoneFrom c g s h)
+    zone-law : (h : Option Source) → sought zonePages s ≡ h → Allocated s g (room c) (zoneFrom c g s h)
     zone-law none e = denies NoRoom refl refl
-    zone-law (some h) e =
-        let found = claim-retold occupancy zonePages _ ∙ e in
-        gives _ (chunk c 0 g) refl (carve-fresh (pageMap s) h zonePages (omega arith) found) refl refl
-        (rw (carve-retold occupancy h zonePages _ _, ← new-first c g class least) (carve-only (pageMap s) h zonePages _ (omega arith) found refl (new-alone c g)))
+    zone-law (some f) e =
+        let m = pageMap (f .state) in
+        let found = source-claimed zonePages f e in
+        made-from s (f .state) g _ _ (chunk c 0 g) _ (source-still zonePages f e) refl (carve-fresh m (f .free) zonePages (omega arith) found) refl refl
+        (rw (carve-retold occupancy (f .free) zonePages _ _, ← new-first c g class least) (carve-only m (f .free) zonePages _ (omega arith) found refl (new-alone c g)))
 
     spare-law : Valid s → (l : List ℕ) → s .spare ≡ l → Allocated s g (room c) (fromSpare c g s l)
-    spare-law v [] e = zone-law (claim zonePages (s .segments)) refl
+    spare-law v [] e = zone-law (sought zonePages s) refl
     spare-law v (q ∷ qs) e =
         let f = v .spared q (rw e (List·Memᴰ·head refl)) in
         let there = shown-at (s .segments) q (f .0) (f .1) in
@@ -121,6 +137,6 @@ module _ (s : State) where
       (λ t. rw t (bool (sizeOk n)
       (λ u. rw u (bool (ltb n 8192)
       (λ w. rw w (chunk-law (classOf n) g (classed n (size-least n u) (ltb-true n 8192 w) .below) (group-least g t) v (group-most g t) (listOf s (classOf n)) refl))
-      (λ w. rw w (direct-law _ g (omega (arith, ltb-false)) (claim (pagesFor n) (s .segments)) refl))))
+      (λ w. rw w (direct-law _ g (omega (arith, ltb-false)) (sought (pagesFor n) s) refl))))
       (λ u. rw u (denies BadSize refl refl))))
       (λ t. rw t (denies BadGroup refl refl))

@@ -2,17 +2,18 @@
 -- look inside zones. Nothing else is used of it. Over any kind of zone. Assumes nothing.
 use Prim.Native.Nat.{ℕ, _+_, _*_, _≤_, _<_}
 use mathlib.Core.Path.{_≡_, refl, sym, _∙_, ap, subst}
-use mathlib.Core.Logic.{_⊎_, inl, inr}
-use mathlib.Core.List.{List, [], _∷_, map, List·Memᴰ, List·Memᴰ·not-nil, List·Memᴰ·cases-cons}
-use mathlib.Core.Option.{none, some}
-use mathlib.Core.Bool.{false}
+use mathlib.Core.Logic.{_↔_}
+use mathlib.Core.List.{List, [], _∷_, map}
+use mathlib.Core.Option.{Option, none, some}
+use mathlib.Core.Bool.{false, _||_}
 use native.Mathlib.Omega.{arith}
 use lib.Dec.{leb}
 use borrow.Author.Tests.{leb-true, leb-false, lt-ltb, le-ltb}
-use Rattle.lemmas.proofs.Cases.{bool, some-inj, clash, none-some}
+use Rattle.lemmas.proofs.Cases.{bool, true-false, some-inj, none-some}
 use Rattle.model.specs.Numbers.{pageBytes}
-use Rattle.model.specs.Arena.{Segment, run, direct, zone, pages, bytes, retold, locate}
-use Rattle.model.specs.Pages.{FreeRun, firstFit, claim}
+use Rattle.model.specs.Arena.{Segment, run, direct, zone, pages, bytes, retold, locate, Each}
+use Rattle.model.specs.Pages.{FreeRun, firstFit, claim, hasRun}
+use Rattle.model.proofs.Arena.{each-locate}
 
 module _ {Z : Type 0} where
   -- What the search finds, p pages behind the start: a run that begins `skip` pages further on.
@@ -41,33 +42,39 @@ module _ {Z : Type 0} where
   unfolding claim
   claim-found n m h pos e = let f = firstFit-found 0 n m h pos e in (ap (λ k. locate (k * pageBytes) m) (let q : h .page ≡ f .skip = omega arith in q) ∙ f .run-there, f .enough)
 
-  abbrev pub HasRun : ℕ → List (Segment Z) → Type 0
-  HasRun n m = (k : ℕ) × List·Memᴰ (run k) m × (n ≤ k)
-
-  firstFit-none : (p n : ℕ) (m : List (Segment Z)) → firstFit p n m ≡ none → (k : ℕ) → List·Memᴰ (run k) m → n ≤ k → ⊥
-  firstFit-none p n [] e k i h = List·Memᴰ·not-nil i
-  firstFit-none p n (run j ∷ r) e k i h = bool (leb n j)
-      (λ t. none-some (sym (rw t at e)))
-      (λ t. go (List·Memᴰ·cases-cons i) t (firstFit-none (p + j) n r (rw t at e)))
-    where
-      go : (_≡_ {A = Segment Z} (run k) (run j)) ⊎ List·Memᴰ (run k) r → leb n j ≡ false → ((q : ℕ) → List·Memᴰ (run q) r → n ≤ q → ⊥) → ⊥
-      go (inl q) t f = let x : k ≡ j = cc in omega (arith, leb-false)
-      go (inr q) t f = f k q h
-  firstFit-none p n (direct j g ∷ r) e k i h = go (List·Memᴰ·cases-cons i) (firstFit-none (p + j) n r e)
-    where
-      go : (_≡_ {A = Segment Z} (run k) (direct j g)) ⊎ List·Memᴰ (run k) r → ((q : ℕ) → List·Memᴰ (run q) r → n ≤ q → ⊥) → ⊥
-      go (inl q) f = clash (cc)
-      go (inr q) f = f k q h
-  firstFit-none p n (zone z ∷ r) e k i h = go (List·Memᴰ·cases-cons i) (firstFit-none _ n r e)
-    where
-      go : (_≡_ {A = Segment Z} (run k) (zone z)) ⊎ List·Memᴰ (run k) r → ((q : ℕ) → List·Memᴰ (run q) r → n ≤ q → ⊥) → ⊥
-      go (inl q) f = clash (cc)
-      go (inr q) f = f k q h
+  firstFit-none : (p n : ℕ) (m : List (Segment Z)) → firstFit p n m ≡ none → hasRun n m ≡ false
+  firstFit-none p n [] e = refl
+  firstFit-none p n (run k ∷ r) e = bool (leb n k) (λ t. none-some (sym (rw t at e))) (λ t. rw t (firstFit-none (p + k) n r (rw t at e)))
+  firstFit-none p n (direct k g ∷ r) e = firstFit-none (p + k) n r e
+  firstFit-none p n (zone z ∷ r) e = firstFit-none _ n r e
 
   -- Not found: no run is long enough.
-  pub claim-none : (n : ℕ) (m : List (Segment Z)) → claim n m ≡ none → HasRun n m → ⊥
+  pub claim-none : (n : ℕ) (m : List (Segment Z)) → claim n m ≡ none → hasRun n m ≡ false
   unfolding claim
-  claim-none n m e h = firstFit-none 0 n m e (h .0) (h .1) (h .2)
+  claim-none n m e = firstFit-none 0 n m e
+
+  -- A run that is too short.
+  abbrev Short : ℕ → Segment Z → Type 0
+  Short n (run k) = k < n
+  Short n (direct k g) = Unit {0}
+  Short n (zone z) = Unit {0}
+
+  all-short : (n : ℕ) (m : List (Segment Z)) → hasRun n m ≡ false → Each (Short n) m
+  all-short n [] e = tt
+  all-short n (run k ∷ r) e = bool (leb n k) (λ t. true-false refl (rw t at e)) (λ t. (leb-false n k t, all-short n r (rw t at e)))
+  all-short n (direct k g ∷ r) e = (tt, all-short n r e)
+  all-short n (zone z ∷ r) e = (tt, all-short n r e)
+
+  -- The search fails just if no run is long enough.
+  pub claim-has : (n : ℕ) (m : List (Segment Z)) → 0 < n → (claim n m ≡ none) ↔ (hasRun n m ≡ false)
+  claim-has n m pos = (claim-none n m, λ e. go e (claim n m) refl)
+    where
+      go : hasRun n m ≡ false → (h : Option FreeRun) → claim n m ≡ h → h ≡ none
+      go e none c = refl
+      go e (some h) c =
+          let f = claim-found n m h pos c in
+          let short : h .size < n = each-locate (Short n) m (h .page * pageBytes) (all-short n m e) (f .0) in
+          absurd (omega (arith, f .1))
 
 module _ {A B : Type 0} (f : A → B) where
   firstFit-retold : (p n : ℕ) (m : List (Segment A)) → firstFit p n (map (retold f) m) ≡ firstFit p n m
@@ -80,3 +87,9 @@ module _ {A B : Type 0} (f : A → B) where
   pub claim-retold : (n : ℕ) (m : List (Segment A)) → claim n (map (retold f) m) ≡ claim n m
   unfolding claim
   claim-retold n m = firstFit-retold 0 n m
+
+  pub has-retold : (n : ℕ) (m : List (Segment A)) → hasRun n (map (retold f) m) ≡ hasRun n m
+  has-retold n [] = refl
+  has-retold n (run k ∷ r) = ap (λ t. leb n k || t) (has-retold n r)
+  has-retold n (direct k g ∷ r) = has-retold n r
+  has-retold n (zone z ∷ r) = has-retold n r

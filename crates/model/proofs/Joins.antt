@@ -1,6 +1,6 @@
 -- Joining free pages, over any kind of zone: it keeps the pages, what is seen of anything but free pages, and where the zones
 -- stand that it does not free; afterwards no two runs touch. Assumes nothing.
-use Prim.Native.Nat.{ℕ, zero, suc, _+_, _-_, _*_}
+use Prim.Native.Nat.{ℕ, zero, suc, _+_, _-_, _*_, _<_}
 use mathlib.Core.Path.{_≡_, refl, sym, _∙_, ap}
 use mathlib.Core.List.{List, [], _∷_, _++_, map}
 use mathlib.Core.Option.{Option, none, some}
@@ -48,6 +48,10 @@ module _ {Z : Type 0} where
       joined-see n (zone z ∷ r) o = bool (idle z)
           (λ t. rw t (joined-see _ r o ∙ absorb n (zone z) r (λ d. idles d z t) o))
           (λ t. rw t (withRun-see n _ o ∙ past n (zone z) (joined idle 0 r) r (joined-see 0 r) o))
+
+  pub some-run : (n : ℕ) (r : List (Segment Z)) → 0 < n → run n ∷ r ≡ withRun n r
+  some-run zero r h = absurd (omega arith)
+  some-run (suc n) r h = refl
 
   pub total-withRun : (n : ℕ) (r : List (Segment Z)) → total (withRun n r) ≡ n + total r
   total-withRun zero r = omega arith

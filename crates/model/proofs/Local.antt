@@ -1,7 +1,7 @@
 -- The join as document 01 says it: pages that come back are joined with a free run that ends where they begin and with one that
 -- begins where they end, both if both exist. That is the join of all that touches. Assumes nothing.
 use Prim.Native.Nat.{ℕ, zero, suc, _+_, _<_}
-use mathlib.Core.Path.{_≡_, refl, _∙_, ap}
+use mathlib.Core.Path.{_≡_, refl, sym, _∙_, ap}
 use mathlib.Core.List.{List, [], _∷_, _++_}
 use mathlib.Core.Bool.{Bool, true, false}
 use native.Mathlib.Omega.{arith}
@@ -9,6 +9,7 @@ use Rattle.lemmas.proofs.Cases.{true-false}
 use Rattle.model.specs.Arena.{Segment, run, direct, zone}
 use Rattle.model.specs.Valid.{Apart}
 use Rattle.model.specs.Pages.{withRun, joined}
+use Rattle.model.proofs.Joins.{some-run}
 
 module _ {Z : Type 0} where
   -- Whether the last segment is a run. (b: for no segments.)
@@ -22,10 +23,6 @@ module _ {Z : Type 0} where
   abbrev pub rejoined : ℕ → List (Segment Z) → List (Segment Z)
   rejoined n m = joined (λ _. false) n m
 
-  some-run : (n : ℕ) (r : List (Segment Z)) → 0 < n → withRun n r ≡ run n ∷ r
-  some-run zero r h = absurd (omega arith)
-  some-run (suc n) r h = refl
-
   -- What stands before a segment that is no run is left as it is; n free pages stand before, or none.
   prefix : (a y : List (Segment Z)) → (Apart false a → endsRun false a ≡ false → rejoined 0 (a ++ y) ≡ a ++ rejoined 0 y) × ((n : ℕ) → 0 < n → Apart true a → endsRun true a ≡ false → rejoined n (a ++ y) ≡ run n ∷ (a ++ rejoined 0 y))
   prefix [] y = (λ _ _. refl, λ n p h e. true-false refl e)
@@ -35,7 +32,7 @@ module _ {Z : Type 0} where
 
   -- Runs that stand apart stay.
   suffix : (b : List (Segment Z)) → (Apart false b → rejoined 0 b ≡ b) × ((n : ℕ) → 0 < n → Apart true b → rejoined n b ≡ run n ∷ b)
-  suffix [] = (λ _. refl, λ n p _. some-run n [] p)
+  suffix [] = (λ _. refl, λ n p _. sym (some-run n [] p))
   suffix (run k ∷ r) = (λ h. ap (λ n. rejoined n r) (let q : 0 + k ≡ k = omega arith in q) ∙ suffix r .1 k (h .1) (h .2), λ n p h. true-false refl (h .0))
   suffix (direct k g ∷ r) = (λ h. cc (suffix r .0 h), λ n p h. cc (some-run n _ p, suffix r .0 h))
   suffix (zone z ∷ r) = (λ h. cc (suffix r .0 h), λ n p h. cc (some-run n _ p, suffix r .0 h))

@@ -19,12 +19,15 @@ use Rattle.model.specs.State.{State, listOf, Begins, ZoneAt}
 use Rattle.model.specs.Valid.{Apart, ValidZone, ValidSegment, Valid}
 use Rattle.model.specs.Pages.{FreeRun, claim, withRun, carve}
 use Rattle.model.specs.Calls.{groupOk, sizeOk}
-use Rattle.model.specs.Allocate.{directFrom, zoneFrom, fromSpare, served, chunkFrom, allocate}
+use Rattle.model.specs.Allocate.{Source, foundIn, sought, directFrom, zoneFrom, fromSpare, served, chunkFrom, allocate}
 use Rattle.model.proofs.Sizes.{classed}
 use Rattle.model.proofs.Arena.{total-edit, begins-kept, begins-new, begins-back, each-edit, each-locate}
 use Rattle.model.proofs.Claim.{claim-found}
 use Rattle.model.proofs.Joins.{cut-zone, run-append, apart-run, edit-apart, each-run, total-withRun}
 use Rattle.model.proofs.Zones.{new-valid, new-open, Grants, grants}
+use Rattle.model.proofs.Trimmed.{trimmed-empty}
+use Rattle.model.proofs.Sought.{sought-from}
+use Rattle.model.proofs.ValidTrim.{trimmed-valid}
 use Rattle.model.proofs.Allocated.{group-least, group-most, size-least}
 use Rattle.model.proofs.Moves.{one-zone, not-run, same-zones, rearranged, put-size, put-kept, put-new, put-sound, put-back, put-apart, put-is}
 
@@ -74,9 +77,9 @@ module _ (m : List (Segment Zone)) (n : ℕ) (x : Segment Zone) (h : FreeRun) (p
       (λ c r a. k c (withRun (h .size - n) [] ++ r) (rw (run-append _ r) (apart-run (h .size - n) r (a .2)))) ok
 
 module _ (s : State) (h : Valid s) (g : ℕ) (least : 0 < g) (most : g ≤ mostGroup) where
-  direct-valid : (n : ℕ) → 0 < n → (o : Option FreeRun) → claim n (s .segments) ≡ o → Valid ((directFrom n g s o) .after)
-  direct-valid n pos none e = h
-  direct-valid n pos (some o) e = same-zones s _ h (record {
+  -- Whole pages from a run of the state.
+  direct-in : (n : ℕ) → 0 < n → (o : FreeRun) → claim n (s .segments) ≡ some o → Valid ((directFrom n g s (some (foundIn s o))) .after)
+  direct-in n pos o e = same-zones s _ h (record {
     size = carved-size _ n _ o pos refl e;
     apart = carved-apart _ n _ o pos refl e (λ c r k. k) (h .apart);
     sound = carved-sound _ n _ o pos refl e (pos, least, most) (h .sound);
@@ -90,9 +93,8 @@ module _ (s : State) (h : Valid s) (g : ℕ) (least : 0 < g) (most : g ≤ mostG
 
   module _ (c : ℕ) (class : c < classCount) where
     -- A new zone at page p, where no zone was or an idle one, is the only one on its class's list.
-    zone-valid : listOf s c ≡ [] → (o : Option FreeRun) → claim zonePages (s .segments) ≡ o → Valid ((zoneFrom c g s o) .after)
-    zone-valid el none e = h
-    zone-valid el (some o) e =
+    zone-in : listOf s c ≡ [] → (o : FreeRun) → claim zonePages (s .segments) ≡ some o → Valid ((zoneFrom c g s (some (foundIn s o))) .after)
+    zone-in el o e =
         let p = o .page in
         let new = zone (newZone c g) in
         let m = carve o zonePages new (s .segments) in
@@ -123,8 +125,24 @@ module _ (s : State) (h : Valid s) (g : ℕ) (least : 0 < g) (most : g ≤ mostG
         go q y ne (inl a) = a
         go q y ne (inr a) = absurd (ne (a .0))
 
+-- Pages are found in the state as it is or in the trimmed one, and both are valid.
+module _ (s : State) (h : Valid s) (g : ℕ) (least : 0 < g) (most : g ≤ mostGroup) where
+  direct-valid : (n : ℕ) → 0 < n → (o : Option Source) → sought n s ≡ o → Valid ((directFrom n g s o) .after)
+  direct-valid n pos none e = h
+  direct-valid n pos (some f) e =
+      let k = sought-from n s f e in
+      direct-in (f .state) (k .either (λ u. Valid u) h (trimmed-valid s h)) g least most n pos (f .free) (k .claimed)
+
+  module _ (c : ℕ) (class : c < classCount) where
+    zone-valid : listOf s c ≡ [] → (o : Option Source) → sought zonePages s ≡ o → Valid ((zoneFrom c g s o) .after)
+    zone-valid el none e = h
+    zone-valid el (some f) e =
+        let k = sought-from zonePages s f e in
+        let u = k .either (λ u. Valid u × (listOf u c ≡ [])) (h, el) (trimmed-valid s h, trimmed-empty s c el) in
+        zone-in (f .state) (u .0) g least most c class (u .1) (f .free) (k .claimed)
+
     spare-valid : listOf s c ≡ [] → (l : List ℕ) → s .spare ≡ l → Valid ((fromSpare c g s l) .after)
-    spare-valid el [] e = zone-valid el (claim zonePages (s .segments)) refl
+    spare-valid el [] e = zone-valid el (sought zonePages s) refl
     spare-valid el (p ∷ ps) e =
         let inn : List·Memᴰ p (s .spare) = rw e (List·Memᴰ·head refl) in
         let w = h .spared p inn in
@@ -192,6 +210,6 @@ allocate-valid s h g n = bool (groupOk g)
     (λ t. rw t (bool (sizeOk n)
     (λ u. rw u (bool (ltb n 8192)
     (λ v. rw v (chunk-valid s h g (group-least g t) (group-most g t) (classOf n) (classed n (size-least n u) (ltb-true n 8192 v) .below) (listOf s (classOf n)) refl))
-    (λ v. rw v (direct-valid s h g (group-least g t) (group-most g t) _ (omega (arith, ltb-false)) (claim (pagesFor n) (s .segments)) refl))))
+    (λ v. rw v (direct-valid s h g (group-least g t) (group-most g t) _ (omega (arith, ltb-false)) (sought (pagesFor n) s) refl))))
     (λ u. rw u h)))
     (λ t. rw t h)

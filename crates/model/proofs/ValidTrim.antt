@@ -5,7 +5,7 @@ use mathlib.Core.Logic.{_⊎_, inl, inr}
 use mathlib.Core.List.{List, [], List·Memᴰ, List·Memᴰ·not-nil}
 use mathlib.Core.Bool.{Bool, true, false, not}
 use native.Mathlib.Omega.{arith}
-use lib.ListN.{length-map, List·getD-map}
+use lib.ListN.{length-map}
 use borrow.Author.Tests.{not-true}
 use Rattle.lemmas.specs.Keep.{keep}
 use Rattle.lemmas.proofs.Cases.{true-false}
@@ -22,6 +22,7 @@ use Rattle.model.specs.Trim.{trimmed}
 use Rattle.model.proofs.Arena.{each-locate}
 use Rattle.model.proofs.Joins.{not-freed, joined-begins, joined-back, joined-apart, each-joined, total-joined}
 use Rattle.model.proofs.Moves.{one-zone}
+use Rattle.model.proofs.Trimmed.{trimmed-list}
 
 -- The test by which a list keeps its zones, where a zone stands.
 busy-test : (m : List (Segment Zone)) (p : ℕ) (z : Zone) → ZoneAt m p z → not (idleZone (zoneAt p m)) ≡ not (idleZone z)
@@ -48,7 +49,7 @@ trimmed-valid s h = record {
     test p = not (idleZone (zoneAt p (s .segments)))
 
     lists-are : (c : ℕ) → listOf (trimmed s) c ≡ keep test (listOf s c)
-    lists-are c = List·getD-map _ (s .lists) c []
+    lists-are c = trimmed-list s c
 
     -- a zone that is left has a live chunk
     live : (p : ℕ) (z : Zone) → ZoneAt (joined idleZone 0 (s .segments)) p z → idleZone z ≡ false

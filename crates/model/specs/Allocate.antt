@@ -1,7 +1,8 @@
--- Allocation (document 01: a request): a direct block, or a chunk by the rules of "Zones". Assumes nothing.
+-- Allocation (document 01: a request): a direct block, or a chunk by the rules of "Zones"; and where the pages that one of them
+-- needs come from (document 02, a). Assumes nothing.
 use Prim.Native.Nat.{ℕ, _+_, _*_}
 use mathlib.Core.List.{List, [], _∷_}
-use mathlib.Core.Option.{Option, none, some}
+use mathlib.Core.Option.{Option, none, some, Option·map, orElse}
 use mathlib.Core.Bool.{cond}
 use lib.Dec.{ltb}
 use lib.ListN.{set}
@@ -14,11 +15,30 @@ use Rattle.model.specs.Zone.{Zone, newZone, full, nextChunk, granted}
 use Rattle.model.specs.State.{State, listOf, arranged, zoneAt, putZone}
 use Rattle.model.specs.Pages.{FreeRun, claim, carve}
 use Rattle.model.specs.Calls.{Outcome, answers, refuses, provided, groupOk, sizeOk}
+use Rattle.model.specs.Trim.{trimmed}
 
--- n whole pages for the group, from the run that was found.
-abbrev pub directFrom : ℕ → ℕ → State → Option FreeRun → Outcome State
+-- Where pages are taken from: a state, and the free run of it that a search found.
+pub record Source : Type 0 where
+  pub state : State
+  pub free : FreeRun
+
+-- One search for n pages, through the runs of a state.
+abbrev pub foundIn : State → FreeRun → Source
+foundIn s h = record { state = s; free = h }
+
+abbrev pub searched : ℕ → State → Option Source
+searched n s = Option·map (foundIn s) (claim n (s .segments))
+
+-- n pages are needed, for a direct block or for a zone. The search goes through the runs as they are; if none suffices, every zone
+-- without a live chunk is given back as trim does, and the search is made once more on what that leaves.
+unfoldable pub sought : ℕ → State → Option Source
+sought n s = orElse (searched n s) (searched n (trimmed s))
+
+-- n whole pages for the group, if they were found. If not, nothing has been given back.
+abbrev pub directFrom : ℕ → ℕ → State → Option Source → Outcome State
 directFrom n g s none = refuses s NoRoom
-directFrom n g s (some h) = answers (arranged s (carve h n (direct n g) (s .segments)) (s .lists) (s .spare)) (Granted (h .page * pageBytes))
+directFrom n g s (some f) =
+    let t = f .state in answers (arranged t (carve (f .free) n (direct n g) (t .segments)) (t .lists) (t .spare)) (Granted (f .free .page * pageBytes))
 
 -- A new zone at page p for the class, now standing in the segments m: it grants chunk 0 and goes to the front of its class's
 -- list, which is empty.
@@ -26,13 +46,13 @@ abbrev pub opened : ℕ → State → List (Segment Zone) → ℕ → List ℕ �
 opened c s m p sp = answers (arranged s m (set (s .lists) c (p ∷ [])) sp) (Granted (p * pageBytes))
 
 -- No zone of the class has a chunk left: 8 pages are taken from the runs and set up ..
-abbrev pub zoneFrom : ℕ → ℕ → State → Option FreeRun → Outcome State
+abbrev pub zoneFrom : ℕ → ℕ → State → Option Source → Outcome State
 zoneFrom c g s none = refuses s NoRoom
-zoneFrom c g s (some h) = opened c s (carve h zonePages (zone (newZone c g)) (s .segments)) (h .page) (s .spare)
+zoneFrom c g s (some f) = let t = f .state in opened c t (carve (f .free) zonePages (zone (newZone c g)) (t .segments)) (f .free .page) (t .spare)
 
 -- .. unless the empty list has a zone: then its first is set up anew.
 abbrev pub fromSpare : ℕ → ℕ → State → List ℕ → Outcome State
-fromSpare c g s [] = zoneFrom c g s (claim zonePages (s .segments))
+fromSpare c g s [] = zoneFrom c g s (sought zonePages s)
 fromSpare c g s (p ∷ ps) = opened c s (putZone p (newZone c g) (s .segments)) p ps
 
 -- The first zone on the class's list serves; once its last chunk goes, it leaves the list.
@@ -50,8 +70,18 @@ chunkFrom c g s (p ∷ ps) = served c g p ps s (zoneAt p (s .segments))
 abbrev pub supplied : ℕ → ℕ → State → Outcome State
 supplied g n s =
     cond (ltb n largeSize) (chunkFrom (classOf n) g s (listOf s (classOf n)))
-    (directFrom (pagesFor n) g s (claim (pagesFor n) (s .segments)))
+    (directFrom (pagesFor n) g s (sought (pagesFor n) s))
 
 -- Refusals in document 01's order: 4, 5, 6.
 abbrev pub allocate : ℕ → ℕ → State → Outcome State
 allocate g n s = provided (groupOk g) BadGroup s (provided (sizeOk n) BadSize s (supplied g n s))
+
+-- The pages that a request of n bytes needs, if it needs any: a chunk needs those of a zone only where its class's list and the empty
+-- list are both empty. (`no-room` says when they are refused.)
+abbrev pub zoneNeeded : List ℕ → List ℕ → Option ℕ
+zoneNeeded [] [] = some zonePages
+zoneNeeded [] (p ∷ ps) = none
+zoneNeeded (p ∷ ps) l = none
+
+abbrev pub needed : ℕ → State → Option ℕ
+needed n s = cond (ltb n largeSize) (zoneNeeded (listOf s (classOf n)) (s .spare)) (some (pagesFor n))

@@ -7,9 +7,9 @@ pub mod PageMap
 pub mod Valid
 pub mod Pages
 pub mod Calls
+pub mod Trim
 pub mod Allocate
 pub mod Free
-pub mod Trim
 pub mod Ascii
 pub mod Text
 pub mod Listing

@@ -2,7 +2,7 @@
 use Prim.Native.Nat.{ℕ, zero, suc, _+_, _-_, _*_}
 use mathlib.Core.List.{List, [], _∷_}
 use mathlib.Core.Option.{Option, none, some}
-use mathlib.Core.Bool.{Bool, false, cond}
+use mathlib.Core.Bool.{Bool, false, cond, _||_}
 use lib.Dec.{leb}
 use Rattle.model.specs.Numbers.{pageBytes, zonePages}
 use Rattle.model.specs.Arena.{Segment, run, direct, zone, pages, edit}
@@ -23,6 +23,13 @@ firstFit p n (zone z ∷ r) = firstFit (p + zonePages) n r
 -- `claim-retold`.
 unfoldable pub claim : {Z : Type 0} → ℕ → List (Segment Z) → Option FreeRun
 claim n m = firstFit 0 n m
+
+-- Whether some run has n pages: `claim-has` says that the search finds one just then.
+abbrev pub hasRun : {Z : Type 0} → ℕ → List (Segment Z) → Bool
+hasRun n [] = false
+hasRun n (run m ∷ r) = leb n m || hasRun n r
+hasRun n (direct m g ∷ r) = hasRun n r
+hasRun n (zone z ∷ r) = hasRun n r
 
 -- A run of n pages in front, unless n is 0.
 abbrev pub withRun : {Z : Type 0} → ℕ → List (Segment Z) → List (Segment Z)

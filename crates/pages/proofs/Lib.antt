@@ -2,6 +2,7 @@ pub mod Laws
 pub mod Decoded
 pub mod Walk
 pub mod Search
+pub mod Clear
 pub mod Words
 pub mod Halves
 pub mod Cuts

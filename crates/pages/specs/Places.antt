@@ -3,13 +3,14 @@ use Prim.Native.Nat.{ℕ, _+_, _*_, _<_, _≤_}
 use mathlib.Core.Path.{_≡_}
 use mathlib.Core.List.{List, [], _∷_, _++_}
 use mathlib.Core.Option.{Option, none, some}
-use mathlib.Core.Bool.{cond}
+use mathlib.Core.Bool.{Bool, true, false, cond}
 use lib.Dec.{ltb}
 use lib.ListN.{length}
 use Rattle.lemmas.specs.Zeros.{Zero}
 use Rattle.model.specs.Numbers.{mostPages, pageWords}
 use Rattle.model.specs.Arena.{Segment, run, direct, zone, pages, total}
 use Rattle.model.specs.Zone.{Zone}
+use Rattle.model.specs.PageMap.{idleZone}
 use Rattle.model.specs.Pages.{FreeRun, firstFit}
 use Rattle.pages.specs.declared.Found.{Found}
 use Rattle.pages.specs.declared.Found.the-variants.{Run, Nothing}
@@ -27,6 +28,12 @@ abbrev pub runPages : Segment Zone → ℕ
 runPages (run n) = n
 runPages (direct n g) = 0
 runPages (zone z) = 0
+
+-- Whether the pages of a segment are free once trim has been there.
+abbrev pub isClear : Segment Zone → Bool
+isClear (run n) = true
+isClear (direct n g) = false
+isClear (zone z) = idleZone z
 
 -- The pages of the run that ends a list of segments, else 0. (b: for no segments.)
 abbrev pub runAtEnd : ℕ → List (Segment Zone) → ℕ

@@ -1,16 +1,17 @@
 // Where things stand: the size of a segment, the free runs, the segment of a page. Nothing is written.
 ghost use mathlib.Core.Path.{_≡_};
 ghost use mathlib.Core.List.{List};
-ghost use Prim.Native.Nat.{ℕ};
+ghost use Prim.Native.Nat.{ℕ, _<_};
 ghost use lib.Dec.{eqb};
 ghost use mathlib.Core.Bool.{true, cond};
 ghost use Rattle.zone.specs.Decoding.{isZone, zoneOf};
 ghost use Rattle.model.specs.Arena.{Segment, direct, zone, pages};
 ghost use Rattle.model.specs.Zone.{Zone};
-ghost use Rattle.model.specs.Pages.{claim};
+ghost use Rattle.model.specs.PageMap.{idleZone};
+ghost use Rattle.model.specs.Pages.{claim, hasRun, joined};
 ghost use Rattle.pages.specs.Encoding.{kindRun, kindOf};
 ghost use Rattle.pages.specs.Decoding.{segmentsOf, Holds};
-ghost use Rattle.pages.specs.Places.{found, runAtStart, Stands, Passed, firstRun, spotFrom};
+ghost use Rattle.pages.specs.Places.{found, runAtStart, isClear, Stands, Passed, firstRun, spotFrom};
 use crate::Found;
 use crate::Spot;
 use model::numbers::PAGE_WORDS;
@@ -103,6 +104,45 @@ pub fn find_run(words: &[u32], n: usize, need: usize) -> Found
         p = at + len;
     };
     found
+}
+
+// Whether the pages of the segment that begins at page p are free once trim has been there: it is a run, or a zone without a live chunk.
+fn clear(words: &[u32], n: usize, p: usize) -> bool
+    requires { ⌜ Holds (now words) n ⌝ }
+    requires { ⌜ ((b : ℕ) × (x : Segment Zone) × Stands (segmentsOf (now words)) p b x) ⌝ }
+    ensures { λ r. ⌜ ((b : ℕ) (x : Segment Zone) → Stands (segmentsOf (now (words .entry))) p b x → r ≡ isClear x) ⌝ }
+{
+    let kind = kind(words, n, p);
+    if kind == KIND_RUN {
+        return true;
+    }
+    if kind != KIND_ZONE {
+        return false;
+    }
+    zone::is_idle(zone_part(words, n, p))
+}
+
+// Whether trim would leave a run of `need` pages. `free` counts the pages before page p that would be part of one run.
+pub fn fits_trimmed(words: &[u32], n: usize, need: usize) -> bool
+    requires { ⌜ Holds (now words) n × (0 < need) ⌝ }
+    ensures { λ r. ⌜ r ≡ hasRun need (joined idleZone 0 (segmentsOf (now (words .entry)))) ⌝ }
+{
+    let mut p: usize = 0;
+    let mut free: usize = 0;
+    while p < n {
+        let len = size(words, n, p);
+        if !clear(words, n, p) {
+            p += len;
+            free = 0;
+            continue;
+        }
+        free += len;
+        if need <= free {
+            return true;
+        }
+        p += len;
+    }
+    false
 }
 
 // The segment that holds the page.

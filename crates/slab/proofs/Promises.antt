@@ -2,29 +2,34 @@
 -- src/lib.rt say of each call: its answer and the words after it. That the code does that is demand 2, and is proved with the code;
 -- here are the promises that follow from it. w stands for any lent words, c for any call. Assumes nothing.
 use Prim.Native.Nat.{ℕ, _+_, _*_, _%_, _≤_, _<_}
-use mathlib.Core.Path.{_≡_, refl, sym, ap, _∙_}
-use mathlib.Core.Logic.{_⊎_, inl, inr}
+use mathlib.Core.Path.{_≡_, refl, sym, ap, _∙_, subst}
+use mathlib.Core.Logic.{_⊎_, inl, inr, _↔_}
 use mathlib.Core.List.{List, _++_}
 use mathlib.Core.Option.{none, some}
 use native.Mathlib.Omega.{arith}
 use lib.ListN.{length, take, drop}
 use Rattle.model.specs.Numbers.{pageBytes, mostPages}
-use Rattle.model.specs.declared.Refusal.the-variants.{NoState, ShortBuffer}
+use Rattle.model.specs.declared.Refusal.the-variants.{NoState, NoRoom, ShortBuffer}
 use Rattle.model.specs.declared.Answer.the-variants.{Refused, Done, Counted}
-use mathlib.Core.Bool.{false}
+use mathlib.Core.Bool.{true, false}
 use Rattle.model.specs.declared.Operation.the-variants.{Allocate}
 use borrow.Author.Tests.{le-leb}
 use Rattle.model.specs.Arena.{total}
 use Rattle.model.specs.State.{State, freshState}
 use Rattle.model.specs.PageMap.{pageMap, Block, roomOf, blockAt}
 use Rattle.model.specs.Valid.{Valid}
-use Rattle.model.specs.Calls.{Action, query, listing, Command, init, act, reading, isRefused, RefusedBy, GrantedAt, group}
+use Rattle.model.specs.Calls.{Action, query, listing, Command, init, act, reading, isRefused, grantOf, RefusedBy, GrantedAt, group, groupOk, sizeOk}
+use Rattle.model.specs.Allocate.{needed}
 use Rattle.model.specs.Perform.{serve, wordsFor, onState}
 use Rattle.model.specs.Listing.{listingText}
+use Rattle.lemmas.proofs.Cases.{some-inj, none-some}
 use Rattle.model.proofs.Disjoint as model
+use Rattle.model.proofs.NoRoom as rules
+use Rattle.model.proofs.NoRoom.{Short}
 use Rattle.history.specs.Demand.{Demand3, LedgerAgrees}
 use Rattle.model.proofs.Answers.{refused-number, refusal-told, grant-told}
 use Rattle.history.proofs.Theorem.{demand-3, ledger-agrees}
+use Rattle.history.proofs.Empty as empty
 use Rattle.metadata.specs.Encoding.{encode, BeginsWith}
 use Rattle.metadata.specs.Decoding.{stateOf}
 use Rattle.slab.specs.Calls.{viewOf, written, answerOf, metaAfter, listedOf, textAfter, extent}
@@ -118,6 +123,29 @@ never-share w s e o q b c f g x i j k l = model.never-share s (holding-of w s e 
 -- A group's request of n bytes.
 abbrev pub request : ℕ → ℕ → Action
 request g n = group (record { group = g; operation = Allocate n })
+
+-- A request is refused by 6 exactly if the words begin with those of a valid state, its group and size are legal, it needs pages, and no
+-- run of the page map that trim would leave has as many (`Short`), ..
+pub no-room : (w : List ℕ) (g n : ℕ) → RefusedBy 6 (answerOf w (act (request g n))) ↔ ((s : State) × (stateOf w ≡ some s) × Short s g n)
+no-room w g n = by-state (λ x. RefusedBy 6 (answerOf w (act (request g n))) ↔ ((s : State) × (x ≡ some s) × Short s g n)) w
+    (λ e. (
+      λ r. let u = sym (unserved-answer w e (request g n)) ∙ refusal-told NoRoom _ .0 r in absurd (let z : _≡_ {A = ℕ} 0 1 = cc in omega arith),
+      λ h. none-some (h .1),
+    ))
+    (λ s e h.
+    let told = served-answer w s (h .valid) (h .begins) (request g n) in (
+      λ r. (s, refl, rules.no-room s g n .0 (sym (ap reading told) ∙ r)),
+      λ k. ap reading told ∙ rules.no-room s g n .1 (subst (λ x. Short x g n) (sym (some-inj (k .1))) (k .2)),
+    ))
+
+-- .. so the empty board does not say no: where no block is live, it is granted if the arena has the pages that it needs.
+pub empty-board : (w : List ℕ) (s : State) → stateOf w ≡ some s → ((o : ℕ) → blockAt (pageMap s) o ≡ none) → (g n : ℕ) → groupOk g ≡ true → sizeOk n ≡ true →
+    ((k : ℕ) → needed n s ≡ some k → k ≤ total (s .segments)) → (o : ℕ) × GrantedAt o (answerOf w (act (request g n)))
+empty-board w s e bare g n t u enough =
+    let h = holding-of w s e in
+    let told = served-answer w s (h .valid) (h .begins) (request g n) in
+    let k = empty.empty-board s (h .valid) bare g n t u enough in
+    (k .0, (ap grantOf told ∙ k .1 .0, ap reading told ∙ k .1 .1))
 
 -- A live block begins at a multiple of every number that divides a page's bytes and the block's room, ..
 pub block-aligned : (w : List ℕ) (s : State) → stateOf w ≡ some s → (o : ℕ) (b : Block) → blockAt (pageMap s) o ≡ some b → (d : ℕ) → pageBytes % d ≡ 0 → roomOf b % d ≡ 0 → o % d ≡ 0

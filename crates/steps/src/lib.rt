@@ -7,7 +7,8 @@ ghost use Prim.Native.Nat.{ℕ, _≤_, _<_};
 ghost use lib.ListN.{length, getD, drop};
 ghost use Rattle.model.specs.Arena.{Segment, run, direct, zone, pages, total};
 ghost use Rattle.model.specs.Zone.{Zone, touched, full, newZone, nextChunk, granted, putBack};
-ghost use Rattle.model.specs.Pages.{claim};
+ghost use Rattle.model.specs.Pages.{claim, hasRun};
+ghost use Rattle.model.specs.Trim.{trimmed};
 ghost use Rattle.model.specs.State.{listOf, zoneAt};
 ghost use Rattle.model.specs.PageMap.{idleZone};
 ghost use Rattle.model.specs.Valid.{Apart};
@@ -240,6 +241,14 @@ pub fn find_run(words: &[u32], n: usize, need: usize) -> Found
     ensures { λ r. ⌜ r ≡ found (claim need (decode (now (words .entry)) .segments)) ⌝ }
 {
     pages::find::find_run(&words[HEADER_WORDS..], n, need)
+}
+
+// Whether trim would leave a run of `need` pages. Nothing is written.
+pub fn fits_trimmed(words: &[u32], n: usize, need: usize) -> bool
+    requires { ⌜ Lent (now words) × (n ≡ total (decode (now words) .segments)) × (0 < need) ⌝ }
+    ensures { λ r. ⌜ r ≡ hasRun need (trimmed (decode (now (words .entry))) .segments) ⌝ }
+{
+    pages::find::fits_trimmed(&words[HEADER_WORDS..], n, need)
 }
 
 // The run at page `at` gives its low `need` pages to a direct block of the group.

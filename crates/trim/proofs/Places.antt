@@ -20,10 +20,6 @@ use Rattle.trim.specs.Between.{Between}
 
 -- ---- a run of b pages at the end or in front of a list, none where b is 0
 
-pub some-run : (n : ℕ) (r : List (Segment Zone)) → 0 < n → run n ∷ r ≡ withRun n r
-some-run zero r h = absurd (omega arith)
-some-run (suc n) r h = refl
-
 pub run-cons : (b : ℕ) (x : Segment Zone) (r : List (Segment Zone)) → withRun b (x ∷ r) ≡ withRun b (x ∷ []) ++ r
 run-cons zero x r = refl
 run-cons (suc b) x r = refl

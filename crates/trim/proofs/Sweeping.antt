@@ -16,7 +16,7 @@ use Rattle.model.specs.Valid.{Apart}
 use Rattle.model.specs.Pages.{withRun, freePages, joined}
 use Rattle.model.specs.Trim.{busy, idleCount, trimmed}
 use Rattle.model.proofs.Arena.{total-append}
-use Rattle.model.proofs.Joins.{total-withRun, joined-apart}
+use Rattle.model.proofs.Joins.{some-run, total-withRun, joined-apart}
 use Rattle.pages.specs.Encoding.{Writable}
 use Rattle.pages.specs.Places.{runPages, runAtEnd, runAtStart, Stands}
 use Rattle.pages.proofs.Laws.{each-right}
@@ -25,7 +25,7 @@ use Rattle.pages.proofs.Given.{apart-from, Begun, begun}
 use Rattle.steps.specs.Moves.{unlisted, released}
 use Rattle.steps.proofs.Body.{release-total}
 use Rattle.trim.specs.Between.{idleSegment, Between}
-use Rattle.trim.proofs.Places.{some-run, run-cons, run-then, run-ends, between-stands, between-released}
+use Rattle.trim.proofs.Places.{run-cons, run-then, run-ends, between-stands, between-released}
 use Rattle.trim.proofs.Swept.{sweptBy, sweptLists}
 
 -- Trim began with the state s₀ of n pages and has given back k zones; now the state is s, and it stands at page p, behind a run of b

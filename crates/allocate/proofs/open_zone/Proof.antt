@@ -1,84 +1,90 @@
 -- `open_zone` meets its contract. Assumes nothing.
-use Rattle.allocate.proofs.Opened.{no-zone-answer, no-zone-words, open-free, open-page, open-answer, open-words, open-room, opened-words}
+use Rattle.allocate.proofs.Opened.{no-zone, open-good, open-free, open-page, open-answer, open-words, open-room, opened-words}
 use Rattle.steps.proofs.Lent.{lent}
 use native.Mathlib.Omega.{arith}
-use mathlib.Core.Path.{sym, _∙_}
 use borrow.Author.Needs.{needs}
 use Rattle.allocate.proofs.open_zone.Statement.{statement}
 use Rattle.allocate.proofs.open_zone.Tie as tie
 
 -- The places that answers speak of, each from the next one.
-abbrev start : tie.After-find-run → tie.Start
+abbrev start : tie.After-find-pages → tie.Start
 start c = c .before .before .before
 
-abbrev find-run : tie.After-at → tie.After-find-run
-find-run c = c .before .before
+abbrev searched : tie.After-at → tie.After-find-pages
+searched c = c .before .before .before .before
 
-abbrev at : tie.After-take-zone → tie.After-at
-at c = c .before .before .before
+abbrev taken : tie.After-take-zone → tie.After-at
+taken c = c .before .before .before
+
+abbrev listed : tie.After-list-front → tie.After-take-zone
+listed c = c .before .before .before .before
+
+find-pages-requires : tie.Need-find-pages-requires
+find-pages-requires c κs = (c .before .before .pre .0 .good, omega arith)
 
 returns : tie.Need-returns
 returns c =
-    let f = c .before .before in
-    let s = start f in
-    let h = s .pre in let e = sym (f .find-run .ensures) ∙ c .enum-told .given .1 in (no-zone-answer (h .0) (h .1 .0) (h .1 .1) e, no-zone-words (h .0) (h .1 .0) (h .1 .1) e)
+    let f = c .before .before .before .before in
+    let h = start f .pre in no-zone (h .0) (h .1 .0) (h .1 .1) (c .enum-told .given .1) (f .find-pages .ensures)
 
 take-zone-requires : tie.Need-take-zone-requires
 take-zone-requires c κs =
     let a = c .before .before in
-    let f₁ = find-run a in
-    let s = start f₁ in
-    let h = s .pre in
-    let f = open-free (h .0) (h .1 .0) (h .1 .1) (sym (f₁ .find-run .ensures) ∙ a .at .given .1) in
-    ((h .0 .good .lent, h .0 .good .pages), (f .behind, f .there, f .enough, h .0 .least))
+    let f = searched a in
+    let h = start f .pre in
+    let k = a .at .given .1 in
+    let s = f .find-pages .ensures in
+    let g = open-good (h .0) (h .1 .0) (h .1 .1) k s in
+    let r = open-free (h .0) (h .1 .0) (h .1 .1) k s in ((g .lent, g .pages), (r .behind, r .there, r .enough, h .0 .least))
 
 cast-start : tie.Need-cast-start
 cast-start c =
-    let a = at (c .before .before) in
-    let f₁ = find-run a in
-    let s = start f₁ in
-    let h = s .pre in let f = open-page (h .0) (h .1 .0) (h .1 .1) (sym (f₁ .find-run .ensures) ∙ a .at .given .1) in omega arith
+    let a = taken (c .before .before) in
+    let f = searched a in
+    let h = start f .pre in
+    let p = open-page (h .0) (h .1 .0) (h .1 .1) (a .at .given .1) (f .find-pages .ensures) in omega arith
 
 list-front-requires : tie.Need-list-front-requires
 list-front-requires c κs =
     let t = c .before .before .before in
-    let a = at t in
-    let f₁ = find-run a in
-    let s = start f₁ in
-    let h = s .pre in
-    let f = sym (f₁ .find-run .ensures) ∙ a .at .given .1 in
+    let a = taken t in
+    let f = searched a in
+    let h = start f .pre in
+    let k = a .at .given .1 in
+    let s = f .find-pages .ensures in
     let e = t .take-zone .ensures in
-    (lent (open-words (h .0) (h .1 .0) (h .1 .1) f e), (omega (arith, h .0 .class), open-page (h .0) (h .1 .0) (h .1 .1) f, open-room (h .0) (h .1 .0) (h .1 .1) f e))
+    (lent (open-words (h .0) (h .1 .0) (h .1 .1) k s e), (omega (arith, h .0 .class), open-page (h .0) (h .1 .0) (h .1 .1) k s, open-room (h .0) (h .1 .0) (h .1 .1) k s e))
 
 mul-t17 : tie.Need-mul-t17
 mul-t17 c =
-    let a = at (c .before .before .before .before .before .before) in
-    let f₁ = find-run a in
-    let s = start f₁ in
-    let h = s .pre in let f = open-page (h .0) (h .1 .0) (h .1 .1) (sym (f₁ .find-run .ensures) ∙ a .at .given .1) in omega arith
+    let a = taken (listed (c .before .before)) in
+    let f = searched a in
+    let h = start f .pre in
+    let p = open-page (h .0) (h .1 .0) (h .1 .1) (a .at .given .1) (f .find-pages .ensures) in omega arith
 
 returns-2 : tie.Need-returns-2
 returns-2 c =
-    let t = c .before .before .before .before .before .before in
-    let a = at t in
-    let f₁ = find-run a in
-    let s = start f₁ in
-    let h = s .pre in
-    let f = sym (f₁ .find-run .ensures) ∙ a .at .given .1 in
-    (open-answer (h .0) (h .1 .0) (h .1 .1) f, opened-words (h .0) (h .1 .0) (h .1 .1) f (t .take-zone .ensures) (c .before .before .list-front .ensures))
+    let l = c .before .before in
+    let t = listed l in
+    let a = taken t in
+    let f = searched a in
+    let h = start f .pre in
+    let k = a .at .given .1 in
+    let s = f .find-pages .ensures in
+    (open-answer (h .0) (h .1 .0) (h .1 .1) k s, opened-words (h .0) (h .1 .0) (h .1 .1) k s (t .take-zone .ensures) (l .list-front .ensures))
 
 pub open-zone-spec : {M : Type 1} → statement M
 open-zone-spec =
     tie.close
     (tie.spec
-    (λ c κs. search needs)
+    find-pages-requires
     (λ c. omega arith)
     (λ c. omega arith)
-    (λ c. omega arith)
+    (λ c. search needs)
     returns
     take-zone-requires
     cast-start
     list-front-requires
     mul-t17
-    (λ c. omega arith)
+    (λ c. search needs)
     returns-2)

@@ -1,51 +1,56 @@
 -- `supply_pages` meets its contract. Assumes nothing.
-use Rattle.allocate.proofs.Requests.{no-pages, pages-free, pages-page, pages-taken}
+use Rattle.allocate.proofs.Requests.{no-pages, pages-good, pages-free, pages-page, pages-taken}
 use native.Mathlib.Omega.{arith}
-use mathlib.Core.Path.{sym, _∙_}
 use borrow.Author.Needs.{needs}
 use Rattle.allocate.proofs.supply_pages.Statement.{statement}
 use Rattle.allocate.proofs.supply_pages.Tie as tie
 
 -- The places that answers speak of, each from the next one.
-abbrev start : tie.After-find-run → tie.Start
+abbrev start : tie.After-find-pages → tie.Start
 start c = c .before .before .before
 
-abbrev find-run : tie.After-at → tie.After-find-run
-find-run c = c .before .before
+abbrev searched : tie.After-at → tie.After-find-pages
+searched c = c .before .before .before .before
+
+abbrev taken : tie.After-take-direct → tie.After-at
+taken c = c .before .before .before
 
 returns : tie.Need-returns
 returns c =
-    let f = c .before .before in
-    let s = start f in
-    no-pages (s .pre .0) (s .pre .1) _ (sym (f .find-run .ensures) ∙ c .enum-told .given .1)
+    let f = c .before .before .before .before in
+    let h = start f .pre in no-pages (h .0) (h .1) _ (c .enum-told .given .1) (f .find-pages .ensures)
 
 take-direct-requires : tie.Need-take-direct-requires
 take-direct-requires c κs =
     let a = c .before .before in
-    let f₁ = find-run a in
-    let s = start f₁ in
-    let h = s .pre in let f = pages-free (h .0) (h .1) 0 (sym (f₁ .find-run .ensures) ∙ a .at .given .1) in ((h .0 .lent, h .0 .pages), (f .behind, f .there, h .1, f .enough))
+    let f = searched a in
+    let h = start f .pre in
+    let k = a .at .given .1 in
+    let s = f .find-pages .ensures in
+    let g = pages-good (h .0) (h .1) 0 k s in
+    let r = pages-free (h .0) (h .1) 0 k s in ((g .lent, g .pages), (r .behind, r .there, h .1, r .enough))
 
 cast-t14 : tie.Need-cast-t14
 cast-t14 c =
-    let a = c .before .before .before .before .before in
-    let f₁ = find-run a in
-    let s = start f₁ in
-    let h = s .pre in let f = pages-page (h .0) (h .1) 0 (sym (f₁ .find-run .ensures) ∙ a .at .given .1) in omega arith
+    let a = taken (c .before .before) in
+    let f = searched a in
+    let h = start f .pre in
+    let p = pages-page (h .0) (h .1) 0 (a .at .given .1) (f .find-pages .ensures) in omega arith
 
 mul-t15 : tie.Need-mul-t15
 mul-t15 c =
-    let a = c .before .before .before .before .before in
-    let f₁ = find-run a in
-    let s = start f₁ in
-    let h = s .pre in let f = pages-page (h .0) (h .1) 0 (sym (f₁ .find-run .ensures) ∙ a .at .given .1) in omega arith
+    let a = taken (c .before .before) in
+    let f = searched a in
+    let h = start f .pre in
+    let p = pages-page (h .0) (h .1) 0 (a .at .given .1) (f .find-pages .ensures) in omega arith
 
 returns-2 : tie.Need-returns-2
 returns-2 c =
-    let a = c .before .before .before .before .before in
-    let f = find-run a in
-    let s = start f in
-    pages-taken (s .pre .0) (s .pre .1) _ (sym (f .find-run .ensures) ∙ a .at .given .1) (c .before .before .take-direct .ensures)
+    let t = c .before .before in
+    let a = taken t in
+    let f = searched a in
+    let h = start f .pre in
+    pages-taken (h .0) (h .1) _ (a .at .given .1) (f .find-pages .ensures) (t .take-direct .ensures)
 
 pub supply-pages-spec : {M : Type 1} → statement M
 supply-pages-spec =
@@ -54,10 +59,10 @@ supply-pages-spec =
     (λ c κs. search needs)
     (λ c. omega arith)
     (λ c. omega arith)
-    (λ c. omega arith)
+    (λ c. search needs)
     returns
     take-direct-requires
     cast-t14
     mul-t15
-    (λ c. omega arith)
+    (λ c. search needs)
     returns-2)

@@ -1,0 +1,24 @@
+-- What the two searches for pages find, as the code tells it. Assumes nothing.
+use Prim.Native.Nat.{ℕ}
+use mathlib.Core.Path.{_≡_}
+use mathlib.Core.List.{List}
+use mathlib.Core.Option.{Option, none, some}
+use Rattle.model.specs.State.{State}
+use Rattle.model.specs.Pages.{FreeRun}
+use Rattle.model.specs.Allocate.{Source}
+use Rattle.pages.specs.declared.Found.{Found}
+use Rattle.pages.specs.Places.{found}
+use Rattle.metadata.specs.Encoding.{encode}
+
+abbrev pub runOf : Option Source → Option FreeRun
+runOf none = none
+runOf (some f) = some (f .free)
+
+-- The state that is left: the one that the run is taken from, else the one in which the searches began.
+abbrev pub leftBy : State → Option Source → State
+leftBy s none = s
+leftBy s (some f) = f .state
+
+-- The searches, begun in the state s, have the result o: it is told as r, and the words are now w.
+abbrev pub Finds : State → Option Source → Found → List ℕ → Type 0
+Finds s o r w = (r ≡ found (runOf o)) × (w ≡ encode (leftBy s o))

@@ -1,0 +1,102 @@
+-- Refusal 6, exactly: pages are needed, and after trim no run would have as many. Every other request of a legal group and size is
+-- granted. Assumes nothing.
+use Prim.Native.Nat.{ℕ, _<_}
+use mathlib.Core.Path.{_≡_, refl, sym, _∙_, ap, subst}
+use mathlib.Core.Logic.{_↔_}
+use mathlib.Core.List.{List, [], _∷_}
+use mathlib.Core.Option.{Option, none, some}
+use mathlib.Core.Bool.{true, false}
+use native.Mathlib.Omega.{arith}
+use lib.Dec.{ltb}
+use borrow.Author.Tests.{ltb-false}
+use Rattle.lemmas.proofs.Cases.{bool, clash, some-inj, none-some}
+use Rattle.model.specs.Numbers.{zonePages, largeSize}
+use Rattle.model.specs.declared.Refusal.the-variants.{NoRoom}
+use Rattle.model.specs.declared.Answer.{Answer}
+use Rattle.model.specs.declared.Answer.the-variants.{Granted, Refused}
+use Rattle.model.specs.Sizes.{classOf, pagesFor}
+use Rattle.model.specs.State.{State, listOf}
+use Rattle.model.specs.PageMap.{occupancy, pageMap}
+use Rattle.model.specs.Pages.{hasRun}
+use Rattle.model.specs.Trim.{trimmed}
+use Rattle.model.specs.Calls.{Outcome, RefusedBy, GrantedAt, groupOk, sizeOk}
+use Rattle.model.specs.Allocate.{Source, sought, directFrom, zoneFrom, chunkFrom, fromSpare, zoneNeeded, needed, supplied, allocate}
+use Rattle.model.proofs.Answers.{refusal-told, grant-told}
+use Rattle.model.proofs.Claim.{has-retold}
+use Rattle.model.proofs.Sought.{sought-none}
+
+-- A request by a legal group and of a legal size needs k pages, and after trim no run has k.
+pub record Short (s : State) (g n : ℕ) : Type 0 where
+  pub group : groupOk g ≡ true
+  pub size : sizeOk n ≡ true
+  pub pages : ℕ
+  pub needs : needed n s ≡ some pages
+  pub none-long : hasRun pages (pageMap (trimmed s)) ≡ false
+
+-- Of the pages that an option names, after trim no run has as many.
+abbrev Lacks : State → Option ℕ → Type 0
+Lacks s o = (k : ℕ) × (o ≡ some k) × (hasRun k (pageMap (trimmed s)) ≡ false)
+
+-- The answer to a request of a legal group and size, which needs the pages that an option names.
+data Decided (s : State) (o : Option ℕ) (a : Answer) : Type 0 where
+  refused : a ≡ Refused NoRoom → Lacks s o → Decided s o a
+  served : (q : ℕ) → a ≡ Granted q → (Lacks s o → ⊥) → Decided s o a
+
+module _ (s : State) where
+  map-has : (k : ℕ) → hasRun k (pageMap (trimmed s)) ≡ hasRun k (trimmed s .segments)
+  map-has k = has-retold occupancy k (trimmed s .segments)
+
+  -- Both kinds of request that need pages go by what the two searches find.
+  pages-decided : (k : ℕ) → 0 < k → (R : Option Source → Outcome State) → (R none) .answer ≡ Refused NoRoom
+      → ((f : Source) → (q : ℕ) × ((R (some f)) .answer ≡ Granted q)) → Decided s (some k) ((R (sought k s)) .answer)
+  pages-decided k pos R missed found = go (sought k s) refl
+    where
+      go : (h : Option Source) → sought k s ≡ h → Decided s (some k) ((R h) .answer)
+      go none c = refused missed (k, refl, map-has k ∙ sought-none k s pos .0 c)
+      go (some f) c = served (found f .0) (found f .1) (λ l. none-some (sym (miss l) ∙ c))
+        where
+          miss : Lacks s (some k) → sought k s ≡ none
+          miss l = sought-none k s pos .1 (sym (map-has k) ∙ ap (λ j. hasRun j (pageMap (trimmed s))) (some-inj (l .1)) ∙ l .2)
+
+  chunk-decided : (c g : ℕ) (l q : List ℕ) → s .spare ≡ q → Decided s (zoneNeeded l q) ((chunkFrom c g s l) .answer)
+  chunk-decided c g [] [] e = subst (λ z. Decided s (some zonePages) ((fromSpare c g s z) .answer)) (sym e) (pages-decided zonePages (omega arith) (zoneFrom c g s) refl (λ f. (_, refl)))
+  chunk-decided c g [] (p ∷ ps) e = subst (λ z. Decided s none ((fromSpare c g s z) .answer)) (sym e) (served _ refl (λ k. none-some (k .1)))
+  chunk-decided c g (p ∷ ps) q e = served _ refl (λ k. none-some (k .1))
+
+  decided : (g n : ℕ) → Decided s (needed n s) ((supplied g n s) .answer)
+  decided g n = bool (ltb n largeSize)
+      (λ t. rw t (chunk-decided (classOf n) g (listOf s (classOf n)) (s .spare) refl))
+      (λ t. rw t (pages-decided (pagesFor n) (omega (arith, ltb-false)) (directFrom (pagesFor n) g s) refl (λ f. (_, refl))))
+
+  module _ (g n : ℕ) where
+    -- A request of a legal group and size is as it is decided.
+    accepted : groupOk g ≡ true → sizeOk n ≡ true → (allocate g n s) .answer ≡ (supplied g n s) .answer
+    accepted t u = rw (t, u)
+
+    lacks-short : groupOk g ≡ true → sizeOk n ≡ true → Lacks s (needed n s) → Short s g n
+    lacks-short t u l = record { group = t; size = u; pages = l .0; needs = l .1; none-long = l .2 }
+
+    pub no-room : RefusedBy 6 ((allocate g n s) .answer) ↔ Short s g n
+    no-room = (λ e. there (refusal-told NoRoom ((allocate g n s) .answer) .0 e), λ h. refusal-told NoRoom ((allocate g n s) .answer) .1 (accepted (h .group) (h .size) ∙ back (decided g n) h))
+      where
+        there : (allocate g n s) .answer ≡ Refused NoRoom → Short s g n
+        there e = bool (groupOk g)
+            (λ t. bool (sizeOk n)
+            (λ u. go t u (decided g n) (sym (accepted t u) ∙ e))
+            (λ u. let k = rw (t, u) at e in clash (cc)))
+            (λ t. let k = rw t at e in clash (cc))
+          where
+            go : groupOk g ≡ true → sizeOk n ≡ true → Decided s (needed n s) ((supplied g n s) .answer) → (supplied g n s) .answer ≡ Refused NoRoom → Short s g n
+            go t u (refused a l) k = lacks-short t u l
+            go t u (served q a l) k = clash (cc)
+
+        back : Decided s (needed n s) ((supplied g n s) .answer) → Short s g n → (supplied g n s) .answer ≡ Refused NoRoom
+        back (refused a l) h = a
+        back (served q a l) h = absurd (l (h .pages, h .needs, h .none-long))
+
+    pub granted-else : groupOk g ≡ true → sizeOk n ≡ true → (Short s g n → ⊥) → (o : ℕ) × GrantedAt o ((allocate g n s) .answer)
+    granted-else t u h = go (decided g n)
+      where
+        go : Decided s (needed n s) ((supplied g n s) .answer) → (o : ℕ) × GrantedAt o ((allocate g n s) .answer)
+        go (refused a l) = absurd (h (lacks-short t u l))
+        go (served q a l) = (q, grant-told q ((allocate g n s) .answer) .1 (accepted t u ∙ a))
