@@ -5,4 +5,4 @@ pub mod Ledger
 pub mod Growth
 pub mod Theorem
 pub mod Model
-pub mod Empty
+pub mod Second

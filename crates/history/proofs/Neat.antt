@@ -2,7 +2,7 @@
 -- keep them so. Assumes nothing.
 use Prim.Native.Nat.{ℕ, zero, suc, _+_, _-_, _*_, _≤_, _<_}
 use mathlib.Core.Path.{_≡_, refl, sym, _∙_, ap}
-use mathlib.Core.List.{[], _∷_, _++_}
+use mathlib.Core.List.{List, [], _∷_, _++_, map}
 use mathlib.Core.Option.{some}
 use mathlib.Core.Bool.{Bool, true, false}
 use native.Mathlib.Omega.{arith}
@@ -10,12 +10,17 @@ use lib.Dec.{ltb, leb}
 use borrow.Author.Tests.{leb-true, leb-false, ltb-true, ltb-false, lt-ltb, le-ltb, le-leb}
 use Rattle.lemmas.proofs.Cases.{bool, true-false, clash}
 use Rattle.model.specs.Numbers.{pageBytes, zoneBytes, zonePages}
-use Rattle.model.specs.Arena.{Segment, run, direct, zone, pages, bytes, total, locate, edit, Each}
-use Rattle.model.specs.PageMap.{Occupancy, PageMap, idle, whole}
+use Rattle.model.specs.Arena.{Segment, run, direct, zone, pages, bytes, total, retold, locate, edit, Each}
+use Rattle.model.specs.PageMap.{Occupancy, occupancy, PageMap, pageMap, idle, whole}
+use Rattle.model.specs.Zone.{Zone}
+use Rattle.model.specs.State.{State}
+use Rattle.model.specs.Valid.{ValidSegment, Valid}
+use Rattle.model.specs.Trim.{trimmed}
 use Rattle.model.specs.Pages.{FreeRun, claim, hasRun, withRun, joined, freePages, release}
 use Rattle.model.proofs.Arena.{split, locate-mid, each-edit, same-segment}
 use Rattle.model.proofs.Claim.{claim-found}
 use Rattle.model.proofs.Joins.{some-run, run-append}
+use Rattle.model.proofs.Trimmed.{trimmed-map}
 use Rattle.history.specs.Rows.{isClear, clearThere, Clear, Row}
 
 -- A trimmed map: runs have pages and stand apart, direct blocks have pages, every zone has a live chunk. (b: a run stands just before.)
@@ -53,6 +58,20 @@ neat-again [] = (λ h. refl, λ n p h. sym (some-run n [] p))
 neat-again (run k ∷ r) = (λ h. ap (λ n. joined idle n r) (let q : 0 + k ≡ k = omega arith in q) ∙ neat-again r .1 k (h .1) (h .2), λ n p h. true-false refl (h .0))
 neat-again (direct k g ∷ r) = (λ h. ap (λ l. direct k g ∷ l) (neat-again r .0 (h .1)), λ n p h. cc (some-run n (direct k g ∷ joined idle 0 r) p, neat-again r .0 (h .1)))
 neat-again (zone l ∷ r) = (λ h. rw (h .0) (ap (λ q. zone l ∷ q) (neat-again r .0 (h .1))), λ n p h. rw (h .0) (cc (some-run n (zone l ∷ joined idle 0 r) p, neat-again r .0 (h .1))))
+
+-- What joining asks of the page map of valid segments.
+all-fit : (m : List (Segment Zone)) → Each ValidSegment m → Each (Fit idle) (map (retold occupancy) m)
+all-fit [] h = tt
+all-fit (run n ∷ r) h = (tt, all-fit r (h .1))
+all-fit (direct n g ∷ r) h = (h .0 .0, all-fit r (h .1))
+all-fit (zone z ∷ r) h = (λ e. e, all-fit r (h .1))
+
+pub trimmed-neat : (s : State) → Valid s → Neat false (pageMap (trimmed s))
+trimmed-neat s v = rw (trimmed-map s) (joined-neat idle 0 (pageMap s) (all-fit (s .segments) (v .sound)))
+
+-- Trim, once more, changes the page map no further.
+pub trimmed-again : (s : State) → Valid s → pageMap (trimmed (trimmed s)) ≡ pageMap (trimmed s)
+trimmed-again s v = trimmed-map (trimmed s) ∙ neat-again (pageMap (trimmed s)) .0 (trimmed-neat s v)
 
 neat-fit : (b : Bool) (m : PageMap) → Neat b m → Each (Fit (λ _. false)) m
 neat-fit b [] h = tt

@@ -16,12 +16,10 @@ use Rattle.model.specs.declared.Operation.{Operation}
 use Rattle.model.specs.declared.Operation.the-variants.{Allocate, Free, Reset}
 use Rattle.model.specs.declared.Refusal.the-variants.{NoRoom}
 use Rattle.model.specs.declared.Answer.{Answer}
-use Rattle.model.specs.Arena.{Segment, run, direct, zone, total, retold, Each}
-use Rattle.model.specs.Zone.{Zone}
+use Rattle.model.specs.Arena.{total}
 use Rattle.model.specs.State.{State, freshState}
-use Rattle.model.specs.PageMap.{occupancy, pageMap, idle, idleZone, blockAt}
-use Rattle.model.specs.Valid.{ValidSegment, Valid}
-use Rattle.model.specs.Pages.{joined}
+use Rattle.model.specs.PageMap.{pageMap, blockAt}
+use Rattle.model.specs.Valid.{Valid}
 use Rattle.model.specs.Calls.{Action, group, trim, Command, init, act, isRefused}
 use Rattle.model.specs.Trim.{trimmed}
 use Rattle.model.specs.Perform.{asked, serve, Metadata, wordsFor, holding, perform}
@@ -32,20 +30,10 @@ use Rattle.model.proofs.Disjoint.{all-sized}
 use Rattle.history.specs.Ledger.{begins, unlessRefused, effect, Agrees}
 use Rattle.history.specs.Demand.{mapAt, History, after, afterAll, begun, NoStart, Allowed, Sequence, answersTo, ExactCall, Exact, Alike, Demand3, LedgerAgrees}
 use Rattle.history.proofs.Determined.{same-trimmed}
-use Rattle.history.proofs.Neat.{Neat, Fit, joined-neat}
+use Rattle.history.proofs.Neat.{Neat, trimmed-neat}
 use Rattle.history.proofs.Sequence.{AllowedOn, call-map, call-says, allowed-same, call-neat, request-exact}
 use Rattle.history.proofs.Ledger.{Entry, told, find, Single, entries-agree, After, unchanged, after-action}
 use Rattle.history.proofs.Growth.{Grew, grew-none, grew-more, grew-same}
-
--- What joining asks of the page map of valid segments.
-all-fit : (m : List (Segment Zone)) → Each ValidSegment m → Each (Fit idle) (map (retold occupancy) m)
-all-fit [] h = tt
-all-fit (run n ∷ r) h = (tt, all-fit r (h .1))
-all-fit (direct n g ∷ r) h = (h .0 .0, all-fit r (h .1))
-all-fit (zone z ∷ r) h = (λ e. e, all-fit r (h .1))
-
-trimmed-neat : (s : State) → Valid s → Neat false (pageMap (trimmed s))
-trimmed-neat s v = rw (trimmed-map s) (joined-neat idle 0 (pageMap s) (all-fit (s .segments) (v .sound)))
 
 -- A start that is not refused.
 record Started (m : Metadata) (n : ℕ) : Type 0 where

@@ -1,20 +1,22 @@
 -- What trim does to the page map, to the live blocks, to the lists and to the runs. Assumes nothing.
 use Prim.Native.Nat.{ℕ, zero, suc, _+_, _≤_, _<_}
-use mathlib.Core.Path.{_≡_, refl, sym, _∙_, ap}
+use mathlib.Core.Path.{_≡_, refl, _∙_, ap}
 use mathlib.Core.List.{List, [], _∷_}
-use mathlib.Core.Bool.{Bool, true, false}
+use mathlib.Core.Option.{some}
+use mathlib.Core.Bool.{Bool, true}
 use native.Mathlib.Omega.{arith}
-use lib.Dec.{leb}
+use lib.Dec.{ltb, leb}
 use lib.ListN.{List·getD-map}
 use borrow.Author.Tests.{leb-true, le-leb, lt-leb}
 use Rattle.lemmas.specs.Keep.{keep}
-use Rattle.lemmas.proofs.Cases.{bool, true-false}
+use Rattle.lemmas.proofs.Cases.{bool, true-false, none-some}
+use Rattle.model.specs.Arena.{Segment, run, direct, zone, bytes, total, locate}
 use Rattle.model.specs.Numbers.{zonePages}
-use Rattle.model.specs.Arena.{Segment, run, direct, zone, total}
 use Rattle.model.specs.State.{State, listOf}
 use Rattle.model.specs.PageMap.{occupancy, pageMap, idle, idleZone, blockAt}
 use Rattle.model.specs.Pages.{withRun, joined, hasRun}
 use Rattle.model.specs.Trim.{busy, trimmed}
+use Rattle.model.proofs.Arena.{same-segment}
 use Rattle.model.proofs.Blocks.{Still, joined-blocks}
 use Rattle.model.proofs.Joins.{joined-retold, total-joined}
 
@@ -67,3 +69,15 @@ module _ {Z : Type 0} (gone : Z → Bool) where
   joined-has n b (run k ∷ r) p e = bool (leb n k) (λ t. joined-enough n (b + k) r p (omega (arith, leb-true))) (λ t. joined-has n (b + k) r p (rw t at e))
   joined-has n b (direct k g ∷ r) p e = any-before n b _ (joined-has n 0 r p e)
   joined-has n b (zone z ∷ r) p e = bool (gone z) (λ t. rw t (joined-has n _ r p e)) (λ t. rw t (any-before n b _ (joined-has n 0 r p e)))
+
+  -- A zone that is freed is 8 pages of a run.
+  pub joined-gone : (b o d : ℕ) (m : List (Segment Z)) (z : Z) → locate o m ≡ some (record { away = d; segment = zone z }) → gone z ≡ true → hasRun zonePages (joined gone b m) ≡ true
+  joined-gone b o d [] z e t = none-some e
+  joined-gone b o d (x ∷ r) z e t = bool (ltb o (bytes x))
+      (λ u. rw (same-segment (rw u at e)) (rw t (joined-enough zonePages (b + zonePages) r (omega arith) (omega arith))))
+      (λ u. go x (λ c. joined-gone c _ d r z (rw u at e) t))
+    where
+      go : (x : Segment Z) → ((c : ℕ) → hasRun zonePages (joined gone c r) ≡ true) → hasRun zonePages (joined gone b (x ∷ r)) ≡ true
+      go (run k) k′ = k′ (b + k)
+      go (direct k g) k′ = any-before zonePages b _ (k′ 0)
+      go (zone y) k′ = bool (gone y) (λ v. rw v (k′ _)) (λ v. rw v (any-before zonePages b _ (k′ 0)))

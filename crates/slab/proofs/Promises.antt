@@ -5,7 +5,7 @@ use Prim.Native.Nat.{ℕ, _+_, _*_, _%_, _≤_, _<_}
 use mathlib.Core.Path.{_≡_, refl, sym, ap, _∙_, subst}
 use mathlib.Core.Logic.{_⊎_, inl, inr, _↔_}
 use mathlib.Core.List.{List, _++_}
-use mathlib.Core.Option.{none, some}
+use mathlib.Core.Option.{Option, none, some}
 use native.Mathlib.Omega.{arith}
 use lib.ListN.{length, take, drop}
 use Rattle.model.specs.Numbers.{pageBytes, mostPages}
@@ -18,8 +18,9 @@ use Rattle.model.specs.Arena.{total}
 use Rattle.model.specs.State.{State, freshState}
 use Rattle.model.specs.PageMap.{pageMap, Block, roomOf, blockAt}
 use Rattle.model.specs.Valid.{Valid}
-use Rattle.model.specs.Calls.{Action, query, listing, Command, init, act, reading, isRefused, grantOf, RefusedBy, GrantedAt, group, groupOk, sizeOk}
+use Rattle.model.specs.Calls.{Action, trim, query, listing, Command, init, act, reading, isRefused, grantOf, RefusedBy, GrantedAt, group, groupOk, sizeOk}
 use Rattle.model.specs.Allocate.{needed}
+use Rattle.model.specs.Trim.{trimmed}
 use Rattle.model.specs.Perform.{serve, wordsFor, onState}
 use Rattle.model.specs.Listing.{listingText}
 use Rattle.lemmas.proofs.Cases.{some-inj, none-some}
@@ -29,7 +30,7 @@ use Rattle.model.proofs.NoRoom.{Short}
 use Rattle.history.specs.Demand.{Demand3, LedgerAgrees}
 use Rattle.model.proofs.Answers.{refused-number, refusal-told, grant-told}
 use Rattle.history.proofs.Theorem.{demand-3, ledger-agrees}
-use Rattle.history.proofs.Empty as empty
+use Rattle.history.proofs.Second as second
 use Rattle.metadata.specs.Encoding.{encode, BeginsWith}
 use Rattle.metadata.specs.Decoding.{stateOf}
 use Rattle.slab.specs.Calls.{viewOf, written, answerOf, metaAfter, listedOf, textAfter, extent}
@@ -126,25 +127,44 @@ request g n = group (record { group = g; operation = Allocate n })
 
 -- A request is refused by 6 exactly if the words begin with those of a valid state, its group and size are legal, it needs pages, and no
 -- run of the page map that trim would leave has as many (`Short`), ..
+no-room-on : (w : List ℕ) (s : State) → stateOf w ≡ some s → (g n : ℕ) → RefusedBy 6 (answerOf w (act (request g n))) ↔ Short s g n
+no-room-on w s e g n =
+    let h = holding-of w s e in
+    let told = ap reading (served-answer w s (h .valid) (h .begins) (request g n)) in
+    (λ r. rules.no-room s g n .0 (sym told ∙ r), λ k. told ∙ rules.no-room s g n .1 k)
+
+no-room-without : (w : List ℕ) (g n : ℕ) → stateOf w ≡ none → RefusedBy 6 (answerOf w (act (request g n))) → ⊥
+no-room-without w g n e r =
+    let u = sym (unserved-answer w e (request g n)) ∙ refusal-told NoRoom (answerOf w (act (request g n))) .0 r in
+    let z : _≡_ {A = ℕ} 0 1 = cc in omega arith
+
 pub no-room : (w : List ℕ) (g n : ℕ) → RefusedBy 6 (answerOf w (act (request g n))) ↔ ((s : State) × (stateOf w ≡ some s) × Short s g n)
 no-room w g n = by-state (λ x. RefusedBy 6 (answerOf w (act (request g n))) ↔ ((s : State) × (x ≡ some s) × Short s g n)) w
-    (λ e. (
-      λ r. let u = sym (unserved-answer w e (request g n)) ∙ refusal-told NoRoom _ .0 r in absurd (let z : _≡_ {A = ℕ} 0 1 = cc in omega arith),
-      λ h. none-some (h .1),
-    ))
-    (λ s e h.
-    let told = served-answer w s (h .valid) (h .begins) (request g n) in (
-      λ r. (s, refl, rules.no-room s g n .0 (sym (ap reading told) ∙ r)),
-      λ k. ap reading told ∙ rules.no-room s g n .1 (subst (λ x. Short x g n) (sym (some-inj (k .1))) (k .2)),
-    ))
+    (λ e. (λ r. absurd (no-room-without w g n e r), λ k. none-some (k .1)))
+    (λ s e _. (λ r. (s, refl, no-room-on w s e g n .0 r), λ k. no-room-on w s e g n .1 (subst (λ x. Short x g n) (sym (some-inj (k .1))) (k .2))))
 
--- .. so the empty board does not say no: where no block is live, it is granted if the arena has the pages that it needs.
+-- .. so a trim before it does not help, nor does it harm: it is refused by 6 after a trim just if it is without one, ..
+pub trim-needless : (w : List ℕ) (g n : ℕ) → RefusedBy 6 (answerOf w (act (request g n))) ↔ RefusedBy 6 (answerOf (metaAfter w (act trim)) (act (request g n)))
+trim-needless w g n = go (stateOf w) refl
+  where
+    after : (x : Option State) → stateOf w ≡ x → stateOf (metaAfter w (act trim)) ≡ (onState (viewOf w) trim x) .after .state
+    after x e = ap (λ m. m .state) (view-after w (act trim)) ∙ ap (λ x. (onState (viewOf w) trim x) .after .state) e
+
+    go : (x : Option State) → stateOf w ≡ x → RefusedBy 6 (answerOf w (act (request g n))) ↔ RefusedBy 6 (answerOf (metaAfter w (act trim)) (act (request g n)))
+    go none e = (λ r. absurd (no-room-without w g n e r), λ r. absurd (no-room-without (metaAfter w (act trim)) g n (after none e ∙ e) r))
+    go (some s) e =
+        let here = no-room-on w s e g n in
+        let there = no-room-on (metaAfter w (act trim)) (trimmed s) (after (some s) e) g n in
+        let same = second.short-trimmed s (holding-of w s e .valid) g n in
+        (λ r. there .1 (same .0 (here .0 r)), λ r. here .1 (same .1 (there .0 r)))
+
+-- .. and the empty board does not say no: where no block is live, it is granted if the arena has the pages that it needs.
 pub empty-board : (w : List ℕ) (s : State) → stateOf w ≡ some s → ((o : ℕ) → blockAt (pageMap s) o ≡ none) → (g n : ℕ) → groupOk g ≡ true → sizeOk n ≡ true →
     ((k : ℕ) → needed n s ≡ some k → k ≤ total (s .segments)) → (o : ℕ) × GrantedAt o (answerOf w (act (request g n)))
 empty-board w s e bare g n t u enough =
     let h = holding-of w s e in
     let told = served-answer w s (h .valid) (h .begins) (request g n) in
-    let k = empty.empty-board s (h .valid) bare g n t u enough in
+    let k = second.empty-board s (h .valid) bare g n t u enough in
     (k .0, (ap grantOf told ∙ k .1 .0, ap reading told ∙ k .1 .1))
 
 -- A live block begins at a multiple of every number that divides a page's bytes and the block's room, ..

@@ -1,0 +1,115 @@
+-- What the second search is good for. The empty board does not say no: where no block is live, trim leaves one run, and a request is
+-- granted if the arena has the pages that it needs. And no trim is needed before a request. Assumes nothing.
+use Prim.Native.Nat.{ℕ, _+_, _*_, _≤_, _<_}
+use mathlib.Core.Path.{_≡_, refl, sym, _∙_, ap, subst}
+use mathlib.Core.Logic.{_↔_}
+use mathlib.Core.List.{List, [], _∷_, List·Memᴰ, List·Memᴰ·head, List·Memᴰ·not-nil}
+use mathlib.Core.Option.{none, some}
+use mathlib.Core.Bool.{true, false, not}
+use native.Mathlib.Omega.{arith}
+use lib.Dec.{ltb}
+use borrow.Author.Tests.{le-leb}
+use Rattle.lemmas.proofs.Keep.{keep-keeps}
+use Rattle.lemmas.proofs.Cases.{bool, true-false, some-inj, none-some}
+use Rattle.lemmas.specs.Keep.{keep}
+use Rattle.model.specs.Numbers.{pageBytes, zonePages, largeSize}
+use Rattle.model.specs.Arena.{run, total}
+use Rattle.model.specs.Sizes.{classOf}
+use Rattle.model.specs.Zone.{Zone}
+use Rattle.model.specs.State.{State, listOf, ZoneAt, zoneIn}
+use Rattle.model.specs.PageMap.{occupancy, PageMap, pageMap, idle, idleZone, blockAt}
+use Rattle.model.specs.Valid.{Valid}
+use Rattle.model.specs.Pages.{withRun, joined, hasRun}
+use Rattle.model.specs.Trim.{trimmed}
+use Rattle.model.specs.Calls.{GrantedAt, groupOk, sizeOk}
+use Rattle.model.specs.Allocate.{zoneNeeded, needed, allocate}
+use Rattle.model.proofs.Arena.{total-retold}
+use Rattle.model.proofs.Claim.{has-retold}
+use Rattle.model.proofs.Joins.{some-run}
+use Rattle.model.proofs.Disjoint.{all-sized}
+use Rattle.model.proofs.NoRoom.{Short, granted-else}
+use Rattle.model.proofs.Trimmed.{trimmed-map, trimmed-list, trimmed-empty, joined-gone}
+use Rattle.history.proofs.Determined.{same-trimmed}
+use Rattle.history.proofs.Neat.{trimmed-again}
+
+-- No block is live.
+abbrev pub Bare : PageMap → Type 0
+Bare m = (o : ℕ) → blockAt m o ≡ none
+
+one-run : (n : ℕ) → Bare (run n ∷ [])
+one-run n o = bool (ltb o (n * pageBytes)) (λ t. rw t) (λ t. rw t)
+
+joined-one : (n : ℕ) → 0 < n → joined idle 0 (run n ∷ []) ≡ run n ∷ []
+joined-one n h = ap (λ k. withRun k []) (let q : 0 + n ≡ n = omega arith in q) ∙ sym (some-run n [] h)
+
+module _ (s : State) (v : Valid s) (bare : Bare (pageMap s)) where
+  pub bare-trimmed : pageMap (trimmed s) ≡ run (total (s .segments)) ∷ []
+  bare-trimmed =
+      let n = total (s .segments) in
+      trimmed-map s
+      ∙ same-trimmed (pageMap s) (run n ∷ []) (all-sized (s .segments) (v .sound)) (tt, tt) (λ o. bare o ∙ sym (one-run n o)) (total-retold occupancy (s .segments) ∙ omega arith)
+      ∙ joined-one n (v .least)
+
+  pub empty-board : (g n : ℕ) → groupOk g ≡ true → sizeOk n ≡ true → ((k : ℕ) → needed n s ≡ some k → k ≤ total (s .segments)) → (o : ℕ) × GrantedAt o ((allocate g n s) .answer)
+  empty-board g n t u enough = granted-else s g n t u (λ h. true-false (long h) (h .none-long))
+    where
+      long : (h : Short s g n) → hasRun (h .pages) (pageMap (trimmed s)) ≡ true
+      long h = ap (hasRun (h .pages)) bare-trimmed ∙ rw (le-leb (h .pages) (total (s .segments)) (enough (h .pages) (h .needs)))
+
+-- A trim changes nothing about it: what is refused for want of pages is so after a trim, too, and the other way round -------------------
+
+module _ (s : State) (v : Valid s) (g n : ℕ) where
+  abbrev c : ℕ
+  c = classOf n
+
+  -- A zone without a live chunk is pages enough for a zone.
+  idle-has : (p : ℕ) (z : Zone) → ZoneAt (s .segments) p z → idleZone z ≡ true → hasRun zonePages (pageMap (trimmed s)) ≡ true
+  idle-has p z b e = has-retold occupancy zonePages (trimmed s .segments) ∙ joined-gone idleZone 0 (p * pageBytes) 0 (s .segments) z b e
+
+  -- A chunk needs pages after a trim if it does before; ..
+  needs-after : (k : ℕ) (l q : List ℕ) → listOf s c ≡ l → zoneNeeded l q ≡ some k → zoneNeeded (listOf (trimmed s) c) [] ≡ some k
+  needs-after k [] [] a e = ap (λ l. zoneNeeded l []) (trimmed-empty s c a) ∙ e
+  needs-after k [] (p ∷ ps) a e = none-some e
+  needs-after k (p ∷ ps) q a e = none-some e
+
+  -- .. and before it if it does after, unless a zone was given back, whose pages are then enough.
+  eight : (k : ℕ) (l : List ℕ) → zoneNeeded l [] ≡ some k → zonePages ≡ k
+  eight k [] e = some-inj e
+  eight k (p ∷ ps) e = none-some e
+
+  none-needed : {p : ℕ} (k : ℕ) (l : List ℕ) → List·Memᴰ p l → zoneNeeded l [] ≡ some k → ⊥
+  none-needed k [] i e = List·Memᴰ·not-nil i
+  none-needed k (q ∷ qs) i e = none-some e
+
+  needs-before : (k : ℕ) (l q : List ℕ) → listOf s c ≡ l → s .spare ≡ q → hasRun k (pageMap (trimmed s)) ≡ false → zoneNeeded (listOf (trimmed s) c) [] ≡ some k → zoneNeeded l q ≡ some k
+  unfolding keep
+  needs-before k [] [] a b h e = ap some (eight k (listOf (trimmed s) c) e)
+  needs-before k [] (p ∷ ps) a b h e =
+      let w = v .spared p (rw b (List·Memᴰ·head refl)) in
+      true-false (idle-has p (w .0) (w .1) (w .2)) (ap (λ j. hasRun j (pageMap (trimmed s))) (eight k (listOf (trimmed s) c) e) ∙ h)
+  needs-before k (p ∷ ps) q a b h e =
+      let i : List·Memᴰ p (listOf s c) = rw a (List·Memᴰ·head refl) in
+      let w = v .listed c p i in
+      bool (idleZone (w .0))
+      (λ t. true-false (idle-has p (w .0) (w .1) t) (ap (λ j. hasRun j (pageMap (trimmed s))) (eight k (listOf (trimmed s) c) e) ∙ h))
+      (λ t. absurd (none-needed k (listOf (trimmed s) c) (subst (List·Memᴰ p) (sym (trimmed-list s c)) (keep-keeps _ (ap (λ x. not (idleZone (zoneIn x))) (w .1) ∙ ap not t) i)) e))
+
+  pub short-trimmed : Short s g n ↔ Short (trimmed s) g n
+  short-trimmed = (
+    λ h. record {
+      group = h .group;
+      size = h .size;
+      pages = h .pages;
+      needs = bool (ltb n largeSize) (λ t. rw t (needs-after (h .pages) (listOf s c) (s .spare) refl (rw t at (h .needs)))) (λ t. rw t (rw t at (h .needs)));
+      none-long = ap (hasRun (h .pages)) (trimmed-again s v) ∙ h .none-long;
+    },
+    λ h.
+        let short = ap (hasRun (h .pages)) (sym (trimmed-again s v)) ∙ h .none-long in
+        record {
+          group = h .group;
+          size = h .size;
+          pages = h .pages;
+          needs = bool (ltb n largeSize) (λ t. rw t (needs-before (h .pages) (listOf s c) (s .spare) refl refl short (rw t at (h .needs)))) (λ t. rw t (rw t at (h .needs)));
+          none-long = short;
+        },
+  )
