@@ -24,6 +24,18 @@ pub enum Place {
 }
 
 impl State {
+    /// How many pages in a row a request of a legal size needs; `None` if its
+    /// class's list or the empty list has a zone that serves it.
+    pub fn pages_needed(&self, size: u32) -> Option<u32> {
+        match need(size) {
+            Need::Pages { pages } => Some(pages),
+            Need::Chunk { class } => {
+                let serves = !self.list(class).is_empty() || !self.empty.is_empty();
+                (!serves).then_some(ZONE_PAGES)
+            }
+        }
+    }
+
     /// Grants a block of a legal size to a legal group and answers its
     /// offset; `None`, and no change, where refusal 6 is due.
     pub(crate) fn take_block(&mut self, group: Group, size: u32) -> Option<u32> {

@@ -19,7 +19,7 @@ pub enum Refusal {
     Group,
     /// The size is 0 or above 1,048,576.
     Size,
-    /// Pages are needed and no free run has enough.
+    /// Pages are needed and no free run has enough, even after a tidy.
     NoRun,
     /// No live block begins at the offset.
     NoBlock,

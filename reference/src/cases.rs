@@ -1,18 +1,19 @@
-//! Document 01's cases: scripts with their answers, read from the files of
-//! cases/, one file for each part of the document. Every program that keeps
-//! its rules is held to the same ones. cases/README.md says how they are
-//! written.
+//! Document 01's cases, and those of document 02's request a): scripts with
+//! their answers, read from the files of cases/, one file for each part of
+//! document 01 and one for the request. Every program that keeps the rules is
+//! held to the same ones. cases/README.md says how they are written.
 
 use crate::bench::WORDS;
 use crate::sizes::words_needed;
 use crate::state::State;
 
 /// The files, by name and text.
-pub const FILES: [(&str, &str); 7] = [
+pub const FILES: [(&str, &str); 8] = [
     ("calls", include_str!("../cases/calls.txt")),
     ("edges", include_str!("../cases/edges.txt")),
     ("pages", include_str!("../cases/pages.txt")),
     ("refusals", include_str!("../cases/refusals.txt")),
+    ("second-search", include_str!("../cases/second-search.txt")),
     ("sizes", include_str!("../cases/sizes.txt")),
     ("slips", include_str!("../cases/slips.txt")),
     ("zones", include_str!("../cases/zones.txt")),

@@ -6,7 +6,7 @@
 
 use crate::calls::{Answer, Call};
 use crate::listing;
-use crate::sizes::{GROUPS, MAX_SIZE, PAGE_BYTES};
+use crate::sizes::{chunk_size, CLASSES, DIRECT_FROM, GROUPS, MAX_SIZE, PAGE_BYTES};
 
 /// Marsaglia's xorshift generator with 64 bits.
 #[derive(Clone, Debug)]
@@ -45,6 +45,10 @@ const FEW_TO_A_ZONE: [u32; 5] = [8_191, 8_191, 7_000, 5_000, 4_096];
 /// Sizes of which a zone has many.
 const SMALL: [u32; 8] = [1, 8, 100, 127, 128, 129, 257, 1_025];
 
+/// Where pages are short, groups up to this ask for chunks alone, and the
+/// others for whole pages.
+const CHUNK_GROUPS: u32 = GROUPS / 2;
+
 /// What a history is rich in.
 #[derive(Clone, Copy, Debug, PartialEq, Eq)]
 pub enum Profile {
@@ -58,15 +62,20 @@ pub enum Profile {
     Resets,
     /// Groups, sizes and offsets that are wrong.
     Wrong,
+    /// Second searches: pages are short, zones are of many classes, and it is
+    /// mostly chunks that come back, so that idle zones hold the pages that
+    /// the next request needs.
+    Tight,
 }
 
 impl Profile {
-    pub const ALL: [Profile; 5] = [
+    pub const ALL: [Profile; 6] = [
         Profile::Mixed,
         Profile::Chunks,
         Profile::Pages,
         Profile::Resets,
         Profile::Wrong,
+        Profile::Tight,
     ];
 
     fn weights(self) -> Weights {
@@ -77,6 +86,7 @@ impl Profile {
             trims: 1,
             requests: [12, 67],
             sizes: [24, 6, 2, 7],
+            tight: false,
         };
         match self {
             Profile::Mixed => mixed,
@@ -100,6 +110,12 @@ impl Profile {
                 requests: [10, 40],
                 ..mixed
             },
+            Profile::Tight => Weights {
+                trims: 0,
+                requests: [20, 75],
+                tight: true,
+                ..mixed
+            },
         }
     }
 }
@@ -119,6 +135,9 @@ struct Weights {
     /// Of 40 requests: those of the two favourite sizes, of any chunk, and of
     /// a few pages. Those that are left may have any size.
     sizes: [u32; 4],
+    /// Whether a request's size goes with its group, and returns are mostly of
+    /// chunks.
+    tight: bool,
 }
 
 /// A block that the answers have shown to be live.
@@ -206,14 +225,19 @@ impl History {
                 capacity: listing::LONGEST,
             }
         } else if falls_to(weights.requests[usize::from(self.filling)]) {
-            Call::Allocate {
-                group: self.group(),
-                size: self.size(),
-            }
+            let group = self.group();
+            let size = match weights.tight {
+                true => self.size_for(group),
+                false => self.size(),
+            };
+            Call::Allocate { group, size }
         } else if falls_to(weights.wrong) {
             self.wrong_call()
         } else {
-            let Granted { group, offset } = self.live_or_any();
+            let Granted { group, offset } = match weights.tight {
+                true => self.chunk_or_any(),
+                false => self.live_or_any(),
+            };
             Call::Free { group, offset }
         }
     }
@@ -319,6 +343,26 @@ impl History {
         } else {
             1 + self.random.below(MAX_SIZE)
         }
+    }
+
+    /// A size that goes with a group: of a chunk of any class, each as likely
+    /// as another, or of pages, of a few more often than of many.
+    fn size_for(&mut self, group: u32) -> u32 {
+        if group <= CHUNK_GROUPS {
+            return chunk_size(self.random.below(CLASSES)).min(DIRECT_FROM - 1);
+        }
+        let more = self.random.pick(&[30_000, 30_000, 100_000, MAX_SIZE]);
+        MAX_SIZE.min(DIRECT_FROM + self.random.below(more))
+    }
+
+    /// Mostly a block of a group that asks for chunks alone.
+    fn chunk_or_any(&mut self) -> Granted {
+        let live = self.live.iter().copied();
+        let chunks: Vec<Granted> = live.filter(|block| block.group <= CHUNK_GROUPS).collect();
+        if chunks.is_empty() || self.random.below(8) == 0 {
+            return self.live_or_any();
+        }
+        self.random.pick(&chunks)
     }
 
     /// A live block, or if there is none an offset that may be anything.

@@ -1,4 +1,5 @@
-//! The allocator of document 01 a second time, on abstract states.
+//! The allocator of document 01 with document 02's request a) a second time,
+//! on abstract states.
 //!
 //! No 32-bit words stand here: of the books only their number of words is
 //! kept, because refusals 2 and 3 ask for it. Everything else is runs, direct
@@ -24,7 +25,7 @@ pub mod cases;
 pub mod histories;
 pub mod lines;
 pub mod listing;
-mod pages;
+pub mod pages;
 pub mod sizes;
 pub mod state;
 pub mod validity;

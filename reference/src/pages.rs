@@ -1,12 +1,52 @@
-//! Document 01's "Pages out and in": the free runs.
+//! Document 01's "Pages out and in" with document 02's request a): the free
+//! runs, and the two searches for pages.
 
 use crate::state::{Page, Run, State};
 
+/// What the search for pages comes to.
+#[derive(Clone, Copy, Debug, PartialEq, Eq)]
+pub enum Search {
+    /// A run is long enough.
+    First,
+    /// No run is, but one is once every idle zone has been given back.
+    Second,
+    /// No run is, even then: refusal 6.
+    Failed,
+}
+
 impl State {
+    /// Looks for so many pages in a row among the runs, and if no run has
+    /// them, once more among the runs that a tidy leaves. Nothing changes.
+    pub fn search_for(&self, pages: u32) -> Search {
+        if self.first_run(pages).is_some() {
+            return Search::First;
+        }
+        let mut tidied = self.clone();
+        tidied.give_idle_zones();
+        match tidied.first_run(pages) {
+            Some(_) => Search::Second,
+            None => Search::Failed,
+        }
+    }
+
+    /// Takes pages. Where the second search is the one that finds them, every
+    /// idle zone is given back first; where it fails too, nothing changes.
+    pub(crate) fn take_pages(&mut self, pages: u32) -> Option<Page> {
+        if self.search_for(pages) == Search::Second {
+            self.give_idle_zones();
+        }
+        self.take_from_runs(pages)
+    }
+
+    /// The place of the first run that is long enough.
+    fn first_run(&self, pages: u32) -> Option<usize> {
+        self.runs.iter().position(|run| run.pages >= pages)
+    }
+
     /// Takes pages from the first run that is long enough, its low pages
     /// first. Without such a run nothing changes.
-    pub(crate) fn take_pages(&mut self, pages: u32) -> Option<Page> {
-        let at = self.runs.iter().position(|run| run.pages >= pages)?;
+    fn take_from_runs(&mut self, pages: u32) -> Option<Page> {
+        let at = self.first_run(pages)?;
         let run = &mut self.runs[at];
         let start = run.start;
         if run.pages == pages {

@@ -8,7 +8,7 @@ const EMPTY_LIMIT: usize = 2;
 
 impl State {
     /// Grants a chunk and answers its zone and number; `None` if pages are
-    /// needed and no run has enough, and then nothing has changed.
+    /// needed and neither search finds them, and then nothing has changed.
     pub(crate) fn take_chunk(&mut self, class: u32, group: Group) -> Option<(Page, u32)> {
         let start = match self.list(class).front() {
             Some(&first) => first,
@@ -39,7 +39,7 @@ impl State {
     }
 
     /// Gives every idle zone back to the runs, whichever list it is on, and
-    /// answers how many there were.
+    /// answers how many there were. The other zones keep their order.
     pub(crate) fn give_idle_zones(&mut self) -> u32 {
         let idle: Vec<Page> = self
             .zones
@@ -57,7 +57,8 @@ impl State {
     }
 
     /// A zone for a class whose list is empty: the first of the empty list,
-    /// or new pages. Its former class, count and chain are forgotten.
+    /// or where that is empty too, new pages. Its former class, count and
+    /// chain are forgotten.
     fn set_up_zone(&mut self, class: u32) -> Option<Page> {
         let start = match self.empty.pop_front() {
             Some(first) => first,

@@ -1,4 +1,4 @@
-//! Document 01's cases on the second program.
+//! Document 01's cases and those of request a) on the second program.
 
 use reference::calls::{Allocator, Answer};
 use reference::cases::{all, look, Case, FILES};

@@ -43,7 +43,8 @@ impl Passed {
     fn note(&mut self, before: &State, call: Call, answer: &Answer, after: &State) {
         let is_allocate = matches!(call, Call::Allocate { .. });
         let is_free = matches!(call, Call::Free { .. });
-        let from_empty = is_allocate && after.empty.len() < before.empty.len();
+        let as_many = after.zones.len() == before.zones.len();
+        let from_empty = is_allocate && as_many && after.empty.len() < before.empty.len();
         let zone_went = is_free && after.zones.len() < before.zones.len();
         self.full_zones += u32::from(after.zones.values().any(Zone::is_full));
         self.set_up_anew += u32::from(from_empty);

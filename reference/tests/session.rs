@@ -1,4 +1,5 @@
-//! Document 01's whole session, byte for byte, however the input is cut.
+//! Document 01's whole session, answered as document 02's request a) has it,
+//! byte for byte, however the input is cut.
 
 mod common;
 
@@ -23,10 +24,10 @@ impl Read for Pieces<'_> {
 }
 
 #[test]
-fn fixtures_are_document_01s() {
+fn fixtures_are_document_01s_with_request_a() {
     let count = |bytes: &[u8]| bytes.iter().filter(|&&byte| byte == b'\n').count();
     assert_eq!((count(INPUT), INPUT.len()), (14, 88));
-    assert_eq!((count(OUTPUT), OUTPUT.len()), (26, 171));
+    assert_eq!((count(OUTPUT), OUTPUT.len()), (27, 182));
 }
 
 #[test]

@@ -41,19 +41,19 @@ impl Counts {
     }
 
     /// Checks that each of these was met so often or more.
-    pub fn expect(&self, times: u32, names: &[&str]) {
+    pub fn expect(&self, times: u32, names: &[impl AsRef<str>]) {
         for name in names {
+            let name = name.as_ref();
             let counted = self.get(name);
             assert!(counted >= times, "{name}: only {counted} times");
         }
     }
 
-    /// Checks the same, and that nothing else was met.
-    pub fn expect_just(&self, times: u32, names: &[&str]) {
-        self.expect(times, names);
+    /// Checks that nothing else was met.
+    pub fn expect_nothing_but(&self, names: &[impl AsRef<str>]) {
         let others = self.times.keys();
         let others: Vec<&String> = others
-            .filter(|name| !names.contains(&name.as_str()))
+            .filter(|other| !names.iter().any(|name| name.as_ref() == other.as_str()))
             .collect();
         assert!(others.is_empty(), "met, and not expected: {others:?}");
     }
@@ -85,8 +85,10 @@ impl Counts {
 
 impl fmt::Display for Counts {
     fn fmt(&self, out: &mut fmt::Formatter) -> fmt::Result {
+        let longest = self.times.keys().map(String::len).max();
+        let width = longest.unwrap_or(0).max(36);
         let mut all = self.times.iter();
-        all.try_for_each(|(name, times)| writeln!(out, "{name:<36}{times:>10}"))
+        all.try_for_each(|(name, times)| writeln!(out, "{name:<width$}{times:>10}"))
     }
 }
 

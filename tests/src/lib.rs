@@ -21,5 +21,6 @@ pub mod layout;
 pub mod pair;
 pub mod program;
 pub mod scripts;
+pub mod searches;
 pub mod states;
 pub mod zones;

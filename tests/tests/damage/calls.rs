@@ -15,6 +15,7 @@ use reference::state::State;
 use tests::calls::{serve, told};
 use tests::counts::{on_all_processors, Counts};
 use tests::layout::{decode, encode};
+use tests::searches;
 
 /// Cases of each kind in each part, in arenas of 1 to 40 pages.
 const CASES: [(&str, u32, Edit); 4] = [
@@ -43,6 +44,7 @@ fn calls_on_damaged_words_do_what_the_second_program_does() {
     counts.expect(280_000, &[MADE]);
     counts.expect(80_000, &[STATELESS]);
     counts.expect(25_000, &[SERVED]);
+    counts.expect(50, &searches::KINDS);
 }
 
 /// All kinds once, from one seed.
@@ -69,6 +71,11 @@ fn judge(
 ) {
     let found = decode(&subject.twin()[..count]);
     let call = any_call(found.as_ref().unwrap_or(&subject.state), random);
+    if let Some(state) = &found {
+        for kind in searches::kinds_of(state, &call) {
+            counts.count(kind, 1);
+        }
+    }
     let mut second = match found {
         Some(state) => Allocator::picturing(count, state),
         None => Allocator::zeroed(count),

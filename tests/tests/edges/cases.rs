@@ -1,5 +1,5 @@
-//! Document 01's cases through C. Every answer is the one written down, and every word after each
-//! call that of the second program's state.
+//! Document 01's cases and those of request a) through C. Every answer is the one written down, and
+//! every word after each call that of the second program's state.
 
 use reference::cases::{all, look, Case};
 use reference::lines::parse;

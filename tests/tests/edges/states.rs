@@ -1,5 +1,6 @@
 //! States that no script of a reasonable length reaches.
 
+use reference::state::Zone;
 use tests::layout::encode;
 use tests::pair::Pair;
 use tests::states::{zones_throughout, Plan};
@@ -34,4 +35,59 @@ fn with_32_entries_on_the_class_lists_every_call_is_served() {
     assert_eq!(pair.reset(9), Ok(10));
     let idle = pair.state().zones.len() as u32;
     assert_eq!(pair.trim(), Ok(idle));
+}
+
+/// Two zones with a live chunk, and idle ones wherever a valid state can have them: three on one
+/// class's list, one that never granted a chunk on another's, two on the empty list.
+fn idle_on_every_list() -> Pair {
+    let zones = Plan::new()
+        .zone(zone_with(63, &[false]))
+        .direct(1, 1)
+        .zone(zone_with(63, &[true]))
+        .zone(zone_with(63, &[false; 4]))
+        .zone(Zone::set_up(12))
+        .direct(2, 2)
+        .empty_zone(zone_with(0, &[false; 9]))
+        .run(1)
+        .zone(zone_with(12, &[false, true]))
+        .zone(zone_with(63, &[false, false]))
+        .empty_zone(Zone::set_up(40))
+        .direct(1, 3);
+    Pair::over(encode(&zones.assemble()))
+}
+
+#[test]
+fn a_second_search_gives_back_idle_zones_from_every_list() {
+    let mut pair = idle_on_every_list();
+    let before = pair.text();
+    assert_eq!(pair.allocate(9, 17 * 4_096), Err(6));
+    assert_eq!(pair.text(), before);
+    assert_eq!(pair.allocate(9, 16 * 4_096), Ok(17 * 4_096));
+    assert_eq!(
+        pair.text(),
+        "runs 3\n0 8\n35 9\n52 16\ndirect 4\n8 1 1\n17 16 9\n33 2 2\n68 1 3\nzones 2\n9 63 1\n44 12 1\n"
+    );
+    assert_eq!(pair.trim(), Ok(0));
+}
+
+/// A board without a live block and without a free page: all zones are idle, and on one list.
+#[test]
+fn the_whole_arena_is_granted_where_all_its_zones_are_idle() {
+    let idle = zones_throughout(256, &zone_with(0, &[false; 4_096]));
+    let mut pair = Pair::over(encode(&idle));
+    assert_eq!(pair.allocate(1, 1_048_576), Ok(0));
+    assert_eq!(pair.text(), "runs 0\ndirect 1\n0 256 1\nzones 0\n");
+    let mut pair = Pair::over(encode(&idle));
+    assert_eq!(pair.allocate(1, 8_191), Ok(0));
+    assert_eq!(pair.text(), "runs 1\n8 248\ndirect 0\nzones 1\n0 63 1\n");
+}
+
+/// Its own class's list has a zone: none of them is given back.
+#[test]
+fn an_idle_zone_on_the_class_s_list_serves_and_nothing_is_given_back() {
+    let idle = zones_throughout(256, &zone_with(0, &[false; 4_096]));
+    let mut pair = Pair::over(encode(&idle));
+    assert_eq!(pair.allocate(1, 8), Ok(4_095 * 8));
+    assert_eq!(pair.state().zones.len(), 32);
+    assert_eq!(pair.trim(), Ok(31));
 }

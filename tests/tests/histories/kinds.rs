@@ -2,15 +2,17 @@
 
 use reference::calls::{Answer, Call};
 use reference::state::{State, Zone};
+use std::ops::RangeInclusive;
 use tests::calls::Number;
 use tests::counts::Counts;
+use tests::searches;
 
 /// Calls that were made.
 pub const CALLS: &str = "calls";
 /// Live blocks that were asked for at a history's end.
 pub const ASKED: &str = "live blocks asked for at the end";
 
-/// All that histories are to come upon, and nothing else.
+/// All that histories are to come upon, with the second searches, and nothing else.
 pub const ALL: [&str; 30] = [
     "allocate, chunk: no 4",
     "allocate, chunk: no 5",
@@ -43,6 +45,42 @@ pub const ALL: [&str; 30] = [
     "zones seen: idle",
     "zones seen: with a chain",
 ];
+
+/// The arenas in which second searches are counted, each kind by itself.
+const ARENAS: [(&str, RangeInclusive<u32>); 3] = [
+    ("24 pages", 24..=24),
+    ("25 to 127 pages", 25..=127),
+    ("128 to 256 pages", 128..=256),
+];
+
+/// The second searches of every kind in every arena.
+pub fn searches() -> Vec<String> {
+    let of_arena = |(arena, _): &(&str, _)| searches::KINDS.map(|kind| in_arena(arena, kind));
+    ARENAS.iter().flat_map(of_arena).collect()
+}
+
+/// All that histories are to come upon.
+pub fn all_with_searches() -> Vec<String> {
+    let others = ALL.iter().map(|kind| kind.to_string());
+    others.chain(searches()).collect()
+}
+
+fn in_arena(arena: &str, kind: &str) -> String {
+    format!("{arena}, {kind}")
+}
+
+/// Counts the second search that a call on this state comes to, if it does; whether there is an idle
+/// zone that it gives back or leaves.
+pub fn count_searches(counts: &mut Counts, state: &State, call: &Call) -> bool {
+    let kinds = searches::kinds_of(state, call);
+    let mut arenas = ARENAS.iter();
+    if let Some((arena, _)) = arenas.find(|(_, pages)| pages.contains(&state.pages)) {
+        for kind in kinds {
+            counts.count(&in_arena(arena, kind), 1);
+        }
+    }
+    !kinds.is_empty() && state.zones.values().any(Zone::is_idle)
+}
 
 /// A call's kind and its answer's.
 pub fn of_answer(call: &Call, answer: &Result<Answer, Number>) -> String {

@@ -5,11 +5,13 @@
 //!     cargo test --offline --locked -p tests --test histories
 //!
 //! Both programs give the same answer to every call and the same listing after every tenth. Their
-//! words are the same after every fiftieth call and at the end; to compare them after every call
-//! would take minutes in the large arenas. At the end both answer the same to a query of every live
-//! offset and of the byte behind it; of a beginning with any number of blocks, to 100 of them.
+//! words are the same after every fiftieth call, after every second search where a zone is idle, and
+//! at the end; to compare them after every call would take minutes in the large arenas. At the end
+//! both answer the same to a query of every live offset and of the byte behind it; of a beginning
+//! with any number of blocks, to 100 of them.
 //!
-//! The tests print what their histories came upon. They are the same in every run.
+//! The tests print what their histories came upon: among it the second searches, by what they are
+//! for, what they come to, and the arena's pages. They are the same in every run.
 
 mod kinds;
 
@@ -37,7 +39,9 @@ fn histories_that_begin_with_an_init() {
     let counts = on_all_processors(2_000, from_init);
     counts.print("From an init");
     counts.expect(2_000 * CALLS, &[kinds::CALLS]);
-    counts.expect_just(300, &kinds::ALL);
+    counts.expect(300, &kinds::ALL);
+    counts.expect(200, &kinds::searches());
+    counts.expect_nothing_but(&kinds::all_with_searches());
 }
 
 #[test]
@@ -45,7 +49,9 @@ fn histories_that_begin_with_any_valid_state() {
     let counts = on_all_processors(400, from_any_state);
     counts.print("From any valid state");
     counts.expect(400 * CALLS, &[kinds::CALLS]);
-    counts.expect_just(50, &kinds::ALL);
+    counts.expect(50, &kinds::ALL);
+    counts.expect(20, &kinds::searches());
+    counts.expect_nothing_but(&kinds::all_with_searches());
 }
 
 fn from_init(number: u32, counts: &mut Counts) {
@@ -75,13 +81,14 @@ fn from_any_state(number: u32, counts: &mut Counts) {
     follow(&mut pair, history, &mut random, counts, ASKED);
 }
 
-/// An arena's pages and a profile.
+/// An arena's pages and a profile; each profile has as many arenas of either kind.
 fn draw(number: u32, random: &mut Xorshift) -> (u32, Profile) {
-    let pages = match number % 2 {
+    let profiles = Profile::ALL.len() as u32;
+    let pages = match number / profiles % 2 {
         0 => random.pick(&SIZES),
         _ => 1 + random.below(256),
     };
-    (pages, Profile::ALL[number as usize % Profile::ALL.len()])
+    (pages, Profile::ALL[(number % profiles) as usize])
 }
 
 /// Makes the calls of a history, and compares as said above.
@@ -102,6 +109,7 @@ fn follow(
             },
             _ => history.next_call(),
         };
+        let searched = kinds::count_searches(counts, pair.state(), &call);
         let answer = pair.serve(call);
         counts.count(&kinds::of_answer(&call, &answer), 1);
         if let Ok(answer) = answer {
@@ -114,6 +122,8 @@ fn follow(
         if made % WORDS == 0 {
             pair.compare();
             kinds::count_state(counts, pair.state());
+        } else if searched {
+            pair.compare();
         }
     }
     counts.count(kinds::CALLS, calls);

@@ -1,4 +1,5 @@
-//! Document 01's cases, those of them that need no more words than the program has.
+//! Document 01's cases and those of request a), as far as they need no more words than the program
+//! has.
 
 use crate::check_bytes;
 use reference::cases::{all, Case};

@@ -81,11 +81,13 @@ fn scripts_in_pieces_of_any_length() {
 }
 
 fn one(number: u32, counts: &mut Counts) {
-    let profile = Profile::ALL[number as usize % Profile::ALL.len()];
-    let feeding = match number / 5 % 3 {
+    let profiles = Profile::ALL.len() as u32;
+    let profile = Profile::ALL[(number % profiles) as usize];
+    let round = number / profiles;
+    let feeding = match round % 3 {
         0 => Feeding::Whole,
         1 => Feeding::Bytes,
-        _ => Feeding::Cut([2, 7, 30, 500][number as usize / 15 % 4]),
+        _ => Feeding::Cut([2, 7, 30, 500][round as usize / 3 % 4]),
     };
     let mut random = Xorshift::new(u64::from(number) + 3_000_000);
     let input = script(profile, u64::from(number), feeding.lines());
