@@ -84,6 +84,16 @@ static void give_back(uint32_t group, uint32_t offset, enum nostrimel_refusal ex
     }
 }
 
+/* All blocks of a group come back, and there are as many as expected. */
+static void pack_up(uint32_t group, uint32_t expected)
+{
+    uint32_t count;
+
+    expect("reset", nostrimel_reset(meta, WORDS, group, &count), NOSTRIMEL_DONE);
+    expect("blocks of the group", count, expected);
+    printf("group %2u packs up: %u block\n", (unsigned)group, (unsigned)count);
+}
+
 /* Whose block begins at an offset, and how long it is. */
 static void ask(uint32_t offset, uint32_t expected_group, uint32_t expected_room)
 {
@@ -167,15 +177,22 @@ int main(void)
     /* The untouched chunks of a zone go out before the returned ones. */
     request(5, 104, 208);
 
-    /* Group 1 packs up. Its zone of large chunks is empty then, but keeps its pages until the trim. */
-    expect("reset", nostrimel_reset(meta, WORDS, 1, &count), NOSTRIMEL_DONE);
-    expect("blocks of group 1", count, 1);
-    printf("group  1 packs up: %u block\n", (unsigned)count);
-    refused(4, 24576, NOSTRIMEL_NO_ROOM);
+    /*
+     * Group 1 packs up. Its zone of large chunks is empty then, and keeps its pages until they are needed. With them 13 pages would be
+     * free in a row. Fourteen are refused, and the zone stays; six are granted, and the zone is given back for them.
+     */
+    pack_up(1, 1);
+    refused(4, 57344, NOSTRIMEL_NO_ROOM);
+    list();
+    request(4, 24576, 11 * NOSTRIMEL_PAGE_BYTES);
+    list();
+
+    /* Groups 2 and 5 pack up too. A trim gives the other zone back, though nobody asks for its pages. */
+    pack_up(2, 1);
+    pack_up(5, 1);
     expect("trim", nostrimel_trim(meta, WORDS, &count), NOSTRIMEL_DONE);
     expect("zones given back", count, 1);
     printf("trim: %u zone given back\n", (unsigned)count);
-    request(4, 24576, 11 * NOSTRIMEL_PAGE_BYTES);
     list();
     return EXIT_SUCCESS;
 }
