@@ -1,5 +1,5 @@
-//! How long the calls take, beside the bare check of the same words; and a reset beside single
-//! returns.
+//! How long the calls take, beside the bare check of the same words; requests that find no run at
+//! first; and a reset beside single returns.
 //!
 //!     cargo run --release --offline --locked -p benches --bin calls
 //!
@@ -15,6 +15,7 @@
 mod arenas;
 mod bars;
 mod resets;
+mod searches;
 mod single;
 
 use arenas::{arenas, Arena};
@@ -22,6 +23,7 @@ use bars::remark;
 use reference::listing::LONGEST;
 use reference::state::State;
 use resets::{reset_of, returns_of, PAGES, SIZE};
+use searches::{given_back, refused, zones_to_give, Refused};
 use single::{clock, time_of};
 use std::process::ExitCode;
 use tests::calls::{allocate, free, init, listing, query, reset, trim};
@@ -32,7 +34,8 @@ use tests::layout::encode;
 const CALL_BAR: f64 = 1.5;
 /// A reset takes at most one part in so many of what single returns take.
 const RESET_PARTS: f64 = 50.0;
-/// The greatest ratio of a reset of twice the blocks.
+/// The greatest ratio of a reset of twice the blocks, and of what a request takes beyond the check
+/// if it gives back twice the zones.
 const TWICE_BAR: f64 = 2.5;
 /// The chunks of the reset.
 const CHUNKS: u32 = 100_000;
@@ -41,6 +44,10 @@ const CHUNKS: u32 = 100_000;
 const GROUP: u32 = 12;
 /// Bytes of a request that takes pages.
 const LARGE: u32 = 8_192;
+/// Bytes of a request that takes the pages of a zone.
+const ZONE: u32 = 32_768;
+/// The number of a refusal for want of pages.
+const NO_ROOM: u32 = 6;
 
 /// How often all calls are gone through: a slow stretch of the machine can last for seconds.
 const PASSES: u32 = 5;
@@ -69,11 +76,63 @@ fn step(does: impl Fn(&mut [u32]) -> bool + 'static) -> Step {
     Box::new(does)
 }
 
+/// The words of a state, which the check must take.
+fn words_of(state: &State, name: &str) -> Vec<u32> {
+    let mut words = encode(state);
+    assert_eq!(check(&mut words), 1, "the check refuses: {name}");
+    words
+}
+
+/// The words as they were before the call.
+fn put_right(words: &[u32]) -> Step {
+    let held = words.to_vec();
+    step(move |words| {
+        words.copy_from_slice(&held);
+        true
+    })
+}
+
+/// A request that no run suffices for, even after a trim.
+fn measured_refused(one: Refused) -> Measured {
+    let Refused {
+        arena,
+        call,
+        state,
+        size,
+    } = one;
+    Measured {
+        pages: state.pages,
+        arena,
+        call,
+        words: words_of(&state, arena),
+        before: step(|_| true),
+        step: step(move |words| allocate(words, GROUP, size) == Err(NO_ROOM)),
+        behind: step(|_| true),
+        barred: true,
+        nanoseconds: [f64::INFINITY; 2],
+    }
+}
+
+/// A request that no run suffices for before so many zones have been given back.
+fn measured_trimming(pages: u32, zones: u32) -> Measured {
+    let words = words_of(&zones_to_give(pages, zones), "zones");
+    Measured {
+        pages,
+        arena: "zones",
+        call: "allocate, trims",
+        before: step(|_| true),
+        step: step(|words| allocate(words, GROUP, ZONE) == Ok(0)),
+        behind: put_right(&words),
+        words,
+        barred: false,
+        nanoseconds: [f64::INFINITY; 2],
+    }
+}
+
 /// All that is measured on one arena.
 fn measured(arena: Arena) -> Vec<Measured> {
     let Arena { name, state, chunk } = arena;
-    let mut words = encode(&state);
-    assert_eq!(check(&mut words), 1, "the check refuses: {name}");
+    let words = words_of(&state, name);
     let nothing = || step(|_| true);
     let one = |call, before, step, behind| Measured {
         pages: state.pages,
@@ -100,7 +159,7 @@ fn measured(arena: Arena) -> Vec<Measured> {
         |offset| step(move |words| free(words, GROUP, offset) == Ok(()) && trim(words).is_ok());
     let trimmed = || step(|words| trim(words).is_ok());
     let asked = last_block(&state);
-    let (pages, held) = (state.pages, words.clone());
+    let pages = state.pages;
     vec![
         one(
             "allocate, chunk",
@@ -141,10 +200,7 @@ fn measured(arena: Arena) -> Vec<Measured> {
         unbarred(
             "init",
             step(move |words| init(words, pages) == Ok(())),
-            step(move |words| {
-                words.copy_from_slice(&held);
-                true
-            }),
+            put_right(&words),
         ),
     ]
 }
@@ -198,18 +254,63 @@ impl Measured {
 
 fn main() -> ExitCode {
     let clock = clock();
-    let arenas = [24, 256].into_iter().flat_map(arenas);
-    let mut all: Vec<Measured> = arenas.flat_map(measured).collect();
+    let sizes = [24, 256];
+    let arenas = sizes.into_iter().flat_map(arenas);
+    let refused = sizes.into_iter().flat_map(refused);
+    let mut all: Vec<Measured> = arenas
+        .flat_map(measured)
+        .chain(refused.map(measured_refused))
+        .collect();
+    let mut trimming: Vec<(u32, Measured)> = sizes
+        .into_iter()
+        .flat_map(|pages| {
+            let counts = given_back(pages).into_iter();
+            counts.map(move |zones| (zones, measured_trimming(pages, zones)))
+        })
+        .collect();
     for _ in 0..PASSES {
         all.iter_mut().for_each(|one| one.lower(clock));
+        trimming.iter_mut().for_each(|(_, one)| one.lower(clock));
     }
     println!(
         "{:>5}  {:<12}{:<16}{:>12}{:>12}{:>8}",
         "pages", "arena", "call", "call ns", "check ns", "ratio"
     );
     let calls_met = all.iter().filter(|one| !one.print()).count() == 0;
+    let zones_met = zones_given_back(&trimming);
     let resets_met = resets();
-    ExitCode::from(u8::from(!(calls_met && resets_met)))
+    ExitCode::from(u8::from(!(calls_met && zones_met && resets_met)))
+}
+
+/// Prints a line for each number of zones that a request gives back, and says whether twice the
+/// zones never take more than the bar allows.
+fn zones_given_back(trimming: &[(u32, Measured)]) -> bool {
+    println!("\nA request for 8 pages that gives back zones, in ns beyond the check");
+    println!(
+        "{:>5}{:>7}{:>12}{:>12}{:>12}{:>8}",
+        "pages", "zones", "call ns", "check ns", "beyond", "ratio"
+    );
+    let mut all_met = true;
+    let mut last: Option<(u32, f64)> = None;
+    for (zones, one) in trimming {
+        let [check_ns, call_ns] = one.nanoseconds;
+        let beyond = call_ns - check_ns;
+        let half = last.filter(|(pages, _)| *pages == one.pages);
+        last = Some((one.pages, beyond));
+        print!(
+            "{:>5}{zones:>7}{call_ns:>12.0}{check_ns:>12.0}{beyond:>12.0}",
+            one.pages
+        );
+        match half {
+            None => println!(),
+            Some((_, half)) => {
+                let met = beyond / half <= TWICE_BAR;
+                all_met &= met;
+                println!("{:>8.2}  {}", beyond / half, remark(met, TWICE_BAR));
+            }
+        }
+    }
+    all_met
 }
 
 /// Prints two lines about resets, and says whether both bars are met.
