@@ -97,7 +97,7 @@ enum nostrimel_refusal {
     NOSTRIMEL_NO_STATE = 3,     /* the words hold no valid state, or are fewer than theirs needs */
     NOSTRIMEL_BAD_GROUP = 4,    /* the group is not 1 to 12 */
     NOSTRIMEL_BAD_SIZE = 5,     /* the size is 0 or above 1,048,576 */
-    NOSTRIMEL_NO_ROOM = 6,      /* pages are needed, and nowhere are so many free ones in a row */
+    NOSTRIMEL_NO_ROOM = 6,      /* pages are needed, and no free run would have as many even after a trim */
     NOSTRIMEL_NO_BLOCK = 7,     /* no live block begins at the offset */
     NOSTRIMEL_OTHER_GROUP = 8,  /* the block is another group's */
     NOSTRIMEL_SHORT_BUFFER = 12 /* the capacity is less than the listing's length */
@@ -113,6 +113,9 @@ NOSTRIMEL_LOOK_AT uint32_t nostrimel_init(uint32_t *meta, size_t words, uint32_t
 /*
  * Requests a block of at least size bytes for a group. *offset is where it begins, in bytes from the arena's start. The block is
  * live until the group returns it, and shares no byte with another live block.
+ * Where pages are needed and no free run has as many, every zone without a live chunk is given back as nostrimel_trim does, if then
+ * one has; if not even then, the request is refused by NO_ROOM and nothing has been given back. So trimming before a request is
+ * never needed for it to be granted.
  * Alignment: *offset is a multiple of every power of two up to 4,096 that divides the block's room (the size rounded up). So it is
  * a multiple of 8 always, of 16 from 128 bytes up, of 32 from 256, of 64 from 512, of 128 from 1,024, of 256 from 2,048, of 512
  * from 4,096, of 4,096 from 8,192; and a request of 64 bytes begins at a multiple of 64. The address arena + *offset is aligned so
