@@ -19,8 +19,7 @@ firstFit p n (run m ∷ r) = cond (leb n m) (some (record { page = p; size = m }
 firstFit p n (direct m g ∷ r) = firstFit (p + m) n r
 firstFit p n (zone z ∷ r) = firstFit (p + zonePages) n r
 
--- The one place where pages are looked for. Proofs use its three laws and not its text: `claim-found`, `claim-none`,
--- `claim-retold`.
+-- The search through the runs. Proofs use its three laws and not its text: `claim-found`, `claim-none`, `claim-retold`.
 unfoldable pub claim : {Z : Type 0} → ℕ → List (Segment Z) → Option FreeRun
 claim n m = firstFit 0 n m
 

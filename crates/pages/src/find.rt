@@ -1,4 +1,4 @@
-// Where things stand: the size of a segment, the free runs, the segment of a page. Nothing is written.
+// Where things stand: the size of a segment, the free runs, those that trim would leave, the segment of a page. Nothing is written.
 ghost use mathlib.Core.Path.{_≡_};
 ghost use mathlib.Core.List.{List};
 ghost use Prim.Native.Nat.{ℕ, _<_};
