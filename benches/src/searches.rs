@@ -45,13 +45,12 @@ pub fn refused(pages: u32) -> [Refused; 3] {
     ]
 }
 
-/// The numbers of zones that a request for 8 pages gives back, each twice the one before.
+/// The numbers of zones that a request for 8 pages gives back, each twice the one before; in a large
+/// arena not the least ones, which take less than the check's own scatter.
 pub fn given_back(pages: u32) -> Vec<u32> {
-    let most = pages / ZONE_PAGES;
-    (0..)
-        .map(|power| 1 << power)
-        .take_while(|zones| *zones <= most)
-        .collect()
+    let (least, most) = ((pages / 32).max(1), pages / ZONE_PAGES);
+    let doubled = (0..).map(|power| least << power);
+    doubled.take_while(|zones| *zones <= most).collect()
 }
 
 /// An arena of zones alone, of which the first so many have no live chunk and the others are full.
