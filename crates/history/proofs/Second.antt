@@ -1,36 +1,38 @@
 -- What the second search is good for. The empty board does not say no: where no block is live, trim leaves one run, and a request is
--- granted if the arena has the pages that it needs. And no trim is needed before a request. Assumes nothing.
+-- granted if the arena has the pages that it needs. A trim before a request neither helps nor harms. And a request of whole pages is
+-- refused exactly when no row of pages is clear, in any state. Assumes nothing.
 use Prim.Native.Nat.{ℕ, _+_, _*_, _≤_, _<_}
 use mathlib.Core.Path.{_≡_, refl, sym, _∙_, ap, subst}
 use mathlib.Core.Logic.{_↔_}
 use mathlib.Core.List.{List, [], _∷_, List·Memᴰ, List·Memᴰ·head, List·Memᴰ·not-nil}
-use mathlib.Core.Option.{none, some}
+use mathlib.Core.Option.{Option, none, some}
 use mathlib.Core.Bool.{true, false, not}
 use native.Mathlib.Omega.{arith}
 use lib.Dec.{ltb}
-use borrow.Author.Tests.{le-leb}
+use borrow.Author.Tests.{le-leb, le-ltb}
 use Rattle.lemmas.proofs.Keep.{keep-keeps}
 use Rattle.lemmas.proofs.Cases.{bool, true-false, some-inj, none-some}
 use Rattle.lemmas.specs.Keep.{keep}
 use Rattle.model.specs.Numbers.{pageBytes, zonePages, largeSize}
-use Rattle.model.specs.Arena.{run, total}
-use Rattle.model.specs.Sizes.{classOf}
+use Rattle.model.specs.Arena.{run, total, locate}
+use Rattle.model.specs.Sizes.{classOf, pagesFor}
 use Rattle.model.specs.Zone.{Zone}
 use Rattle.model.specs.State.{State, listOf, ZoneAt, zoneIn}
 use Rattle.model.specs.PageMap.{occupancy, PageMap, pageMap, idle, idleZone, blockAt}
 use Rattle.model.specs.Valid.{Valid}
-use Rattle.model.specs.Pages.{withRun, joined, hasRun}
+use Rattle.model.specs.Pages.{FreeRun, claim, withRun, joined, hasRun}
 use Rattle.model.specs.Trim.{trimmed}
-use Rattle.model.specs.Calls.{GrantedAt, groupOk, sizeOk}
+use Rattle.model.specs.Calls.{RefusedBy, GrantedAt, groupOk, sizeOk}
 use Rattle.model.specs.Allocate.{zoneNeeded, needed, allocate}
 use Rattle.model.proofs.Arena.{total-retold}
-use Rattle.model.proofs.Claim.{has-retold}
-use Rattle.model.proofs.Joins.{some-run}
+use Rattle.model.proofs.Claim.{claim-none, has-retold}
+use Rattle.model.proofs.Joins.{zero-run, joined-see, some-run}
 use Rattle.model.proofs.Disjoint.{all-sized}
-use Rattle.model.proofs.NoRoom.{Short, granted-else}
+use Rattle.model.proofs.NoRoom.{Short, no-room, granted-else}
 use Rattle.model.proofs.Trimmed.{trimmed-map, trimmed-list, trimmed-empty, joined-gone}
+use Rattle.history.specs.Rows.{clearThere, Row}
 use Rattle.history.proofs.Determined.{same-trimmed}
-use Rattle.history.proofs.Neat.{trimmed-again}
+use Rattle.history.proofs.Neat.{trimmed-neat, trimmed-again, row-run, found-row}
 
 -- No block is live.
 abbrev pub Bare : PageMap → Type 0
@@ -113,3 +115,41 @@ module _ (s : State) (v : Valid s) (g n : ℕ) where
           none-long = short;
         },
   )
+
+-- Demand 3's rule on refusals, in any state: a request of whole pages is refused exactly when no row of pages is clear ------------------
+
+-- Trim leaves the same pages clear.
+clear-trimmed : (s : State) (q : ℕ) → clearThere (locate (q * pageBytes) (pageMap (trimmed s))) ≡ clearThere (locate (q * pageBytes) (pageMap s))
+clear-trimmed s q =
+    ap (λ m. clearThere (locate (q * pageBytes) m)) (trimmed-map s)
+    ∙ joined-see clearThere true (λ d k. refl) idle (λ d l e. e) 0 (pageMap s) (q * pageBytes)
+    ∙ zero-run clearThere true (λ d k. refl) (pageMap s) (q * pageBytes)
+
+module _ (s : State) (v : Valid s) (n : ℕ) (pos : 0 < n) where
+  row-has : Row n (pageMap s) → hasRun n (pageMap (trimmed s)) ≡ true
+  row-has w = row-run n pos false (pageMap (trimmed s)) (trimmed-neat s v) (w .0, λ q a b. clear-trimmed s q ∙ w .1 q a b)
+
+  has-row : hasRun n (pageMap (trimmed s)) ≡ true → Row n (pageMap s)
+  has-row e = go (claim n (pageMap (trimmed s))) refl
+    where
+      go : (h : Option FreeRun) → claim n (pageMap (trimmed s)) ≡ h → Row n (pageMap s)
+      go none c = true-false e (claim-none n (pageMap (trimmed s)) c)
+      go (some h) c = let w = found-row n (pageMap (trimmed s)) h pos c in (w .0, λ q a b. sym (clear-trimmed s q) ∙ w .1 q a b)
+
+pub no-row : (s : State) → Valid s → (g n : ℕ) → largeSize ≤ n → groupOk g ≡ true → sizeOk n ≡ true → RefusedBy 6 ((allocate g n s) .answer) ↔ (Row (pagesFor n) (pageMap s) → ⊥)
+no-row s v g n h t u = (
+  λ r w. let k = no-room s g n .0 r in true-false (row-has s v (pagesFor n) (omega arith) w) (ap (λ j. hasRun j (pageMap (trimmed s))) (pages-are (k .needs)) ∙ k .none-long),
+  λ f. no-room s g n .1 (record {
+    group = t;
+    size = u;
+    pages = pagesFor n;
+    needs = whole;
+    none-long = bool (hasRun (pagesFor n) (pageMap (trimmed s))) (λ e. absurd (f (has-row s v (pagesFor n) (omega arith) e))) (λ e. e);
+  }),
+)
+  where
+    whole : needed n s ≡ some (pagesFor n)
+    whole = rw (le-ltb n largeSize h)
+
+    pages-are : {k : ℕ} → needed n s ≡ some k → pagesFor n ≡ k
+    pages-are e = some-inj (sym whole ∙ e)

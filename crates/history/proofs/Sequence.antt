@@ -1,7 +1,6 @@
 -- On a trimmed page map, requests of whole pages and returns by which no chunk comes back are functions of it: what they answer and
--- which page map they leave, which is a trimmed one again. Such a request is refused exactly when no row of pages is clear. Assumes
--- nothing.
-use Prim.Native.Nat.{ℕ, _*_, _≤_, _<_}
+-- which page map they leave, which is a trimmed one again. Assumes nothing.
+use Prim.Native.Nat.{ℕ, _*_, _≤_}
 use mathlib.Core.Path.{_≡_, refl, sym, _∙_, ap}
 use mathlib.Core.Option.{Option, none, some, Option·map}
 use mathlib.Core.Bool.{true, false, cond}
@@ -25,12 +24,11 @@ use Rattle.model.specs.Allocate.{foundIn, searched, sought, directFrom, allocat
 use Rattle.model.specs.Trim.{trimmed}
 use Rattle.model.specs.Free.{freeBlock, free}
 use Rattle.model.specs.Perform.{asked}
-use Rattle.model.proofs.Claim.{claim-found, claim-none, claim-retold}
+use Rattle.model.proofs.Claim.{claim-found, claim-retold}
 use Rattle.model.proofs.Joins.{carve-retold, release-retold}
 use Rattle.model.proofs.Trimmed.{trimmed-map}
 use Rattle.model.proofs.Sought.{sought-first, sought-second}
-use Rattle.history.specs.Rows.{Row}
-use Rattle.history.proofs.Neat.{Neat, neat-again, release-neat, carve-neat, row-run, found-row}
+use Rattle.history.proofs.Neat.{Neat, neat-again, release-neat, carve-neat}
 
 -- The steps on page maps -------------------------------------------------------------------------------------------------------
 
@@ -148,30 +146,3 @@ call-neat s g q h a = rw (call-map s g q h a) (go q a)
     go (Allocate n) k = either (Neat false) (groupOk g) _ _ (λ t. either (Neat false) (sizeOk n) _ _ (λ u. direct-neat n k (claim (pagesFor n) m) refl) (λ u. h)) (λ t. h)
     go (Free o) k = either (Neat false) (groupOk g) _ _ (λ t. free-neat o (blockAt m o)) (λ t. h)
     go Reset k = absurd k
-
--- A request from a trimmed page map is granted if a row is clear, and refused by 6 if none is.
-pub record ExactOn (s : State) (g n : ℕ) : Type 0 where
-  pub refused : (Row (pagesFor n) (pageMap s) → ⊥) → (allocate g n s) .answer ≡ Refused NoRoom
-  pub granted : Row (pagesFor n) (pageMap s) → (o : ℕ) × ((allocate g n s) .answer ≡ Granted o)
-
-pub request-exact : (s : State) (g n : ℕ) → Neat false (pageMap s) → 8192 ≤ n → groupOk g ≡ true → sizeOk n ≡ true → ExactOn s g n
-request-exact s g n h k t u = go (claim (pagesFor n) m) refl (allocate-both s g n h k .1 ∙ says)
-  where
-    m : PageMap
-    m = pageMap s
-
-    says : sayAt m g (Allocate n) ≡ sayDirect (claim (pagesFor n) m)
-    says = rw (t, u)
-
-    pos : 0 < pagesFor n
-    pos = omega arith
-
-    go : (r : Option FreeRun) → claim (pagesFor n) m ≡ r → (allocate g n s) .answer ≡ sayDirect (claim (pagesFor n) m) → ExactOn s g n
-    go none e x = record {
-      refused = λ _. x ∙ ap sayDirect e;
-      granted = λ w. true-false (row-run _ pos false m h w) (claim-none _ m e);
-    }
-    go (some r) e x = record {
-      refused = λ w. absurd (w (found-row _ m r pos e));
-      granted = λ _. (r .page * pageBytes, x ∙ ap sayDirect e);
-    }

@@ -14,16 +14,15 @@ use Rattle.model.specs.Numbers.{mostPages, pageBytes}
 use Rattle.model.specs.declared.Call.{Call}
 use Rattle.model.specs.declared.Operation.{Operation}
 use Rattle.model.specs.declared.Operation.the-variants.{Allocate, Free, Reset}
-use Rattle.model.specs.declared.Refusal.the-variants.{NoRoom}
 use Rattle.model.specs.declared.Answer.{Answer}
 use Rattle.model.specs.Arena.{total}
 use Rattle.model.specs.State.{State, freshState}
 use Rattle.model.specs.PageMap.{pageMap, blockAt}
 use Rattle.model.specs.Valid.{Valid}
-use Rattle.model.specs.Calls.{Action, group, trim, Command, init, act, isRefused}
+use Rattle.model.specs.Calls.{Action, group, trim, Command, init, act, reading, isRefused, grantOf}
 use Rattle.model.specs.Trim.{trimmed}
 use Rattle.model.specs.Perform.{asked, serve, Metadata, wordsFor, holding, perform}
-use Rattle.model.proofs.Answers.{refusal-told, grant-told}
+use Rattle.model.proofs.NoRoom.{no-room, granted-else}
 use Rattle.model.proofs.Trimmed.{trimmed-map}
 use Rattle.model.proofs.Validity.{fresh-valid, serve-valid, perform-leaves}
 use Rattle.model.proofs.Disjoint.{all-sized}
@@ -31,7 +30,8 @@ use Rattle.history.specs.Ledger.{begins, unlessRefused, effect, Agrees}
 use Rattle.history.specs.Demand.{mapAt, History, after, afterAll, begun, NoStart, Allowed, Sequence, answersTo, ExactCall, Exact, Alike, Demand3, LedgerAgrees}
 use Rattle.history.proofs.Determined.{same-trimmed}
 use Rattle.history.proofs.Neat.{Neat, trimmed-neat}
-use Rattle.history.proofs.Sequence.{AllowedOn, call-map, call-says, allowed-same, call-neat, request-exact}
+use Rattle.history.proofs.Sequence.{AllowedOn, call-map, call-says, allowed-same, call-neat}
+use Rattle.history.proofs.Second.{no-row}
 use Rattle.history.proofs.Ledger.{Entry, told, find, Single, entries-agree, After, unchanged, after-action}
 use Rattle.history.proofs.Growth.{Grew, grew-none, grew-more, grew-same}
 
@@ -88,23 +88,23 @@ module _ (B : Type 0) (view : B → Metadata) (next : B → Command → B) (says
       let rest = same-answers q j k _ _ _ _ (on-next j b s (group c) e) (on-next k d t (group c) f) (call-neat s g o h al) maps (a .1) in
       λ x. said x ∷ rest x
 
-  exact-call : (k : ℕ) (b : B) (s : State) (g : ℕ) (q : Operation) → On k b s → Neat false (pageMap s) → AllowedOn s g q → ExactCall B view next says b (pageMap s) g q
-  exact-call k b s g (Allocate n) e h a = λ t u.
-      let x = request-exact s g n h a t u in
+  exact-call : (k : ℕ) (b : B) (s : State) (g : ℕ) (q : Operation) → On k b s → Valid s → AllowedOn s g q → ExactCall B view next says b (pageMap s) g q
+  exact-call k b s g (Allocate n) e v a = λ t u.
+      let x = no-row s v g n a t u in
       let said = on-says k b s _ e in
       record {
-        refused = λ w. refusal-told NoRoom _ .1 (said ∙ x .refused w);
-        granted = λ r. let y = x .granted r in (y .0, grant-told (y .0) _ .1 (said ∙ y .1));
+        refused = λ w. ap reading said ∙ x .1 w;
+        granted = λ r. let y = granted-else s g n t u (λ h. x .0 (no-room s g n .1 h) r) in (y .0, (ap grantOf said ∙ y .1 .0, ap reading said ∙ y .1 .1));
       }
-  exact-call k b s g (Free o) e h a = tt
-  exact-call k b s g Reset e h a = tt
+  exact-call k b s g (Free o) e v a = tt
+  exact-call k b s g Reset e v a = tt
 
-  all-exact : (q : List Call) (k : ℕ) (b : B) (s : State) → On k b s → Neat false (pageMap s) → Sequence B view next says b q → Exact B view next says b q
-  all-exact [] k b s e h a = tt
-  all-exact (c ∷ q) k b s e h a =
+  all-exact : (q : List Call) (k : ℕ) (b : B) (s : State) → On k b s → Valid s → Sequence B view next says b q → Exact B view next says b q
+  all-exact [] k b s e v a = tt
+  all-exact (c ∷ q) k b s e v a =
       let al = allowed-on k b s (c .group) (c .operation) e (a .0) in (
-        (pageMap s, on-map k b s e, exact-call k b s (c .group) (c .operation) e h al),
-        all-exact q k _ _ (on-next k b s (group c) e) (call-neat s (c .group) (c .operation) h al) (a .1),
+        (pageMap s, on-map k b s e, exact-call k b s (c .group) (c .operation) e v al),
+        all-exact q k _ _ (on-next k b s (group c) e) (serve-valid s v (group c)) (a .1),
       )
 
   -- Two states with the same pages and the same live blocks.
@@ -116,8 +116,8 @@ module _ (B : Type 0) (view : B → Metadata) (next : B → Command → B) (says
       record {
         map = (pageMap (trimmed m), on-map j _ (trimmed m) tm, on-map k _ (trimmed e) te ∙ ap some (sym maps));
         answers = λ q. go q tm te maps;
-        exact-split = λ q. all-exact q j _ (trimmed m) tm (trimmed-neat m vm);
-        exact-end = λ q. all-exact q k _ (trimmed e) te (trimmed-neat e ve);
+        exact-split = λ q. all-exact q j _ (trimmed m) tm (serve-valid m vm trim);
+        exact-end = λ q. all-exact q k _ (trimmed e) te (serve-valid e ve trim);
       }
     where
       go : (q : List Call) → On j (next b (act trim)) (trimmed m) → On k (next d (act trim)) (trimmed e) → pageMap (trimmed m) ≡ pageMap (trimmed e) → Sequence B view next says (next b (act trim)) q ⊎ Sequence B view next says (next d (act trim)) q → answersTo B view next says (next b (act trim)) q ≡ answersTo B view next says (next d (act trim)) q

@@ -8,12 +8,13 @@ use mathlib.Core.List.{List, _++_}
 use mathlib.Core.Option.{Option, none, some}
 use native.Mathlib.Omega.{arith}
 use lib.ListN.{length, take, drop}
-use Rattle.model.specs.Numbers.{pageBytes, mostPages}
+use Rattle.model.specs.Numbers.{pageBytes, largeSize, mostPages}
 use Rattle.model.specs.declared.Refusal.the-variants.{NoState, NoRoom, ShortBuffer}
 use Rattle.model.specs.declared.Answer.the-variants.{Refused, Done, Counted}
 use mathlib.Core.Bool.{true, false}
 use Rattle.model.specs.declared.Operation.the-variants.{Allocate}
 use borrow.Author.Tests.{le-leb}
+use Rattle.model.specs.Sizes.{pagesFor}
 use Rattle.model.specs.Arena.{total}
 use Rattle.model.specs.State.{State, freshState}
 use Rattle.model.specs.PageMap.{pageMap, Block, roomOf, blockAt}
@@ -28,6 +29,7 @@ use Rattle.model.proofs.Disjoint as model
 use Rattle.model.proofs.NoRoom as rules
 use Rattle.model.proofs.NoRoom.{Short}
 use Rattle.history.specs.Demand.{Demand3, LedgerAgrees}
+use Rattle.history.specs.Rows.{Row}
 use Rattle.model.proofs.Answers.{refused-number, refusal-told, grant-told}
 use Rattle.history.proofs.Theorem.{demand-3, ledger-agrees}
 use Rattle.history.proofs.Second as second
@@ -166,6 +168,15 @@ empty-board w s e bare g n t u enough =
     let told = served-answer w s (h .valid) (h .begins) (request g n) in
     let k = second.empty-board s (h .valid) bare g n t u enough in
     (k .0, (ap grantOf told ∙ k .1 .0, ap reading told ∙ k .1 .1))
+
+-- Demand 3's rule on refusals, of words that encode any valid state: a request from 8,192 bytes up, of a legal group and size, is refused
+-- by 6 exactly when no row of as many pages as it needs is clear.
+pub no-row : (w : List ℕ) (s : State) → stateOf w ≡ some s → (g n : ℕ) → largeSize ≤ n → groupOk g ≡ true → sizeOk n ≡ true →
+    RefusedBy 6 (answerOf w (act (request g n))) ↔ (Row (pagesFor n) (pageMap s) → ⊥)
+no-row w s e g n h t u =
+    let here = no-room-on w s e g n in
+    let rows = second.no-row s (holding-of w s e .valid) g n h t u in
+    (λ r. rows .0 (rules.no-room s g n .1 (here .0 r)), λ f. here .1 (rules.no-room s g n .0 (rows .1 f)))
 
 -- A live block begins at a multiple of every number that divides a page's bytes and the block's room, ..
 pub block-aligned : (w : List ℕ) (s : State) → stateOf w ≡ some s → (o : ℕ) (b : Block) → blockAt (pageMap s) o ≡ some b → (d : ℕ) → pageBytes % d ≡ 0 → roomOf b % d ≡ 0 → o % d ≡ 0
