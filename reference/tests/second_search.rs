@@ -97,23 +97,14 @@ fn follow(pages: u32, seeds: u64) -> Ends {
 
 /// Every end is met so often or more.
 fn expect(pages: u32, least: u32, ends: &Ends) {
-    let Ends {
-        blocks_found,
-        blocks_refused,
-        blocks_refused_with_idle_zones,
-        zones_found,
-        zones_refused,
-        several_given_back,
-        idle_zones_kept,
-    } = *ends;
     let all = [
-        blocks_found,
-        blocks_refused,
-        blocks_refused_with_idle_zones,
-        zones_found,
-        zones_refused,
-        several_given_back,
-        idle_zones_kept,
+        ends.blocks_found,
+        ends.blocks_refused,
+        ends.blocks_refused_with_idle_zones,
+        ends.zones_found,
+        ends.zones_refused,
+        ends.several_given_back,
+        ends.idle_zones_kept,
     ];
     let met = all.iter().all(|&times| times >= least);
     assert!(met, "{pages} pages: {ends:?}");
