@@ -7,7 +7,7 @@ use mathlib.Core.Option.{some}
 use native.Mathlib.Omega.{arith}
 use lib.ListN.{length, getD, set, drop}
 use Rattle.model.specs.Numbers.{pageBytes, zonePages, mostPages}
-use Rattle.model.specs.declared.Answer.the-variants.{Granted, Refused}
+use Rattle.model.specs.declared.Answer.the-variants.{Granted, Denied}
 use Rattle.model.specs.declared.Refusal.the-variants.{NoRoom}
 use Rattle.model.specs.Arena.{Segment, zone}
 use Rattle.model.specs.Zone.{Zone, newZone}
@@ -24,8 +24,8 @@ use Rattle.header.specs.Front.{frontOf}
 use Rattle.header.specs.Keys.{keysOf}
 use Rattle.header.specs.Encoding.{listSlots}
 use Rattle.header.proofs.Kept.{fits-spare-pop}
-use Rattle.pages.specs.declared.Found.{Found}
-use Rattle.pages.specs.declared.Found.the-variants as search
+use Rattle.pages.specs.declared.Choice.{Choice}
+use Rattle.pages.specs.declared.Choice.the-variants.{Chosen, Missed}
 use Rattle.metadata.specs.Encoding.{encode}
 use Rattle.metadata.specs.Decoding.{decode}
 use Rattle.steps.specs.Lent.{Encodes, ZoneHere, Good}
@@ -61,12 +61,12 @@ module _ {w : List ℕ} {n c g : ℕ} (h : Asked w n c g) (empty : frontOf (list
   result-valid o e = subst (λ x. Valid (x .after)) e (chunk-valid s (h .good .valid) g (h .least) (h .most) c (h .class) (listOf s c) refl)
 
   -- The new zone at page p goes onto its list. The state t, in which that list is empty, was laid anew: the segments are now m′ and the
-  -- empty list is sp.
-  module _ (t : State) (bare : listOf t c ≡ []) (classes : c < length (t .lists)) (p : ℕ) (m′ : List (Segment Zone)) (sp : List ℕ)
-      (rule : chunkFrom c g s (listOf s c) ≡ opened c t m′ p sp) (s₂ : State) (same : s₂ .lists ≡ t .lists) {w₂ : List ℕ} (k : Encodes w₂ s₂) where
+  -- empty list is sp. j runs were looked at.
+  module _ (t : State) (bare : listOf t c ≡ []) (classes : c < length (t .lists)) (p : ℕ) (m′ : List (Segment Zone)) (sp : List ℕ) {j : ℕ}
+      (rule : chunkFrom c g s (listOf s c) ≡ opened c t m′ p sp j) (s₂ : State) (same : s₂ .lists ≡ t .lists) {w₂ : List ℕ} (k : Encodes w₂ s₂) where
     list-room : length (keysOf (decode w₂ .lists)) < listSlots
     list-room =
-        let ok : Valid (arranged t m′ (set (t .lists) c (p ∷ listOf t c)) sp) = subst (λ l. Valid (arranged t m′ (set (t .lists) c (p ∷ l)) sp)) (sym bare) (result-valid (opened c t m′ p sp) rule) in
+        let ok : Valid (arranged t m′ (set (t .lists) c (p ∷ listOf t c)) sp) = subst (λ l. Valid (arranged t m′ (set (t .lists) c (p ∷ l)) sp)) (sym bare) (result-valid (opened c t m′ p sp j) rule) in
         subst (λ x. length (keysOf x) < listSlots) (sym (ap (λ x. x .lists) (lent-decoded k) ∙ same)) (had-room t c p m′ sp ok classes)
 
     list-put : s₂ .segments ≡ m′ → s₂ .spare ≡ sp → {w₃ : List ℕ} → w₃ ≡ encode (fronted c p (decode w₂)) → w₃ ≡ encode (chunkFrom c g s (listOf s c) .after)
@@ -83,7 +83,7 @@ module _ {w : List ℕ} {n c g : ℕ} (h : Asked w n c g) (empty : frontOf (list
     spare-is : s .spare ≡ p ∷ ps
     spare-is = front-page (s .spare) p front .1
 
-    renew-rule : chunkFrom c g s (listOf s c) ≡ opened c s (putZone p new m) p ps
+    renew-rule : chunkFrom c g s (listOf s c) ≡ opened c s (putZone p new m) p ps 0
     renew-rule = ap (chunkFrom c g s) none-open ∙ ap (fromSpare c g s) spare-is
 
     on-spare : List·Memᴰ p (s .spare)
@@ -92,7 +92,7 @@ module _ {w : List ℕ} {n c g : ℕ} (h : Asked w n c g) (empty : frontOf (list
     pub renew-page : p < mostPages
     renew-page = h .good .lent .fits .spare-pages p on-spare
 
-    pub renew-answer : Granted (p * pageBytes) ≡ chunkFrom c g s (listOf s c) .answer
+    pub renew-answer : Granted (p * pageBytes) 0 ≡ chunkFrom c g s (listOf s c) .answer
     renew-answer = ap (λ o. o .answer) (sym renew-rule)
 
     abbrev s₁ : State
@@ -107,7 +107,7 @@ module _ {w : List ℕ} {n c g : ℕ} (h : Asked w n c g) (empty : frontOf (list
 
       module _ {w₂ : List ℕ} (e₂ : w₂ ≡ encode (rezoned p new (decode w₁))) where
         pub renewed-words : Encodes w₂ (rezoned p new s₁)
-        renewed-words = between s₁ (opened c s (putZone p new m) p ps .after) (behind-words .fits) (result-valid (opened c s (putZone p new m) p ps) renew-rule) (follows (λ x. rezoned p new x) behind-words e₂)
+        renewed-words = between s₁ (opened c s (putZone p new m) p ps 0 .after) (behind-words .fits) (result-valid (opened c s (putZone p new m) p ps 0) renew-rule) (follows (λ x. rezoned p new x) behind-words e₂)
 
         pub renewed-room : length (keysOf (decode w₂ .lists)) < listSlots
         renewed-room = list-room s none-open (classes (h .good)) p (putZone p new m) ps renew-rule (rezoned p new s₁) refl renewed-words
@@ -118,20 +118,20 @@ module _ {w : List ℕ} {n c g : ℕ} (h : Asked w n c g) (empty : frontOf (list
   -- Pages from the runs -------------------------------------------------------------------------------------------------------------
 
   module _ (bare : frontOf (s .spare) ≡ Nothing) where
-    zone-rule : chunkFrom c g s (listOf s c) ≡ zoneFrom c g s (sought zonePages s)
+    zone-rule : chunkFrom c g s (listOf s c) ≡ (let l = sought zonePages s in zoneFrom c g s (l .looked) (l .chosen))
     zone-rule = ap (chunkFrom c g s) none-open ∙ ap (fromSpare c g s) (front-nothing (s .spare) bare)
 
     some-pages : 0 < zonePages
     some-pages = omega arith
 
     -- There are none.
-    pub no-zone : {v : List ℕ} {r : Found} → r ≡ search.Nothing → Finds s (sought zonePages s) r v → Makes (chunkFrom c g s (listOf s c)) (Refused NoRoom) v
+    pub no-zone : {v : List ℕ} {r : Choice} {j : ℕ} → r ≡ Missed j → Finds s (sought zonePages s) r v → Makes (chunkFrom c g s (listOf s c)) (Denied NoRoom j) v
     no-zone told e =
-        let rule = zone-rule ∙ ap (zoneFrom c g s) (none-sought (h .good) some-pages told e) in
+        let rule = zone-rule ∙ ap (λ l. zoneFrom c g s (l .looked) (l .chosen)) (none-sought (h .good) some-pages told e) in
         (ap (λ o. o .answer) (sym rule), none-words (h .good) some-pages told e ∙ ap (λ o. encode (o .after)) (sym rule))
 
-    module _ {v : List ℕ} {r : Found} {p k : ℕ} (told : r ≡ search.Run p k) (e : Finds s (sought zonePages s) r v) where
-      from : Sourced (h .good) some-pages v p k
+    module _ {v : List ℕ} {r : Choice} {p k j : ℕ} (told : r ≡ Chosen p k j) (e : Finds s (sought zonePages s) r v) where
+      from : Sourced (h .good) some-pages v p k j
       from = sourced (h .good) some-pages told e
 
       abbrev t : State
@@ -140,17 +140,17 @@ module _ {w : List ℕ} {n c g : ℕ} (h : Asked w n c g) (empty : frontOf (list
       abbrev m′ : List (Segment Zone)
       m′ = carve (record { page = p; size = k }) zonePages (zone new) (t .segments)
 
-      open-rule : chunkFrom c g s (listOf s c) ≡ opened c t m′ p (t .spare)
+      open-rule : chunkFrom c g s (listOf s c) ≡ opened c t m′ p (t .spare) j
       open-rule =
-          zone-rule ∙ ap (zoneFrom c g s) (from .is)
-          ∙ ap (λ x. zoneFrom c g s (some (record { state = from .source .state; free = x }))) (from .free)
-          ∙ ap (λ u. opened c u (carve (record { page = p; size = k }) zonePages (zone new) (u .segments)) p (u .spare)) (sym (from .decoded))
+          zone-rule ∙ ap (λ l. zoneFrom c g s (l .looked) (l .chosen)) (from .is)
+          ∙ ap (λ x. zoneFrom c g s j (some (record { state = from .source .state; free = x }))) (from .free)
+          ∙ ap (λ u. opened c u (carve (record { page = p; size = k }) zonePages (zone new) (u .segments)) p (u .spare) j) (sym (from .decoded))
 
       -- The class's list is empty in the state that the pages are taken from, too.
       open-bare : listOf t c ≡ []
       open-bare =
           ap (λ u. listOf u c) (from .decoded)
-          ∙ sought-from zonePages s (from .source) (from .is) .either (λ u. listOf u c ≡ []) none-open (trimmed-empty s c none-open)
+          ∙ sought-from zonePages s (from .source) (ap (λ l. l .chosen) (from .is)) .either (λ u. listOf u c ≡ []) none-open (trimmed-empty s c none-open)
 
       pub open-good : Good v n
       open-good = from .good
@@ -161,7 +161,7 @@ module _ {w : List ℕ} {n c g : ℕ} (h : Asked w n c g) (empty : frontOf (list
       pub open-page : p < mostPages
       open-page = omega (arith, open-free .inside, open-free .enough, open-good .lent .fits .most)
 
-      pub open-answer : Granted (p * pageBytes) ≡ chunkFrom c g s (listOf s c) .answer
+      pub open-answer : Granted (p * pageBytes) j ≡ chunkFrom c g s (listOf s c) .answer
       open-answer = ap (λ o. o .answer) (sym open-rule)
 
       abbrev t₁ : State
@@ -169,7 +169,7 @@ module _ {w : List ℕ} {n c g : ℕ} (h : Asked w n c g) (empty : frontOf (list
 
       module _ {w₁ : List ℕ} (f : w₁ ≡ encode (carved (record { page = p; size = k }) zonePages (zone new) (decode v))) where
         pub open-words : Encodes w₁ t₁
-        open-words = between t (opened c t m′ p (t .spare) .after) (open-good .lent .fits) (result-valid (opened c t m′ p (t .spare)) open-rule) f
+        open-words = between t (opened c t m′ p (t .spare) j .after) (open-good .lent .fits) (result-valid (opened c t m′ p (t .spare) j) open-rule) f
 
         pub open-room : length (keysOf (decode w₁ .lists)) < listSlots
         open-room = list-room t open-bare (classes open-good) p m′ (t .spare) open-rule t₁ refl open-words

@@ -17,7 +17,7 @@ pub record Free (m : List (Segment Zone)) (need p k : ℕ) : Type 0 where
   pub enough : need ≤ k
   pub inside : p + k ≤ total m
 
-pub free : (m : List (Segment Zone)) (need p k : ℕ) → 0 < need → claim need m ≡ some (record { page = p; size = k }) → Free m need p k
+pub free : (m : List (Segment Zone)) (need p k : ℕ) → 0 < need → claim need m .chosen ≡ some (record { page = p; size = k }) → Free m need p k
 free m need p k pos e =
     let f = claim-found need m (record { page = p; size = k }) pos e in
     let s = begins-stands m p (run k) (f .0) in

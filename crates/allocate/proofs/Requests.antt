@@ -9,15 +9,15 @@ use borrow.Author.Tests.{leb-true, lt-ltb, le-ltb}
 use Rattle.lemmas.proofs.Cases.{and-right}
 use Rattle.model.specs.Numbers.{pageBytes, largeSize, mostBytes, mostPages}
 use Rattle.model.specs.declared.Answer.{Answer}
-use Rattle.model.specs.declared.Answer.the-variants.{Granted, Refused}
+use Rattle.model.specs.declared.Answer.the-variants.{Granted, Denied}
 use Rattle.model.specs.declared.Refusal.the-variants.{BadGroup, BadSize, NoRoom}
 use Rattle.model.specs.Sizes.{classOf, pagesFor}
 use Rattle.model.specs.Arena.{direct}
 use Rattle.model.specs.State.{State, listOf}
-use Rattle.model.specs.Calls.{Outcome, refuses, groupOk, sizeOk}
-use Rattle.model.specs.Allocate.{sought, directFrom, chunkFrom, supplied, allocate}
-use Rattle.pages.specs.declared.Found.{Found}
-use Rattle.pages.specs.declared.Found.the-variants as search
+use Rattle.model.specs.Calls.{Outcome, denies, groupOk, sizeOk}
+use Rattle.model.specs.Allocate.{sought, directFrom, wholePages, chunkFrom, supplied, allocate}
+use Rattle.pages.specs.declared.Choice.{Choice}
+use Rattle.pages.specs.declared.Choice.the-variants.{Chosen, Missed}
 use Rattle.metadata.specs.Encoding.{encode}
 use Rattle.metadata.specs.Decoding.{decode}
 use Rattle.steps.specs.Lent.{Good}
@@ -35,10 +35,10 @@ pub size-most : (n : ℕ) → sizeOk n ≡ true → n ≤ mostBytes
 size-most n t = leb-true n mostBytes (and-right (leb 1 n) (leb n mostBytes) t)
 
 module _ (s : State) (g n : ℕ) where
-  pub bad-group : groupOk g ≡ false → refuses s BadGroup ≡ allocate g n s
+  pub bad-group : groupOk g ≡ false → denies s BadGroup 0 ≡ allocate g n s
   bad-group t = rw t
 
-  pub bad-size : groupOk g ≡ true → sizeOk n ≡ false → refuses s BadSize ≡ allocate g n s
+  pub bad-size : groupOk g ≡ true → sizeOk n ≡ false → denies s BadSize 0 ≡ allocate g n s
   bad-size t u = rw (t, u)
 
   pub accepted : groupOk g ≡ true → sizeOk n ≡ true → supplied g n s ≡ allocate g n s
@@ -47,7 +47,7 @@ module _ (s : State) (g n : ℕ) where
   pub small : (k : ℕ) → n < largeSize → k ≡ classOf n → chunkFrom k g s (listOf s k) ≡ supplied g n s
   small k h e = ap (λ j. chunkFrom j g s (listOf s j)) e ∙ rw (lt-ltb n largeSize h)
 
-  pub large : largeSize ≤ n → directFrom (pagesFor n) g s (sought (pagesFor n) s) ≡ supplied g n s
+  pub large : largeSize ≤ n → wholePages (pagesFor n) g s ≡ supplied g n s
   large h = rw (le-ltb n largeSize h)
 
 -- Whole pages.
@@ -55,11 +55,11 @@ module _ {w : List ℕ} {n need : ℕ} (h : Good w n) (pos : 0 < need) (g : ℕ)
   abbrev s : State
   s = decode w
 
-  pub no-pages : {v : List ℕ} {r : Found} → r ≡ search.Nothing → Finds s (sought need s) r v → Makes (directFrom need g s (sought need s)) (Refused NoRoom) v
-  no-pages told e = made (ap (directFrom need g s) (sym (none-sought h pos told e))) (refl, none-words h pos told e)
+  pub no-pages : {v : List ℕ} {r : Choice} {j : ℕ} → r ≡ Missed j → Finds s (sought need s) r v → Makes (wholePages need g s) (Denied NoRoom j) v
+  no-pages told e = made (ap (λ l. directFrom need g s (l .looked) (l .chosen)) (sym (none-sought h pos told e))) (refl, none-words h pos told e)
 
-  module _ {v : List ℕ} {r : Found} {p k : ℕ} (told : r ≡ search.Run p k) (e : Finds s (sought need s) r v) where
-    from : Sourced h pos v p k
+  module _ {v : List ℕ} {r : Choice} {p k j : ℕ} (told : r ≡ Chosen p k j) (e : Finds s (sought need s) r v) where
+    from : Sourced h pos v p k j
     from = sourced h pos told e
 
     pub pages-good : Good v n
@@ -71,8 +71,8 @@ module _ {w : List ℕ} {n need : ℕ} (h : Good w n) (pos : 0 < need) (g : ℕ)
     pub pages-page : p < mostPages
     pages-page = omega (arith, pages-free .inside, pages-free .enough, pages-good .lent .fits .most)
 
-    pub pages-taken : {w₁ : List ℕ} → w₁ ≡ encode (carved (record { page = p; size = k }) need (direct need g) (decode v)) → Makes (directFrom need g s (sought need s)) (Granted (p * pageBytes)) w₁
-    pages-taken f = made (ap (directFrom need g s) (sym (from .is))) (
-      ap (λ x. Granted (x .page * pageBytes)) (sym (from .free)),
+    pub pages-taken : {w₁ : List ℕ} → w₁ ≡ encode (carved (record { page = p; size = k }) need (direct need g) (decode v)) → Makes (wholePages need g s) (Granted (p * pageBytes) j) w₁
+    pages-taken f = made (ap (λ l. directFrom need g s (l .looked) (l .chosen)) (sym (from .is))) (
+      ap (λ x. Granted (x .page * pageBytes) j) (sym (from .free)),
       f ∙ ap (λ u. encode (carved (record { page = p; size = k }) need (direct need g) u)) (from .decoded) ∙ ap (λ x. encode (carved x need (direct need g) (from .source .state))) (sym (from .free)),
     )

@@ -80,8 +80,8 @@ module _ {w : List ℕ} {n c g : ℕ} (h : Asked w n c g) {p : ℕ} (front : fro
       let q : i * r ≡ nextChunk z * room c = λ j. e j * f j in
       omega (arith, chunk-begins c (nextChunk z) k)
 
-  pub serve-answer : {i r : ℕ} → i ≡ nextChunk z → r ≡ room c → Granted (p * pageBytes + i * r) ≡ chunkFrom c g s (listOf s c) .answer
-  serve-answer e f = (λ j. Granted (p * pageBytes + e j * f j)) ∙ ap (λ o. o .answer) (sym rule)
+  pub serve-answer : {i r : ℕ} → i ≡ nextChunk z → r ≡ room c → Granted (p * pageBytes + i * r) 0 ≡ chunkFrom c g s (listOf s c) .answer
+  serve-answer e f = (λ j. Granted (p * pageBytes + e j * f j) 0) ∙ ap (λ o. o .answer) (sym rule)
 
   -- The chunk has been granted.
   module _ {w₁ : List ℕ} (e : w₁ ≡ encode (rezoned p (granted g z) s)) where

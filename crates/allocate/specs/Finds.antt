@@ -4,10 +4,10 @@ use mathlib.Core.Path.{_≡_}
 use mathlib.Core.List.{List}
 use mathlib.Core.Option.{Option, none, some}
 use Rattle.model.specs.State.{State}
-use Rattle.model.specs.Pages.{FreeRun}
+use Rattle.model.specs.Pages.{FreeRun, Search}
 use Rattle.model.specs.Allocate.{Source}
-use Rattle.pages.specs.declared.Found.{Found}
-use Rattle.pages.specs.Places.{found}
+use Rattle.pages.specs.declared.Choice.{Choice}
+use Rattle.pages.specs.Places.{choiceOf}
 use Rattle.metadata.specs.Encoding.{encode}
 
 abbrev pub runOf : Option Source → Option FreeRun
@@ -19,6 +19,6 @@ abbrev pub leftBy : State → Option Source → State
 leftBy s none = s
 leftBy s (some f) = f .state
 
--- The searches, begun in the state s, have the result o: it is told as r, and the words are now w.
-abbrev pub Finds : State → Option Source → Found → List ℕ → Type 0
-Finds s o r w = (r ≡ found (runOf o)) × (w ≡ encode (leftBy s o))
+-- The searches, begun in the state s, come to l: that is told as r, and the words are now w.
+abbrev pub Finds : State → Search Source → Choice → List ℕ → Type 0
+Finds s l r w = (r ≡ choiceOf (l .looked) (runOf (l .chosen))) × (w ≡ encode (leftBy s (l .chosen)))

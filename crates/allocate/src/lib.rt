@@ -4,7 +4,10 @@ ghost use mathlib.Core.Path.{_≡_};
 ghost use Prim.Native.Nat.{_≤_, _<_};
 ghost use Rattle.model.specs.State.{listOf};
 ghost use Rattle.model.specs.Calls.{sizeOk};
-ghost use Rattle.model.specs.Allocate.{sought, directFrom, chunkFrom, supplied, allocate as allocated};
+ghost use Rattle.model.specs.Pages.{claim};
+ghost use Rattle.model.specs.Allocate.{sought, wholePages, chunkFrom, supplied, allocate as allocated};
+ghost use Rattle.pages.specs.declared.Choice.the-variants.{Missed};
+ghost use Rattle.pages.specs.Places.{choice};
 ghost use Rattle.header.specs.declared.Front.the-variants.{Page, Nothing};
 ghost use Rattle.header.specs.Front.{frontOf};
 ghost use Rattle.metadata.specs.Decoding.{decode};
@@ -20,36 +23,64 @@ use model::numbers::LARGE_SIZE;
 use model::numbers::MOST_BYTES;
 use model::numbers::PAGE_BYTES;
 use model::numbers::ZONE_PAGES;
-use pages::Found;
+use pages::Choice;
 
 // ---- pages
 
-// Finds a run of `need` pages, for a direct block or a zone: as the words are or, if there is none, as trim leaves them. It trims only
-// where that gives one, so that nothing has changed where nothing is found.
-fn find_pages(words: &mut [u32], n: usize, need: usize) -> Found
+// Finds a run of `need` pages, for a direct block or a zone: as the words are or, if there is none, as trim leaves them.
+fn find_pages(words: &mut [u32], n: usize, need: usize) -> Choice
     requires { ⌜ Good (now words) n × (0 < need) ⌝ }
     ensures { λ r. ⌜ Finds (decode (now (words .entry))) (sought need (decode (now (words .entry)))) r (now (words .exit)) ⌝ }
 {
-    if let Found::Run { at, len } = steps::find_run(words, n, need) {
-        return Found::Run { at: at, len: len };
+    match steps::find_run(words, n, need) {
+        Choice::Chosen { at, len, looked } => Choice::Chosen {
+            at: at,
+            len: len,
+            looked: looked,
+        },
+        Choice::Missed { looked } => find_again(words, n, need, looked),
     }
-    if steps::fits_trimmed(words, n, need) {
-        trim::trim_all(words, n);
-        return steps::find_run(words, n, need);
+}
+
+// The second search, after one that looked at so many runs and found none. It trims only where that gives one, so that nothing has
+// changed where nothing is found.
+fn find_again(words: &mut [u32], n: usize, need: usize, before: u32) -> Choice
+    requires { ⌜ Good (now words) n × (0 < need) × (choice (claim need (decode (now words) .segments)) ≡ Missed before) ⌝ }
+    ensures { λ r. ⌜ Finds (decode (now (words .entry))) (sought need (decode (now (words .entry)))) r (now (words .exit)) ⌝ }
+{
+    match steps::find_trimmed(words, n, need) {
+        Choice::Chosen { at, len, looked } => {
+            trim::trim_all(words, n);
+            Choice::Chosen {
+                at: at,
+                len: len,
+                looked: before + looked,
+            }
+        }
+        Choice::Missed { looked } => Choice::Missed {
+            looked: before + looked,
+        },
     }
-    Found::Nothing
 }
 
 // `need` whole pages for the group.
 fn supply_pages(words: &mut [u32], n: usize, group: u32, need: usize) -> Answer
     requires { ⌜ Good (now words) n × (0 < need) ⌝ }
-    ensures { λ r. ⌜ Makes (directFrom need group (decode (now (words .entry))) (sought need (decode (now (words .entry))))) r (now (words .exit)) ⌝ }
+    ensures { λ r. ⌜ Makes (wholePages need group (decode (now (words .entry)))) r (now (words .exit)) ⌝ }
 {
-    let Found::Run { at, len } = find_pages(words, n, need) else {
-        return Answer::Refused(Refusal::NoRoom);
-    };
-    steps::take_direct(words, n, at, len, need, group);
-    Answer::Granted((at as u32) * PAGE_BYTES)
+    match find_pages(words, n, need) {
+        Choice::Chosen { at, len, looked } => {
+            steps::take_direct(words, n, at, len, need, group);
+            Answer::Granted {
+                offset: (at as u32) * PAGE_BYTES,
+                looked: looked,
+            }
+        }
+        Choice::Missed { looked } => Answer::Denied {
+            refusal: Refusal::NoRoom,
+            looked: looked,
+        },
+    }
 }
 
 // ---- chunks
@@ -64,10 +95,16 @@ fn serve(words: &mut [u32], n: usize, class: u32, page: u32, group: u32) -> Answ
     let chunk = steps::zone_grant(words, at, group);
     let offset = page * PAGE_BYTES + chunk * zone::sizes::room(class);
     if !steps::zone_full(words, at) {
-        return Answer::Granted(offset);
+        return Answer::Granted {
+            offset: offset,
+            looked: 0,
+        };
     }
     steps::list_without(words, class, page);
-    Answer::Granted(offset)
+    Answer::Granted {
+        offset: offset,
+        looked: 0,
+    }
 }
 
 // No zone of the class has a chunk left: the first of the empty list is set up anew.
@@ -79,7 +116,10 @@ fn renew(words: &mut [u32], n: usize, class: u32, page: u32, group: u32) -> Answ
     steps::spare_behind(words);
     steps::zone_renew(words, page as usize, class, group);
     steps::list_front(words, class, page);
-    Answer::Granted(page * PAGE_BYTES)
+    Answer::Granted {
+        offset: page * PAGE_BYTES,
+        looked: 0,
+    }
 }
 
 // The empty list has no zone either: 8 pages are taken from the runs and set up.
@@ -88,13 +128,21 @@ fn open_zone(words: &mut [u32], n: usize, class: u32, group: u32) -> Answer
     requires { ⌜ (frontOf (listOf (decode (now words)) class) ≡ Nothing) × (frontOf (decode (now words) .spare) ≡ Nothing) ⌝ }
     ensures { λ r. ⌜ Makes (chunkFrom class group (decode (now (words .entry))) (listOf (decode (now (words .entry))) class)) r (now (words .exit)) ⌝ }
 {
-    let Found::Run { at, len } = find_pages(words, n, ZONE_PAGES) else {
-        return Answer::Refused(Refusal::NoRoom);
-    };
-    steps::take_zone(words, n, at, len, class, group);
-    let start = at as u32;
-    steps::list_front(words, class, start);
-    Answer::Granted(start * PAGE_BYTES)
+    match find_pages(words, n, ZONE_PAGES) {
+        Choice::Chosen { at, len, looked } => {
+            steps::take_zone(words, n, at, len, class, group);
+            let start = at as u32;
+            steps::list_front(words, class, start);
+            Answer::Granted {
+                offset: start * PAGE_BYTES,
+                looked: looked,
+            }
+        }
+        Choice::Missed { looked } => Answer::Denied {
+            refusal: Refusal::NoRoom,
+            looked: looked,
+        },
+    }
 }
 
 // A chunk of the class for the group.
@@ -143,10 +191,16 @@ pub fn allocate(words: &mut [u32], n: usize, group: u32, size: u32) -> Answer
     ensures { λ r. ⌜ Makes (allocated group size (decode (now (words .entry)))) r (now (words .exit)) ⌝ }
 {
     if !model::group_ok(group) {
-        return Answer::Refused(Refusal::BadGroup);
+        return Answer::Denied {
+            refusal: Refusal::BadGroup,
+            looked: 0,
+        };
     }
     if !size_ok(size) {
-        return Answer::Refused(Refusal::BadSize);
+        return Answer::Denied {
+            refusal: Refusal::BadSize,
+            looked: 0,
+        };
     }
     supply(words, n, group, size)
 }

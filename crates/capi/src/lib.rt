@@ -2,9 +2,10 @@
 // through the pointers lent for them. include/nostrimel.h says what a caller must keep.
 ghost use mathlib.Core.Path.{_≡_};
 ghost use mathlib.Core.Bool.{true, false, cond};
+ghost use mathlib.Core.Option.{some};
 ghost use lib.ListN.{length};
 ghost use Rattle.model.specs.Calls as rules;
-ghost use Rattle.model.specs.Calls.{reading};
+ghost use Rattle.model.specs.Calls.{reading, lookedOf};
 ghost use Rattle.model.specs.declared.Operation.the-variants as operation;
 ghost use Rattle.slab.specs.Calls.{answerOf, metaAfter, textAfter};
 ghost use Rattle.capi.specs.Values.{firstOr, secondOr, toldOf};
@@ -34,16 +35,29 @@ fn bare(refusal: u32) -> Told
     }
 }
 
-// One value.
-fn valued(first: u32) -> Told
-    ensures { λ r. ⌜ r ≡ record { refusal = 0; some = true; first = first; both = false; second = 0 } ⌝ }
+// One value, with a refusal's number, or 0.
+fn valued(refusal: u32, first: u32) -> Told
+    ensures { λ r. ⌜ r ≡ record { refusal = refusal; some = true; first = first; both = false; second = 0 } ⌝ }
+{
+    Told {
+        refusal: refusal,
+        some: true,
+        first: first,
+        both: false,
+        second: 0,
+    }
+}
+
+// Two values.
+fn paired(first: u32, second: u32) -> Told
+    ensures { λ r. ⌜ r ≡ record { refusal = 0; some = true; first = first; both = true; second = second } ⌝ }
 {
     Told {
         refusal: 0,
         some: true,
         first: first,
-        both: false,
-        second: 0,
+        both: true,
+        second: second,
     }
 }
 
@@ -52,17 +66,12 @@ fn take_apart(answer: Answer) -> Told
     ensures { λ r. ⌜ r ≡ toldOf answer ⌝ }
 {
     match answer {
-        Answer::Granted(offset) => valued(offset),
+        Answer::Granted { offset, looked } => paired(looked, offset),
+        Answer::Denied { refusal, looked } => valued(model::number(refusal), looked),
         Answer::Refused(refusal) => bare(model::number(refusal)),
         Answer::Done => bare(0),
-        Answer::Counted(count) => valued(count),
-        Answer::Block(group, room) => Told {
-            refusal: 0,
-            some: true,
-            first: group,
-            both: true,
-            second: room,
-        },
+        Answer::Counted(count) => valued(0, count),
+        Answer::Block(group, room) => paired(group, room),
     }
 }
 
@@ -138,10 +147,12 @@ pub extern "C" fn nostrimel_allocate(
     group: u32,
     size: u32,
     offset: &mut u32,
+    looked: &mut u32,
 ) -> u32
     ensures { λ r. ⌜ r ≡ reading (answerOf (now (meta .entry)) (rules.act (rules.group (record { group = group; operation = operation.Allocate size })))) .refusal ⌝ }
     ensures { λ _. ⌜ now (meta .exit) ≡ metaAfter (now (meta .entry)) (rules.act (rules.group (record { group = group; operation = operation.Allocate size }))) ⌝ }
-    ensures { λ _. ⌜ now (offset .exit) ≡ firstOr (now (offset .entry)) (reading (answerOf (now (meta .entry)) (rules.act (rules.group (record { group = group; operation = operation.Allocate size })))) .values) ⌝ }
+    ensures { λ _. ⌜ now (offset .exit) ≡ secondOr (now (offset .entry)) (reading (answerOf (now (meta .entry)) (rules.act (rules.group (record { group = group; operation = operation.Allocate size })))) .values) ⌝ }
+    ensures { λ _. ⌜ some (now (looked .exit)) ≡ lookedOf (answerOf (now (meta .entry)) (rules.act (rules.group (record { group = group; operation = operation.Allocate size })))) ⌝ }
 {
     let answer = slab::call(
         meta,
@@ -150,7 +161,7 @@ pub extern "C" fn nostrimel_allocate(
             operation: Operation::Allocate(size),
         },
     );
-    tell_first(answer, offset)
+    tell_both(answer, looked, offset)
 }
 
 #[no_mangle]

@@ -13,7 +13,7 @@ use Rattle.lemmas.proofs.Cases.{true-false}
 use Rattle.model.specs.declared.Refusal.the-variants.{ShortBuffer}
 use Rattle.model.specs.declared.Call.{Call}
 use Rattle.model.specs.declared.Answer.{Answer}
-use Rattle.model.specs.declared.Answer.the-variants.{Granted, Refused, Done, Counted, Block}
+use Rattle.model.specs.declared.Answer.the-variants.{Refused, Counted}
 use Rattle.model.specs.State.{State}
 use Rattle.model.specs.PageMap.{pageMap}
 use Rattle.model.specs.Ascii.{ascii}
@@ -44,17 +44,8 @@ pub bad-short : {b : List ℕ} {r : ℕ} {m : List ℕ} → Wrote b 0 badText r 
 unfolding badText ascii
 bad-short s = omega arith
 
--- Which count an answer has.
-counted : Answer → ℕ
-counted (Granted o) = 0
-counted (Refused k) = 0
-counted Done = 0
-counted (Counted n) = n
-counted (Block g r) = 0
-
 count-same : {k n : ℕ} → Counted k ≡ Counted n → k ≡ n
-unfolding counted
-count-same e = ap counted e
+count-same e = cc
 
 -- A line that is the call c: its reply is the line of the answer.
 abbrev Performs : List ℕ → ℕ → Line → Command → Type 0
@@ -105,7 +96,7 @@ pub data Listed (b : List ℕ) (a : Answer) (v reply : List ℕ) : Type 0 where
   refused : isRefused a ≡ true → v ≡ b → reply ≡ answerText a → Listed b a v reply
 
 listed-by : (b : List ℕ) (s : State) (t : List ℕ) (room : Bool) → leb (length t) (length b) ≡ room
-    → Listed b ((provided room ShortBuffer s (answers s (Counted (length t)))) .answer) (cond room (t ++ drop (length t) b) b) (cond (isRefused ((provided room ShortBuffer s (answers s (Counted (length t)))) .answer)) (answerText ((provided room ShortBuffer s (answers s (Counted (length t)))) .answer)) t)
+    → Listed b ((provided room (Refused ShortBuffer) s (answers s (Counted (length t)))) .answer) (cond room (t ++ drop (length t) b) b) (cond (isRefused ((provided room (Refused ShortBuffer) s (answers s (Counted (length t)))) .answer)) (answerText ((provided room (Refused ShortBuffer) s (answers s (Counted (length t)))) .answer)) t)
 listed-by b s t true e =
     let fits : length t ≤ length b = leb-true (length t) (length b) e in
     whole fits refl (sym (sets-front t b fits))

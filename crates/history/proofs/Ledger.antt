@@ -170,7 +170,7 @@ module _ (n : ℕ) (s : State) (l : List Entry) (v : Valid s) (agree : (o : ℕ)
   }
 
   after-allocate : (g k : ℕ) (r : Outcome State) → Allocated s g (roomFor k) r → After n s l (ofGrant g k (grantOf (r .answer))) (r .after)
-  after-allocate g k r (gives o b ans fresh grp room only) = let e : Entry = record { serial = n; offset = o; block = b } in record {
+  after-allocate g k r (gives o j b ans fresh grp room only) = let e : Entry = record { serial = n; offset = o; block = b } in record {
     entries = e ∷ l;
     live = rw ans (λ i. record { serial = n; offset = o; group = sym grp i; room = sym room i } ∷ map told l);
     agree = λ q. bool (eqb o q) (λ t. rw t (cc (eqb-true o q t))) (λ t. rw t (only .1 q (λ z. eqb-false o q t (sym z)) ∙ agree q));
@@ -178,7 +178,7 @@ module _ (n : ℕ) (s : State) (l : List Entry) (v : Valid s) (agree : (o : ℕ)
     size = only .2;
     change = more e refl refl;
   }
-  after-allocate g k r (denies j ans st) = unchanged _ (r .after) (cc) st
+  after-allocate g k r (denies i j ans st) = unchanged _ (r .after) (cc) st
 
   after-free : (g o : ℕ) → After n s l (ofOperation g (Free o) ((free g o s) .answer)) ((free g o s) .after)
   after-free g o = bool (groupOk g) (λ t. rw t (go (blockAt (pageMap s) o) refl)) (λ t. rw t (unchanged nothing s refl refl))

@@ -3,7 +3,7 @@
 use Prim.Native.Nat.{ℕ}
 use mathlib.Core.Path.{_≡_, refl}
 use mathlib.Core.List.{[], _∷_}
-use mathlib.Core.Option.{none, orElse}
+use mathlib.Core.Option.{none}
 use Rattle.lemmas.specs.Keep.{keep}
 use Rattle.lemmas.specs.Times.{remove}
 use Rattle.model.specs.Numbers.{zoneBytes}
@@ -40,5 +40,5 @@ pub at-end : History Metadata self leaves says
 at-end = afterAll Metadata self leaves says at-split (ask 2 (Allocate 9000) ∷ ask 3 (Allocate 8000) ∷ init 300 ∷ ask 4 (Free zoneBytes) ∷ ask 2 (Free zoneBytes) ∷ act (query 0) ∷ ask 3 Reset ∷ act trim ∷ [])
 
 pub can-be-met : (at-split .live ≡ record { serial = 1; offset = 0; group = 1; room = 104 } ∷ []) × (at-end .live ≡ record { serial = 1; offset = 0; group = 1; room = 104 } ∷ [])
-unfolding step rounded classOf room chunks claim orElse sought keep remove at-split at-end
+unfolding step rounded classOf room chunks claim sought keep remove at-split at-end
 can-be-met = (refl, refl)

@@ -132,7 +132,7 @@ row-run n pos b (zone l ∷ r) h w = bool (ltb (w .0) zonePages)
     (λ t. (row-run n pos false r (h .1) (row-past n (w .0) (zone l) r (ltb-false (w .0) zonePages t) (w .1))))
 
 -- What the claim finds is a row of clear pages.
-pub found-row : (n : ℕ) (m : PageMap) (h : FreeRun) → 0 < n → claim n m ≡ some h → Row n m
+pub found-row : (n : ℕ) (m : PageMap) (h : FreeRun) → 0 < n → claim n m .chosen ≡ some h → Row n m
 found-row n m h pos e =
     let f = claim-found n m h pos e in
     let S = split _ m (f .0) in

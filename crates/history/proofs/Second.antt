@@ -22,7 +22,7 @@ use Rattle.model.specs.PageMap.{occupancy, PageMap, pageMap, idle, idleZone, bl
 use Rattle.model.specs.Valid.{Valid}
 use Rattle.model.specs.Pages.{FreeRun, claim, withRun, joined, hasRun}
 use Rattle.model.specs.Trim.{trimmed}
-use Rattle.model.specs.Calls.{RefusedBy, GrantedAt, groupOk, sizeOk}
+use Rattle.model.specs.Calls.{DeniedBy, GrantedAt, groupOk, sizeOk}
 use Rattle.model.specs.Allocate.{zoneNeeded, needed, allocate}
 use Rattle.model.proofs.Arena.{total-retold}
 use Rattle.model.proofs.Claim.{claim-none, has-retold}
@@ -130,13 +130,13 @@ module _ (s : State) (v : Valid s) (n : ℕ) (pos : 0 < n) where
   row-has w = row-run n pos false (pageMap (trimmed s)) (trimmed-neat s v) (w .0, λ q a b. clear-trimmed s q ∙ w .1 q a b)
 
   has-row : hasRun n (pageMap (trimmed s)) ≡ true → Row n (pageMap s)
-  has-row e = go (claim n (pageMap (trimmed s))) refl
+  has-row e = go (claim n (pageMap (trimmed s)) .chosen) refl
     where
-      go : (h : Option FreeRun) → claim n (pageMap (trimmed s)) ≡ h → Row n (pageMap s)
+      go : (h : Option FreeRun) → claim n (pageMap (trimmed s)) .chosen ≡ h → Row n (pageMap s)
       go none c = true-false e (claim-none n (pageMap (trimmed s)) c)
       go (some h) c = let w = found-row n (pageMap (trimmed s)) h pos c in (w .0, λ q a b. sym (clear-trimmed s q) ∙ w .1 q a b)
 
-pub no-row : (s : State) → Valid s → (g n : ℕ) → largeSize ≤ n → groupOk g ≡ true → sizeOk n ≡ true → RefusedBy 6 ((allocate g n s) .answer) ↔ (Row (pagesFor n) (pageMap s) → ⊥)
+pub no-row : (s : State) → Valid s → (g n : ℕ) → largeSize ≤ n → groupOk g ≡ true → sizeOk n ≡ true → DeniedBy 6 ((allocate g n s) .answer) ↔ (Row (pagesFor n) (pageMap s) → ⊥)
 no-row s v g n h t u = (
   λ r w. let k = no-room s g n .0 r in true-false (row-has s v (pagesFor n) (omega arith) w) (ap (λ j. hasRun j (pageMap (trimmed s))) (pages-are (k .needs)) ∙ k .none-long),
   λ f. no-room s g n .1 (record {

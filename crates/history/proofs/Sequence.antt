@@ -1,6 +1,6 @@
 -- On a trimmed page map, requests of whole pages and returns by which no chunk comes back are functions of it: what they answer and
 -- which page map they leave, which is a trimmed one again. Assumes nothing.
-use Prim.Native.Nat.{ℕ, _*_, _≤_}
+use Prim.Native.Nat.{ℕ, _+_, _*_, _≤_}
 use mathlib.Core.Path.{_≡_, refl, sym, _∙_, ap}
 use mathlib.Core.Option.{Option, none, some, Option·map}
 use mathlib.Core.Bool.{true, false, cond}
@@ -13,14 +13,14 @@ use Rattle.model.specs.declared.Operation.{Operation}
 use Rattle.model.specs.declared.Operation.the-variants.{Allocate, Free, Reset}
 use Rattle.model.specs.declared.Refusal.the-variants.{BadGroup, BadSize, NoRoom, NoBlock, OtherGroup}
 use Rattle.model.specs.declared.Answer.{Answer}
-use Rattle.model.specs.declared.Answer.the-variants.{Granted, Refused, Done}
+use Rattle.model.specs.declared.Answer.the-variants.{Granted, Denied, Refused, Done}
 use Rattle.model.specs.Sizes.{pagesFor}
 use Rattle.model.specs.Arena.{direct}
 use Rattle.model.specs.State.{State}
 use Rattle.model.specs.PageMap.{occupancy, PageMap, pageMap, Block, whole, chunk, groupOf, blockAt}
-use Rattle.model.specs.Pages.{FreeRun, claim, carve, release}
-use Rattle.model.specs.Calls.{isRefused, groupOk, sizeOk}
-use Rattle.model.specs.Allocate.{foundIn, searched, sought, directFrom, allocate}
+use Rattle.model.specs.Pages.{FreeRun, Search, onward, followed, claim, carve, release}
+use Rattle.model.specs.Calls.{Outcome, isRefused, groupOk, sizeOk}
+use Rattle.model.specs.Allocate.{Source, foundIn, sought, directFrom, allocate}
 use Rattle.model.specs.Trim.{trimmed}
 use Rattle.model.specs.Free.{freeBlock, free}
 use Rattle.model.specs.Perform.{asked}
@@ -36,9 +36,10 @@ abbrev mapDirect : ℕ → ℕ → PageMap → Option FreeRun → PageMap
 mapDirect n g m none = m
 mapDirect n g m (some h) = carve h n (direct n g) m
 
-abbrev sayDirect : Option FreeRun → Answer
-sayDirect none = Refused NoRoom
-sayDirect (some h) = Granted (h .page * pageBytes)
+-- A second search finds what the first did: where that was nothing, every run is looked at twice.
+abbrev sayDirect : ℕ → Option FreeRun → Answer
+sayDirect k none = Denied NoRoom (k + k)
+sayDirect k (some h) = Granted (h .page * pageBytes) k
 
 abbrev mapFree : ℕ → ℕ → PageMap → Option Block → PageMap
 mapFree g o m none = m
@@ -51,12 +52,12 @@ sayFree g (some b) = cond (eqb (groupOf b) g) Done (Refused OtherGroup)
 
 -- The page map after such a call, and the answer. (A reset is none of these calls.)
 abbrev pub mapAfter : PageMap → ℕ → Operation → PageMap
-mapAfter m g (Allocate n) = cond (groupOk g) (cond (sizeOk n) (mapDirect (pagesFor n) g m (claim (pagesFor n) m)) m) m
+mapAfter m g (Allocate n) = cond (groupOk g) (cond (sizeOk n) (mapDirect (pagesFor n) g m (claim (pagesFor n) m .chosen)) m) m
 mapAfter m g (Free o) = cond (groupOk g) (mapFree g o m (blockAt m o)) m
 mapAfter m g Reset = m
 
 abbrev pub sayAt : PageMap → ℕ → Operation → Answer
-sayAt m g (Allocate n) = cond (groupOk g) (cond (sizeOk n) (sayDirect (claim (pagesFor n) m)) (Refused BadSize)) (Refused BadGroup)
+sayAt m g (Allocate n) = cond (groupOk g) (cond (sizeOk n) (let l = claim (pagesFor n) m in sayDirect (l .looked) (l .chosen)) (Denied BadSize 0)) (Denied BadGroup 0)
 sayAt m g (Free o) = cond (groupOk g) (sayFree g (blockAt m o)) (Refused BadGroup)
 sayAt m g Reset = Done
 
@@ -73,29 +74,37 @@ free-says s g o = bool (groupOk g) (λ t. rw t (go (blockAt (pageMap s) o))) (λ
     go none = refl
     go (some b) = bool (eqb (groupOf b) g) (λ t. rw t) (λ t. rw t)
 
--- There a second search finds what the first did: nothing is to be given back.
-neat-sought : (s : State) (n : ℕ) → Neat false (pageMap s) → sought n s ≡ searched n s
-neat-sought s n h = go (claim n (s .segments)) refl
+-- What the two searches come to where a second one finds what the first did.
+abbrev twice : State → Search FreeRun → Search Source
+twice s l = followed (Option·map (foundIn s) (l .chosen)) (l .looked) (record { chosen = none; looked = l .looked })
+
+-- There it does: nothing is to be given back.
+neat-sought : (s : State) (n : ℕ) → Neat false (pageMap s) → sought n s ≡ twice s (claim n (s .segments))
+neat-sought s n h = go (claim n (s .segments) .chosen) refl
   where
     again : claim n (trimmed s .segments) ≡ claim n (s .segments)
     again = sym (claim-retold occupancy n _) ∙ ap (claim n) (trimmed-map s ∙ neat-again (pageMap s) .0 h) ∙ claim-retold occupancy n _
 
-    go : (r : Option FreeRun) → claim n (s .segments) ≡ r → sought n s ≡ searched n s
-    go none e = sought-second n s e ∙ ap (Option·map (foundIn (trimmed s))) (again ∙ e) ∙ sym (ap (Option·map (foundIn s)) e)
-    go (some r) e = sought-first n s r e ∙ sym (ap (Option·map (foundIn s)) e)
+    go : (r : Option FreeRun) → claim n (s .segments) .chosen ≡ r → sought n s ≡ twice s (claim n (s .segments))
+    go none e = sought-second n s e ∙ (λ i. onward (claim n (s .segments) .looked) (record { chosen = Option·map (foundIn (trimmed s)) ((ap (λ l. l .chosen) again ∙ e) i); looked = again i .looked })) ∙ rw e
+    go (some r) e = sought-first n s r e ∙ rw e
 
-direct-map : (s : State) (n g : ℕ) (h : Option FreeRun) → pageMap ((directFrom n g s (Option·map (foundIn s) h)) .after) ≡ mapDirect n g (pageMap s) h
-direct-map s n g none = refl
-direct-map s n g (some h) = carve-retold occupancy h n _ (s .segments)
+-- The answer and the page map that whole pages then come to.
+abbrev directTwice : State → ℕ → ℕ → ℕ → Option FreeRun → Outcome State
+directTwice s n g k h = let l = twice s (record { chosen = h; looked = k }) in directFrom n g s (l .looked) (l .chosen)
 
-direct-says : (s : State) (n g : ℕ) (h : Option FreeRun) → (directFrom n g s (Option·map (foundIn s) h)) .answer ≡ sayDirect h
-direct-says s n g none = refl
-direct-says s n g (some h) = refl
+direct-map : (s : State) (n g k : ℕ) (h : Option FreeRun) → pageMap ((directTwice s n g k h) .after) ≡ mapDirect n g (pageMap s) h
+direct-map s n g k none = refl
+direct-map s n g k (some h) = carve-retold occupancy h n _ (s .segments)
+
+direct-says : (s : State) (n g k : ℕ) (h : Option FreeRun) → (directTwice s n g k h) .answer ≡ sayDirect k h
+direct-says s n g k none = refl
+direct-says s n g k (some h) = refl
 
 allocate-both : (s : State) (g n : ℕ) → Neat false (pageMap s) → 8192 ≤ n → (pageMap ((allocate g n s) .after) ≡ mapAfter (pageMap s) g (Allocate n)) × ((allocate g n s) .answer ≡ sayAt (pageMap s) g (Allocate n))
 allocate-both s g n k h = rw (le-ltb n 8192 h) (bool (groupOk g)
     (λ t. rw t (bool (sizeOk n)
-    (λ u. rw (u, neat-sought s (pagesFor n) k, claim-retold occupancy (pagesFor n) (s .segments)) (direct-map s _ g (claim (pagesFor n) (s .segments)), direct-says s _ g (claim (pagesFor n) (s .segments))))
+    (λ u. rw (u, neat-sought s (pagesFor n) k, claim-retold occupancy (pagesFor n) (s .segments)) (let l = claim (pagesFor n) (s .segments) in (direct-map s _ g (l .looked) (l .chosen), direct-says s _ g (l .looked) (l .chosen))))
     (λ u. rw u (refl, refl))))
     (λ t. rw t (refl, refl)))
 
@@ -133,7 +142,7 @@ call-neat s g q h a = rw (call-map s g q h a) (go q a)
     m : PageMap
     m = pageMap s
 
-    direct-neat : (n : ℕ) → 8192 ≤ n → (r : Option FreeRun) → claim (pagesFor n) m ≡ r → Neat false (mapDirect (pagesFor n) g m r)
+    direct-neat : (n : ℕ) → 8192 ≤ n → (r : Option FreeRun) → claim (pagesFor n) m .chosen ≡ r → Neat false (mapDirect (pagesFor n) g m r)
     direct-neat n k none e = h
     direct-neat n k (some r) e = carve-neat (r .size) _ g (omega arith) false _ m (claim-found _ m r (omega arith) e .0) h
 
@@ -143,6 +152,6 @@ call-neat s g q h a = rw (call-map s g q h a) (go q a)
     free-neat o (some (chunk c i j)) = h
 
     go : (q : Operation) → AllowedOn s g q → Neat false (mapAfter m g q)
-    go (Allocate n) k = either (Neat false) (groupOk g) _ _ (λ t. either (Neat false) (sizeOk n) _ _ (λ u. direct-neat n k (claim (pagesFor n) m) refl) (λ u. h)) (λ t. h)
+    go (Allocate n) k = either (Neat false) (groupOk g) _ _ (λ t. either (Neat false) (sizeOk n) _ _ (λ u. direct-neat n k (claim (pagesFor n) m .chosen) refl) (λ u. h)) (λ t. h)
     go (Free o) k = either (Neat false) (groupOk g) _ _ (λ t. free-neat o (blockAt m o)) (λ t. h)
     go Reset k = absurd k

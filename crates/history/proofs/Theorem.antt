@@ -19,7 +19,7 @@ use Rattle.model.specs.Arena.{total}
 use Rattle.model.specs.State.{State, freshState}
 use Rattle.model.specs.PageMap.{pageMap, blockAt}
 use Rattle.model.specs.Valid.{Valid}
-use Rattle.model.specs.Calls.{Action, group, trim, Command, init, act, reading, isRefused, grantOf}
+use Rattle.model.specs.Calls.{Action, group, trim, Command, init, act, isRefused, DeniedBy, GrantedAt}
 use Rattle.model.specs.Trim.{trimmed}
 use Rattle.model.specs.Perform.{asked, serve, Metadata, wordsFor, holding, perform}
 use Rattle.model.proofs.NoRoom.{no-room, granted-else}
@@ -93,8 +93,8 @@ module _ (B : Type 0) (view : B → Metadata) (next : B → Command → B) (says
       let x = no-row s v g n a t u in
       let said = on-says k b s _ e in
       record {
-        refused = λ w. ap reading said ∙ x .1 w;
-        granted = λ r. let y = granted-else s g n t u (λ h. x .0 (no-room s g n .1 h) r) in (y .0, (ap grantOf said ∙ y .1 .0, ap reading said ∙ y .1 .1));
+        refused = λ w. subst (DeniedBy 6) (sym said) (x .1 w);
+        granted = λ r. let y = granted-else s g n t u (λ h. x .0 (no-room s g n .1 h) r) in (y .0, subst (GrantedAt (y .0)) (sym said) (y .1));
       }
   exact-call k b s g (Free o) e v a = tt
   exact-call k b s g Reset e v a = tt

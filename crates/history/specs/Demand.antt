@@ -16,7 +16,7 @@ use Rattle.model.specs.declared.Answer.{Answer}
 use Rattle.model.specs.Sizes.{pagesFor}
 use Rattle.model.specs.State.{State}
 use Rattle.model.specs.PageMap.{PageMap, pageMap, chunk, blockAt}
-use Rattle.model.specs.Calls.{group, trim, Command, init, act, isRefused, RefusedBy, GrantedAt, groupOk, sizeOk}
+use Rattle.model.specs.Calls.{group, trim, Command, init, act, isRefused, DeniedBy, GrantedAt, groupOk, sizeOk}
 use Rattle.model.specs.Perform.{Metadata}
 use Rattle.history.specs.Ledger.{Held, begins, effect, applied, Agrees}
 use Rattle.history.specs.Rows.{Row}
@@ -77,7 +77,7 @@ module _ (B : Type 0) (view : B → Metadata) (next : B → Command → B) (says
 
   -- A request of legal group and size is refused, by 6, exactly when no row of as many pages as it needs is clear.
   pub record Exactly (b : B) (g n : ℕ) (m : PageMap) : Type 0 where
-    pub refused : (Row (pagesFor n) m → ⊥) → RefusedBy 6 (says b (asks g (Allocate n)))
+    pub refused : (Row (pagesFor n) m → ⊥) → DeniedBy 6 (says b (asks g (Allocate n)))
     pub granted : Row (pagesFor n) m → (o : ℕ) × GrantedAt o (says b (asks g (Allocate n)))
 
   abbrev pub ExactCall : B → PageMap → ℕ → Operation → Type 0

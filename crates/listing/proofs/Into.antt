@@ -40,6 +40,6 @@ module _ {k m : List ℕ} {t : List ℕ} {len : ℕ} (l : List ℕ) (a : Wrote k
 pub list-answer : (n : ℕ) (s : State) → listAnswer n (listingText (pageMap s)) ≡ (listInto n s) .answer
 list-answer n s = go (leb (length (listingText (pageMap s))) n)
   where
-    go : (t : Bool) → cond t (Counted (length (listingText (pageMap s)))) (Refused ShortBuffer) ≡ (provided t ShortBuffer s (answers s (Counted (length (listingText (pageMap s)))))) .answer
+    go : (t : Bool) → cond t (Counted (length (listingText (pageMap s)))) (Refused ShortBuffer) ≡ (provided t (Refused ShortBuffer) s (answers s (Counted (length (listingText (pageMap s)))))) .answer
     go true = refl
     go false = refl

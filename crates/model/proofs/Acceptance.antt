@@ -1,17 +1,18 @@
 -- Document 01's worked examples, computed: the table of "Both sides of each edge" that is marked to be proved, the whole session
--- with its two listings, the nine-request case and the thirteen-request case. Modules are checked by their names, and this is the
--- first of them: a wrong rule is refused for an answer of document 01 and not for a law about it. Assumes nothing.
+-- with its two listings, the nine-request case and the thirteen-request case; and cases of document 02's rules. Modules are checked by
+-- their names, and this is the first of them: a wrong rule is refused for an answer of the papers and not for a law about it. Assumes
+-- nothing.
 use Prim.Native.Nat.{ℕ, zero, suc, _+_}
 use mathlib.Core.Path.{_≡_, refl}
 use mathlib.Core.List.{List, [], _∷_, _++_, map}
-use mathlib.Core.Option.{Option, none, some, orElse}
+use mathlib.Core.Option.{Option, none, some}
 use mathlib.Core.Bool.{cond}
 use lib.Dec.{ltb}
 use Rattle.model.specs.Numbers.{largeSize}
 use Rattle.model.specs.declared.Operation.the-variants.{Allocate, Free, Reset}
-use Rattle.model.specs.declared.Refusal.the-variants.{NoRoom, OtherGroup}
+use Rattle.model.specs.declared.Refusal.the-variants.{NoState, BadGroup, BadSize, NoRoom, OtherGroup}
 use Rattle.model.specs.declared.Answer.{Answer}
-use Rattle.model.specs.declared.Answer.the-variants.{Granted, Refused, Done, Counted, Block}
+use Rattle.model.specs.declared.Answer.the-variants.{Granted, Denied, Refused, Done, Counted, Block}
 use Rattle.model.specs.Sizes.{step, rounded, classOf, room, chunksOf, chunks, pagesFor}
 use Rattle.model.specs.State.{State, listOf}
 use Rattle.model.specs.PageMap.{pageMap}
@@ -105,17 +106,17 @@ pub afternoon : List Command
 afternoon = x 1 ∷ q 4 24576 ∷ t ∷ q 4 24576 ∷ []
 
 pub session-answers : replies blank (morning ++ (b 104 ∷ afternoon)) ≡
-    Done ∷ Granted 0 ∷ Granted 104 ∷ Granted 32768 ∷ Granted 45056 ∷ Refused OtherGroup ∷ Done ∷ Granted 208 ∷ Block 2 104
-    ∷ Counted 1 ∷ Granted 45056 ∷ Counted 0 ∷ Granted 69632 ∷ []
-unfolding replies blank morning afternoon step rounded classOf room chunks claim orElse sought remove keep
+    Done ∷ Granted 0 1 ∷ Granted 104 0 ∷ Granted 32768 1 ∷ Granted 45056 1 ∷ Refused OtherGroup ∷ Done ∷ Granted 208 0 ∷ Block 2 104
+    ∷ Counted 1 ∷ Granted 45056 2 ∷ Counted 0 ∷ Granted 69632 1 ∷ []
+unfolding replies blank morning afternoon step rounded classOf room chunks claim sought remove keep
 session-answers = refl
 
 pub first-listing : text ((leaves blank morning) .state) ≡ ascii "runs 1\n19 5\ndirect 1\n8 3 3\nzones 2\n0 12 2\n11 63 1\n"
-unfolding leaves blank morning text step rounded classOf room chunks claim orElse sought remove keep listingText section ascii line lines decimal digits
+unfolding leaves blank morning text step rounded classOf room chunks claim sought remove keep listingText section ascii line lines decimal digits
 first-listing = refl
 
 pub second-listing : text ((leaves blank (morning ++ afternoon)) .state) ≡ ascii "runs 1\n23 1\ndirect 3\n8 3 3\n11 6 4\n17 6 4\nzones 1\n0 12 2\n"
-unfolding leaves blank morning afternoon text step rounded classOf room chunks claim orElse sought remove keep listingText section ascii line lines decimal digits
+unfolding leaves blank morning afternoon text step rounded classOf room chunks claim sought remove keep listingText section ascii line lines decimal digits
 second-listing = refl
 
 -- The nine-request case -----------------------------------------------------------------------------------------------------
@@ -139,12 +140,12 @@ nine = s 24 ∷ (requests 9 ++ returns 9 0)
 
 -- All nine returned leave two zones on the empty list and one on its class's list, and no free page; ..
 pub nine-lists : (listsOf ((leaves blank nine) .state) ≡ (16 ∷ [], 8 ∷ 0 ∷ [])) × (text ((leaves blank nine) .state) ≡ ascii "runs 0\ndirect 0\nzones 3\n0 63 0\n8 63 0\n16 63 0\n")
-unfolding leaves blank nine requests returns listsOf text step rounded classOf room chunks claim orElse sought remove keep listingText section ascii line lines decimal digits
+unfolding leaves blank nine requests returns listsOf text step rounded classOf room chunks claim sought remove keep listingText section ascii line lines decimal digits
 nine-lists = (refl, refl)
 
 -- .. 32,768 bytes are then granted, with all three zones given back: trim answers 0.
-pub nine-answers : replies (leaves blank nine) (q 1 32768 ∷ t ∷ q 1 32768 ∷ []) ≡ Granted 0 ∷ Counted 0 ∷ Granted 32768 ∷ []
-unfolding leaves replies blank nine requests returns step rounded classOf room chunks claim orElse sought remove keep
+pub nine-answers : replies (leaves blank nine) (q 1 32768 ∷ t ∷ q 1 32768 ∷ []) ≡ Granted 0 1 ∷ Counted 0 ∷ Granted 32768 1 ∷ []
+unfolding leaves replies blank nine requests returns step rounded classOf room chunks claim sought remove keep
 nine-answers = refl
 
 -- 32 pages, thirteen such requests, the first twelve returned in order: the third zone is given back at once.
@@ -152,14 +153,14 @@ pub thirteen : List Command
 thirteen = s 32 ∷ (requests 13 ++ returns 12 0)
 
 pub thirteen-listing : text ((leaves (record { words = wordsFor 32; state = none }) thirteen) .state) ≡ ascii "runs 1\n16 8\ndirect 0\nzones 3\n0 63 0\n8 63 0\n24 63 1\n"
-unfolding leaves thirteen requests returns text step rounded classOf room chunks claim orElse sought remove keep listingText section ascii line lines decimal digits
+unfolding leaves thirteen requests returns text step rounded classOf room chunks claim sought remove keep listingText section ascii line lines decimal digits
 thirteen-listing = refl
 
 -- The rules that these cases do not show --------------------------------------------------------------------------------------
 
 -- The second search. A zone without a live chunk stays as long as a run suffices.
-pub one-search : replies blank (s 24 ∷ q 1 100 ∷ r 1 0 ∷ q 2 65536 ∷ t ∷ []) ≡ Done ∷ Granted 0 ∷ Done ∷ Granted 32768 ∷ Counted 1 ∷ []
-unfolding replies blank step rounded classOf room chunks claim orElse sought remove keep
+pub one-search : replies blank (s 24 ∷ q 1 100 ∷ r 1 0 ∷ q 2 65536 ∷ t ∷ []) ≡ Done ∷ Granted 0 1 ∷ Done ∷ Granted 32768 1 ∷ Counted 1 ∷ []
+unfolding replies blank step rounded classOf room chunks claim sought remove keep
 one-search = refl
 
 -- Three such zones, one on the list of each class, and no free page. A fourth class needs 8 pages: all three are given back. With a
@@ -167,19 +168,45 @@ one-search = refl
 pub three : List Command
 three = s 24 ∷ q 1 8191 ∷ q 2 100 ∷ q 3 200 ∷ r 1 0 ∷ r 3 65536 ∷ []
 
-pub second-search : (replies blank (three ++ (r 2 32768 ∷ q 4 300 ∷ t ∷ [])) ≡ Done ∷ Granted 0 ∷ Granted 32768 ∷ Granted 65536 ∷ Done ∷ Done ∷ Done ∷ Granted 0 ∷ Counted 0 ∷ [])
+pub second-search : (replies blank (three ++ (r 2 32768 ∷ q 4 300 ∷ t ∷ [])) ≡ Done ∷ Granted 0 1 ∷ Granted 32768 1 ∷ Granted 65536 1 ∷ Done ∷ Done ∷ Done ∷ Granted 0 1 ∷ Counted 0 ∷ [])
     × (text ((leaves blank (three ++ (r 2 32768 ∷ q 4 300 ∷ []))) .state) ≡ ascii "runs 1\n8 16\ndirect 0\nzones 1\n0 25 1\n")
-    × (replies (leaves blank three) (q 4 36864 ∷ t ∷ []) ≡ Refused NoRoom ∷ Counted 2 ∷ [])
-unfolding leaves replies blank three text step rounded classOf room chunks claim orElse sought remove keep listingText section ascii line lines decimal digits
+    × (replies (leaves blank three) (q 4 36864 ∷ t ∷ []) ≡ Denied NoRoom 2 ∷ Counted 2 ∷ [])
+unfolding leaves replies blank three text step rounded classOf room chunks claim sought remove keep listingText section ascii line lines decimal digits
 second-search = (refl, refl, refl)
 
 -- Two runs are long enough: the first is taken. Pages that come back join with the runs on both sides.
-pub first-run-taken : (replies blank (s 24 ∷ q 1 8192 ∷ q 2 8192 ∷ q 3 8192 ∷ r 1 0 ∷ q 4 8192 ∷ []) ≡ Done ∷ Granted 0 ∷ Granted 8192 ∷ Granted 16384 ∷ Done ∷ Granted 0 ∷ [])
+pub first-run-taken : (replies blank (s 24 ∷ q 1 8192 ∷ q 2 8192 ∷ q 3 8192 ∷ r 1 0 ∷ q 4 8192 ∷ []) ≡ Done ∷ Granted 0 1 ∷ Granted 8192 1 ∷ Granted 16384 1 ∷ Done ∷ Granted 0 1 ∷ [])
     × (text ((leaves blank (s 24 ∷ q 1 8192 ∷ q 2 8192 ∷ q 3 8192 ∷ q 4 8192 ∷ r 1 0 ∷ r 3 16384 ∷ r 2 8192 ∷ [])) .state) ≡ ascii "runs 2\n0 6\n8 16\ndirect 1\n6 2 4\nzones 0\n")
-unfolding leaves replies blank text step rounded classOf room chunks claim orElse sought remove keep listingText section ascii line lines decimal digits
+unfolding leaves replies blank text step rounded classOf room chunks claim sought remove keep listingText section ascii line lines decimal digits
 first-run-taken = (refl, refl)
 
 -- A zone from the empty list is set up anew: its chunks are handed out from chunk 0 on.
-pub set-up-anew : replies (leaves blank nine) (q 2 100 ∷ q 2 100 ∷ r 2 32768 ∷ q 2 100 ∷ x 2 ∷ []) ≡ Granted 32768 ∷ Granted 32872 ∷ Done ∷ Granted 32976 ∷ Counted 2 ∷ []
-unfolding leaves replies blank nine requests returns step rounded classOf room chunks claim orElse sought remove keep
+pub set-up-anew : replies (leaves blank nine) (q 2 100 ∷ q 2 100 ∷ r 2 32768 ∷ q 2 100 ∷ x 2 ∷ []) ≡ Granted 32768 0 ∷ Granted 32872 0 ∷ Done ∷ Granted 32976 0 ∷ Counted 2 ∷ []
+unfolding leaves replies blank nine requests returns step rounded classOf room chunks claim sought remove keep
 set-up-anew = refl
+
+-- How far it looked (document 02, b) --------------------------------------------------------------------------------------------
+
+-- Runs at pages 0 (2 pages), 4 (2) and 8 (16): 3 pages are found in the third. Then 24 pages are in none of them, nor after trim, where
+-- nothing is to be given back: both searches look at all three.
+pub blocks : List Command
+blocks = s 24 ∷ q 1 8192 ∷ q 2 8192 ∷ q 1 8192 ∷ q 2 8192 ∷ r 1 0 ∷ r 1 16384 ∷ []
+
+pub runs-counted : replies (leaves blank blocks) (q 3 8192 ∷ r 3 0 ∷ q 3 8193 ∷ q 3 98304 ∷ []) ≡ Granted 0 1 ∷ Done ∷ Granted 32768 3 ∷ Denied NoRoom 6 ∷ []
+unfolding leaves replies blank blocks step rounded classOf room chunks claim sought remove keep
+runs-counted = refl
+
+-- Runs at pages 0 (2 pages), 10 (2) and 14 (10), and between the first two a zone without a live chunk. After trim there are two, of 12
+-- pages and of 10: 13 pages are refused after three runs and two, 11 pages are found after three and one.
+pub between : List Command
+between = s 24 ∷ q 1 8192 ∷ q 1 100 ∷ q 1 8192 ∷ q 2 8192 ∷ r 1 0 ∷ r 1 8192 ∷ r 1 40960 ∷ []
+
+pub both-counted : (replies (leaves blank between) (q 3 53248 ∷ q 3 45056 ∷ []) ≡ Denied NoRoom 5 ∷ Granted 0 4 ∷ [])
+    × (text ((leaves blank between) .state) ≡ ascii "runs 3\n0 2\n10 2\n14 10\ndirect 1\n12 2 2\nzones 1\n2 12 0\n")
+unfolding leaves replies blank between text step rounded classOf room chunks claim sought remove keep listingText section ascii line lines decimal digits
+both-counted = (refl, refl)
+
+-- Refused before any search.
+pub none-counted : replies blank (q 1 100 ∷ r 1 0 ∷ s 24 ∷ q 13 100 ∷ r 13 0 ∷ q 1 0 ∷ []) ≡ Denied NoState 0 ∷ Refused NoState ∷ Done ∷ Denied BadGroup 0 ∷ Refused BadGroup ∷ Denied BadSize 0 ∷ []
+unfolding replies blank step rounded classOf room chunks claim sought remove keep
+none-counted = refl

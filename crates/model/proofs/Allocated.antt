@@ -14,7 +14,7 @@ use Rattle.lemmas.proofs.Cases.{bool, and-left, and-right}
 use Rattle.model.specs.Numbers.{mostGroup, classCount, pageBytes, zonePages}
 use Rattle.model.specs.declared.Refusal.{Refusal}
 use Rattle.model.specs.declared.Refusal.the-variants.{BadGroup, BadSize, NoRoom}
-use Rattle.model.specs.declared.Answer.the-variants.{Granted, Refused}
+use Rattle.model.specs.declared.Answer.the-variants.{Granted, Denied}
 use Rattle.model.specs.Sizes.{room, classOf, chunks, pagesFor, roomFor}
 use Rattle.model.specs.Arena.{Segment, direct, zone, retold}
 use Rattle.model.specs.Zone.{Zone, newZone, nextChunk, granted}
@@ -36,8 +36,8 @@ use Rattle.model.proofs.Released.{put-fresh, carve-fresh, chunk-fresh}
 
 -- A block of the group and room at the offset granted, or a refusal that leaves the state.
 pub data Allocated (s : State) (g r : ℕ) (R : Outcome State) : Type 0 where
-  gives : (o : ℕ) (b : Block) → R .answer ≡ Granted o → blockAt (pageMap s) o ≡ none → groupOf b ≡ g → roomOf b ≡ r → Only (pageMap s) (pageMap (R .after)) o (some b) → Allocated s g r R
-  denies : (k : Refusal) → R .answer ≡ Refused k → R .after ≡ s → Allocated s g r R
+  gives : (o n : ℕ) (b : Block) → R .answer ≡ Granted o n → blockAt (pageMap s) o ≡ none → groupOf b ≡ g → roomOf b ≡ r → Only (pageMap s) (pageMap (R .after)) o (some b) → Allocated s g r R
+  denies : (k : Refusal) (n : ℕ) → R .answer ≡ Denied k n → R .after ≡ s → Allocated s g r R
 
 -- A group that may call.
 pub group-least : (g : ℕ) → groupOk g ≡ true → 0 < g
@@ -76,41 +76,41 @@ shown-zone : (c : ℕ) (z : Zone) → z .class ≡ c → occupancy z ≡ record 
 shown-zone c z e = cc
 
 -- A block made from the state u, which has the live blocks and the pages of s.
-made-from : (s u : State) (g r o : ℕ) (b : Block) (R : Outcome State) → Still (pageMap s) (pageMap u) → R .answer ≡ Granted o → blockAt (pageMap u) o ≡ none → groupOf b ≡ g → roomOf b ≡ r → Only (pageMap u) (pageMap (R .after)) o (some b) → Allocated s g r R
-made-from s u g r o b R k ans fresh grp rm only =
-    gives o b ans (sym (k .0 o) ∙ fresh) grp rm (only .0, λ q ne. only .1 q ne ∙ k .0 q, only .2 ∙ k .1)
+made-from : (s u : State) (g r o n : ℕ) (b : Block) (R : Outcome State) → Still (pageMap s) (pageMap u) → R .answer ≡ Granted o n → blockAt (pageMap u) o ≡ none → groupOf b ≡ g → roomOf b ≡ r → Only (pageMap u) (pageMap (R .after)) o (some b) → Allocated s g r R
+made-from s u g r o n b R k ans fresh grp rm only =
+    gives o n b ans (sym (k .0 o) ∙ fresh) grp rm (only .0, λ q ne. only .1 q ne ∙ k .0 q, only .2 ∙ k .1)
 
 module _ (s : State) where
   -- Pages are taken from the state as it is, or from the trimmed one.
-  source-still : (n : ℕ) (f : Source) → sought n s ≡ some f → Still (pageMap s) (pageMap (f .state))
+  source-still : (n : ℕ) (f : Source) → sought n s .chosen ≡ some f → Still (pageMap s) (pageMap (f .state))
   source-still n f e = sought-from n s f e .either (λ u. Still (pageMap s) (pageMap u)) (λ q. refl, refl) (trimmed-still s)
 
-  source-claimed : (n : ℕ) (f : Source) → sought n s ≡ some f → claim n (pageMap (f .state)) ≡ some (f .free)
-  source-claimed n f e = claim-retold occupancy n _ ∙ sought-from n s f e .claimed
+  source-claimed : (n : ℕ) (f : Source) → sought n s .chosen ≡ some f → claim n (pageMap (f .state)) .chosen ≡ some (f .free)
+  source-claimed n f e = ap (λ l. l .chosen) (claim-retold occupancy n _) ∙ sought-from n s f e .claimed
 
-  direct-law : (n g : ℕ) → 0 < n → (h : Option Source) → sought n s ≡ h → Allocated s g (n * pageBytes) (directFrom n g s h)
-  direct-law n g p none e = denies NoRoom refl refl
-  direct-law n g p (some f) e =
+  direct-law : (n g k : ℕ) → 0 < n → (h : Option Source) → sought n s .chosen ≡ h → Allocated s g (n * pageBytes) (directFrom n g s k h)
+  direct-law n g k p none e = denies NoRoom k refl refl
+  direct-law n g k p (some f) e =
       let m = pageMap (f .state) in
       let found = source-claimed n f e in
-      made-from s (f .state) g _ _ (whole n g) _ (source-still n f e) refl (carve-fresh m (f .free) n p found) refl refl
+      made-from s (f .state) g _ _ k (whole n g) _ (source-still n f e) refl (carve-fresh m (f .free) n p found) refl refl
       (rw (carve-retold occupancy (f .free) n _ _) (carve-only m (f .free) n _ p found refl (direct-alone n g)))
 
   module _ (c g : ℕ) (class : c < classCount) (least : 0 < g) where
-    zone-law : (h : Option Source) → sought zonePages s ≡ h → Allocated s g (room c) (zoneFrom c g s h)
-    zone-law none e = denies NoRoom refl refl
-    zone-law (some f) e =
+    zone-law : (k : ℕ) (h : Option Source) → sought zonePages s .chosen ≡ h → Allocated s g (room c) (zoneFrom c g s k h)
+    zone-law k none e = denies NoRoom k refl refl
+    zone-law k (some f) e =
         let m = pageMap (f .state) in
         let found = source-claimed zonePages f e in
-        made-from s (f .state) g _ _ (chunk c 0 g) _ (source-still zonePages f e) refl (carve-fresh m (f .free) zonePages (omega arith) found) refl refl
+        made-from s (f .state) g _ _ k (chunk c 0 g) _ (source-still zonePages f e) refl (carve-fresh m (f .free) zonePages (omega arith) found) refl refl
         (rw (carve-retold occupancy (f .free) zonePages _ _, ← new-first c g class least) (carve-only m (f .free) zonePages _ (omega arith) found refl (new-alone c g)))
 
     spare-law : Valid s → (l : List ℕ) → s .spare ≡ l → Allocated s g (room c) (fromSpare c g s l)
-    spare-law v [] e = zone-law (sought zonePages s) refl
+    spare-law v [] e = zone-law _ (sought zonePages s .chosen) refl
     spare-law v (q ∷ qs) e =
         let f = v .spared q (rw e (List·Memᴰ·head refl)) in
         let there = shown-at (s .segments) q (f .0) (f .1) in
-        gives (q * pageBytes) (chunk c 0 g) refl (put-fresh (q * pageBytes) (pageMap s) _ there (λ d. idle-blockIn d (occupancy (f .0)) (f .2))) refl refl
+        gives (q * pageBytes) 0 (chunk c 0 g) refl (put-fresh (q * pageBytes) (pageMap s) _ there (λ d. idle-blockIn d (occupancy (f .0)) (f .2))) refl refl
         (rw (edit-retold occupancy (q * pageBytes) (λ _. zone (newZone c g) ∷ []) (λ _. zone (occupancy (newZone c g)) ∷ []) (λ _. refl) _, ← new-first c g class least)
         (put-only (q * pageBytes) (pageMap s) _ _ 0 there refl (omega arith) (λ d. idle-blockIn d (occupancy (f .0)) (f .2)) (new-alone c g)))
 
@@ -121,7 +121,7 @@ module _ (s : State) where
         let inside : i < chunks c = omega (arith, ap chunks k) in
         let there : Begins (p * pageBytes) (pageMap s) (zone (record { class = c; groups = padded (chunks c) (z .owners) })) = shown-at (s .segments) p z e ∙ ap (λ y. some (record { away = 0; segment = zone y })) (shown-zone c z k) in
         let new : chunkOf c i (getD (padded (chunks c) (z′ .owners)) i 0) ≡ some (chunk c i g) = ap (chunkOf c i) (padded-in (chunks c) _ i inside ∙ G .is-owned) ∙ live-chunk c i g least in
-        gives _ (chunk c i g) refl (chunk-fresh (p * pageBytes) (pageMap s) c i _ there (chunk-begins c i inside) (padded-in (chunks c) (z .owners) i inside ∙ G .was-free)) refl refl
+        gives _ 0 (chunk c i g) refl (chunk-fresh (p * pageBytes) (pageMap s) c i _ there (chunk-begins c i inside) (padded-in (chunks c) (z .owners) i inside ∙ G .was-free)) refl refl
         (rw (edit-retold occupancy (p * pageBytes) (λ _. zone z′ ∷ []) (λ _. zone (occupancy z′) ∷ []) (λ _. refl) _, ← new)
         (chunk-only (p * pageBytes) (λ _. zone (occupancy z′) ∷ []) (pageMap s) 0 c i _ _ there (ap (λ y. zone y ∷ []) (shown-zone c z′ (G .same-class ∙ k))) (chunk-begins c i inside) (padded-other (chunks c) (z .owners) _ i (G .others)) (p * pageBytes) (omega arith)))
 
@@ -137,6 +137,6 @@ module _ (s : State) where
       (λ t. rw t (bool (sizeOk n)
       (λ u. rw u (bool (ltb n 8192)
       (λ w. rw w (chunk-law (classOf n) g (classed n (size-least n u) (ltb-true n 8192 w) .below) (group-least g t) v (group-most g t) (listOf s (classOf n)) refl))
-      (λ w. rw w (direct-law _ g (omega (arith, ltb-false)) (sought (pagesFor n) s) refl))))
-      (λ u. rw u (denies BadSize refl refl))))
-      (λ t. rw t (denies BadGroup refl refl))
+      (λ w. rw w (direct-law _ g _ (omega (arith, ltb-false)) (sought (pagesFor n) s .chosen) refl))))
+      (λ u. rw u (denies BadSize 0 refl refl))))
+      (λ t. rw t (denies BadGroup 0 refl refl))

@@ -102,7 +102,7 @@ put-only o m x₀ x k e p pos bare alone =
     )
 
 -- Pages taken from a run.
-pub carve-only : (m : PageMap) (h : FreeRun) (n : ℕ) (x : Segment Occupancy) → 0 < n → claim n m ≡ some h → pages x ≡ n → ((d : ℕ) → (d ≡ 0 → ⊥) → blockIn d x ≡ none) → Only m (carve h n x m) (h .page * pageBytes) (blockIn 0 x)
+pub carve-only : (m : PageMap) (h : FreeRun) (n : ℕ) (x : Segment Occupancy) → 0 < n → claim n m .chosen ≡ some h → pages x ≡ n → ((d : ℕ) → (d ≡ 0 → ⊥) → blockIn d x ≡ none) → Only m (carve h n x m) (h .page * pageBytes) (blockIn 0 x)
 carve-only m h n x pos e p alone =
     let f = claim-found n m h pos e in
     put-only _ m _ x (h .size - n) (f .0) (omega arith) (omega arith) (λ d. refl) alone

@@ -1,19 +1,29 @@
--- The three laws of the search for pages: what it finds is a run that is long enough; where it finds none, none is; it does not
--- look inside zones. Nothing else is used of it. Over any kind of zone. Assumes nothing.
+-- The four laws of the search for pages: what it finds is a run that is long enough; where it finds none, none is; it looks at no more
+-- runs than half of the pages, rounded up; it does not look inside zones. Nothing else is used of it. Over any kind of zone. Assumes
+-- nothing.
 use Prim.Native.Nat.{ℕ, _+_, _*_, _≤_, _<_}
 use mathlib.Core.Path.{_≡_, refl, sym, _∙_, ap, subst}
 use mathlib.Core.Logic.{_↔_}
 use mathlib.Core.List.{List, [], _∷_, map}
 use mathlib.Core.Option.{Option, none, some}
-use mathlib.Core.Bool.{false, _||_}
+use mathlib.Core.Bool.{Bool, true, false, cond, _||_}
 use native.Mathlib.Omega.{arith}
 use lib.Dec.{leb}
 use borrow.Author.Tests.{leb-true, leb-false, lt-ltb, le-ltb}
-use Rattle.lemmas.proofs.Cases.{bool, true-false, some-inj, none-some}
-use Rattle.model.specs.Numbers.{pageBytes}
-use Rattle.model.specs.Arena.{Segment, run, direct, zone, pages, bytes, retold, locate, Each}
-use Rattle.model.specs.Pages.{FreeRun, firstFit, claim, hasRun}
+use Rattle.lemmas.proofs.Cases.{bool, either, true-false, some-inj, none-some}
+use Rattle.model.specs.Numbers.{pageBytes, zonePages}
+use Rattle.model.specs.Arena.{Segment, run, direct, zone, pages, bytes, total, retold, locate, Each}
+use Rattle.model.specs.Valid.{Apart}
+use Rattle.model.specs.Pages.{FreeRun, Search, onward, firstFit, claim, hasRun, mostLooked}
 use Rattle.model.proofs.Arena.{each-locate}
+
+-- Runs looked at before a search are added.
+module _ {A : Type 0} (l : Search A) where
+  pub onward-none : onward 0 l ≡ l
+  onward-none = λ i. record { chosen = l .chosen; looked = (let q : 0 + l .looked ≡ l .looked = omega arith in q) i }
+
+  pub onward-more : (j k : ℕ) → onward j (onward k l) ≡ onward (j + k) l
+  onward-more j k = λ i. record { chosen = l .chosen; looked = (let q : j + (k + l .looked) ≡ j + k + l .looked = omega arith in q) i }
 
 module _ {Z : Type 0} where
   -- What the search finds, p pages behind the start: a run that begins `skip` pages further on.
@@ -31,25 +41,25 @@ module _ {Z : Type 0} where
     enough = f .enough;
   }
 
-  firstFit-found : (p n : ℕ) (m : List (Segment Z)) (h : FreeRun) → 0 < n → firstFit p n m ≡ some h → Found p n m h
+  firstFit-found : (p n : ℕ) (m : List (Segment Z)) (h : FreeRun) → 0 < n → firstFit p n m .chosen ≡ some h → Found p n m h
   firstFit-found p n [] h pos e = none-some e
   firstFit-found p n (run k ∷ r) h pos e = bool (leb n k) (λ t. subst (Found p n (run k ∷ r)) (some-inj (rw t at e)) (record { skip = 0; page-is = omega arith; run-there = rw (lt-ltb 0 (k * pageBytes) (omega (arith, leb-true))); enough = leb-true n k t })) (λ t. found-later p n (run k) r h (firstFit-found (p + k) n r h pos (rw t at e)))
   firstFit-found p n (direct k g ∷ r) h pos e = found-later p n _ r h (firstFit-found (p + k) n r h pos e)
   firstFit-found p n (zone z ∷ r) h pos e = found-later p n (zone z) r h (firstFit-found _ n r h pos e)
 
   -- Found: a run begins there and is long enough.
-  pub claim-found : (n : ℕ) (m : List (Segment Z)) (h : FreeRun) → 0 < n → claim n m ≡ some h → (locate (h .page * pageBytes) m ≡ some (record { away = 0; segment = run (h .size) })) × (n ≤ h .size)
+  pub claim-found : (n : ℕ) (m : List (Segment Z)) (h : FreeRun) → 0 < n → claim n m .chosen ≡ some h → (locate (h .page * pageBytes) m ≡ some (record { away = 0; segment = run (h .size) })) × (n ≤ h .size)
   unfolding claim
   claim-found n m h pos e = let f = firstFit-found 0 n m h pos e in (ap (λ k. locate (k * pageBytes) m) (let q : h .page ≡ f .skip = omega arith in q) ∙ f .run-there, f .enough)
 
-  firstFit-none : (p n : ℕ) (m : List (Segment Z)) → firstFit p n m ≡ none → hasRun n m ≡ false
+  firstFit-none : (p n : ℕ) (m : List (Segment Z)) → firstFit p n m .chosen ≡ none → hasRun n m ≡ false
   firstFit-none p n [] e = refl
   firstFit-none p n (run k ∷ r) e = bool (leb n k) (λ t. none-some (sym (rw t at e))) (λ t. rw t (firstFit-none (p + k) n r (rw t at e)))
   firstFit-none p n (direct k g ∷ r) e = firstFit-none (p + k) n r e
   firstFit-none p n (zone z ∷ r) e = firstFit-none _ n r e
 
   -- Not found: no run is long enough.
-  pub claim-none : (n : ℕ) (m : List (Segment Z)) → claim n m ≡ none → hasRun n m ≡ false
+  pub claim-none : (n : ℕ) (m : List (Segment Z)) → claim n m .chosen ≡ none → hasRun n m ≡ false
   unfolding claim
   claim-none n m e = firstFit-none 0 n m e
 
@@ -66,20 +76,38 @@ module _ {Z : Type 0} where
   all-short n (zone z ∷ r) e = (tt, all-short n r e)
 
   -- The search fails just if no run is long enough.
-  pub claim-has : (n : ℕ) (m : List (Segment Z)) → 0 < n → (claim n m ≡ none) ↔ (hasRun n m ≡ false)
-  claim-has n m pos = (claim-none n m, λ e. go e (claim n m) refl)
+  pub claim-has : (n : ℕ) (m : List (Segment Z)) → 0 < n → (claim n m .chosen ≡ none) ↔ (hasRun n m ≡ false)
+  claim-has n m pos = (claim-none n m, λ e. go e (claim n m .chosen) refl)
     where
-      go : hasRun n m ≡ false → (h : Option FreeRun) → claim n m ≡ h → h ≡ none
+      go : hasRun n m ≡ false → (h : Option FreeRun) → claim n m .chosen ≡ h → h ≡ none
       go e none c = refl
       go e (some h) c =
           let f = claim-found n m h pos c in
           let short : h .size < n = each-locate (Short n) m (h .page * pageBytes) (all-short n m e) (f .0) in
           absurd (omega (arith, f .1))
 
+  -- Segments that have pages, of which no two runs touch. (b: a run stands just before.)
+  abbrev pub Spread : Bool → List (Segment Z) → Type 0
+  Spread b m = Apart b m × Each (λ x. 0 < pages x) m
+
+  -- A run that stands before takes the half page that is rounded up.
+  looked-most : (p n : ℕ) (b : Bool) (m : List (Segment Z)) → Spread b m → firstFit p n m .looked * 2 + cond b 1 0 ≤ total m + 1
+  looked-most p n b [] h = either (λ k. 0 * 2 + k ≤ 0 + 1) b 1 0 (λ _. omega arith) (λ _. omega arith)
+  looked-most p n b (run k ∷ r) h = bool (leb n k)
+      (λ t. rw (t, h .0 .0) (omega (arith, h .1 .0)))
+      (λ t. rw (t, h .0 .0) (omega (arith, h .1 .0, looked-most (p + k) n true r (h .0 .2, h .1 .1))))
+  looked-most p n b (direct k g ∷ r) h = either (λ j. firstFit (p + k) n r .looked * 2 + j ≤ k + total r + 1) b 1 0 (λ _. omega (arith, h .1 .0, looked-most (p + k) n false r (h .0, h .1 .1))) (λ _. omega (arith, looked-most (p + k) n false r (h .0, h .1 .1)))
+  looked-most p n b (zone z ∷ r) h = either (λ j. firstFit (p + zonePages) n r .looked * 2 + j ≤ zonePages + total r + 1) b 1 0 (λ _. omega (arith, looked-most (p + zonePages) n false r (h .0, h .1 .1))) (λ _. omega (arith, looked-most (p + zonePages) n false r (h .0, h .1 .1)))
+
+  -- Runs do not touch: so no search looks at more of them than half of the pages, rounded up.
+  pub claim-bounded : (n : ℕ) (m : List (Segment Z)) → Spread false m → claim n m .looked ≤ mostLooked (total m)
+  unfolding claim
+  claim-bounded n m h = omega (arith, looked-most 0 n false m h)
+
 module _ {A B : Type 0} (f : A → B) where
   firstFit-retold : (p n : ℕ) (m : List (Segment A)) → firstFit p n (map (retold f) m) ≡ firstFit p n m
   firstFit-retold p n [] = refl
-  firstFit-retold p n (run k ∷ r) = bool (leb n k) (λ t. rw t) (λ t. rw t (firstFit-retold (p + k) n r))
+  firstFit-retold p n (run k ∷ r) = bool (leb n k) (λ t. rw t) (λ t. rw t (ap (onward 1) (firstFit-retold (p + k) n r)))
   firstFit-retold p n (direct k g ∷ r) = firstFit-retold (p + k) n r
   firstFit-retold p n (zone z ∷ r) = firstFit-retold _ n r
 

@@ -22,3 +22,5 @@ pub mod Disjoint
 pub mod Aligned
 pub mod Totals
 pub mod NoRoom
+pub mod Looked
+pub mod BoundMet

@@ -13,15 +13,15 @@ use Rattle.lemmas.proofs.Cases.{bool, clash, some-inj, none-some}
 use Rattle.model.specs.Numbers.{zonePages, largeSize}
 use Rattle.model.specs.declared.Refusal.the-variants.{NoRoom}
 use Rattle.model.specs.declared.Answer.{Answer}
-use Rattle.model.specs.declared.Answer.the-variants.{Granted, Refused}
+use Rattle.model.specs.declared.Answer.the-variants.{Granted, Denied}
 use Rattle.model.specs.Sizes.{classOf, pagesFor}
 use Rattle.model.specs.State.{State, listOf}
 use Rattle.model.specs.PageMap.{occupancy, pageMap}
 use Rattle.model.specs.Pages.{hasRun}
 use Rattle.model.specs.Trim.{trimmed}
-use Rattle.model.specs.Calls.{Outcome, RefusedBy, GrantedAt, groupOk, sizeOk}
+use Rattle.model.specs.Calls.{Outcome, DeniedBy, GrantedAt, groupOk, sizeOk}
 use Rattle.model.specs.Allocate.{Source, sought, directFrom, zoneFrom, chunkFrom, fromSpare, zoneNeeded, needed, supplied, allocate}
-use Rattle.model.proofs.Answers.{refusal-told, grant-told}
+use Rattle.model.proofs.Answers.{denial-told, grant-told}
 use Rattle.model.proofs.Claim.{has-retold}
 use Rattle.model.proofs.Sought.{sought-none}
 
@@ -39,34 +39,34 @@ Lacks s o = (k : ℕ) × (o ≡ some k) × (hasRun k (pageMap (trimmed s)) ≡ f
 
 -- The answer to a request of a legal group and size, which needs the pages that an option names.
 data Decided (s : State) (o : Option ℕ) (a : Answer) : Type 0 where
-  refused : a ≡ Refused NoRoom → Lacks s o → Decided s o a
-  served : (q : ℕ) → a ≡ Granted q → (Lacks s o → ⊥) → Decided s o a
+  refused : (n : ℕ) → a ≡ Denied NoRoom n → Lacks s o → Decided s o a
+  served : (q n : ℕ) → a ≡ Granted q n → (Lacks s o → ⊥) → Decided s o a
 
 module _ (s : State) where
   map-has : (k : ℕ) → hasRun k (pageMap (trimmed s)) ≡ hasRun k (trimmed s .segments)
   map-has k = has-retold occupancy k (trimmed s .segments)
 
   -- Both kinds of request that need pages go by what the two searches find.
-  pages-decided : (k : ℕ) → 0 < k → (R : Option Source → Outcome State) → (R none) .answer ≡ Refused NoRoom
-      → ((f : Source) → (q : ℕ) × ((R (some f)) .answer ≡ Granted q)) → Decided s (some k) ((R (sought k s)) .answer)
-  pages-decided k pos R missed found = go (sought k s) refl
+  pages-decided : (k : ℕ) → 0 < k → (R : Option Source → Outcome State) (n : ℕ) → (R none) .answer ≡ Denied NoRoom n
+      → ((f : Source) → (q : ℕ) × ((R (some f)) .answer ≡ Granted q n)) → Decided s (some k) ((R (sought k s .chosen)) .answer)
+  pages-decided k pos R n missed found = go (sought k s .chosen) refl
     where
-      go : (h : Option Source) → sought k s ≡ h → Decided s (some k) ((R h) .answer)
-      go none c = refused missed (k, refl, map-has k ∙ sought-none k s pos .0 c)
-      go (some f) c = served (found f .0) (found f .1) (λ l. none-some (sym (miss l) ∙ c))
+      go : (h : Option Source) → sought k s .chosen ≡ h → Decided s (some k) ((R h) .answer)
+      go none c = refused n missed (k, refl, map-has k ∙ sought-none k s pos .0 c)
+      go (some f) c = served (found f .0) n (found f .1) (λ l. none-some (sym (miss l) ∙ c))
         where
-          miss : Lacks s (some k) → sought k s ≡ none
+          miss : Lacks s (some k) → sought k s .chosen ≡ none
           miss l = sought-none k s pos .1 (sym (map-has k) ∙ ap (λ j. hasRun j (pageMap (trimmed s))) (some-inj (l .1)) ∙ l .2)
 
   chunk-decided : (c g : ℕ) (l q : List ℕ) → s .spare ≡ q → Decided s (zoneNeeded l q) ((chunkFrom c g s l) .answer)
-  chunk-decided c g [] [] e = subst (λ z. Decided s (some zonePages) ((fromSpare c g s z) .answer)) (sym e) (pages-decided zonePages (omega arith) (zoneFrom c g s) refl (λ f. (_, refl)))
-  chunk-decided c g [] (p ∷ ps) e = subst (λ z. Decided s none ((fromSpare c g s z) .answer)) (sym e) (served _ refl (λ k. none-some (k .1)))
-  chunk-decided c g (p ∷ ps) q e = served _ refl (λ k. none-some (k .1))
+  chunk-decided c g [] [] e = subst (λ z. Decided s (some zonePages) ((fromSpare c g s z) .answer)) (sym e) (pages-decided zonePages (omega arith) (zoneFrom c g s _) _ refl (λ f. (_, refl)))
+  chunk-decided c g [] (p ∷ ps) e = subst (λ z. Decided s none ((fromSpare c g s z) .answer)) (sym e) (served _ 0 refl (λ k. none-some (k .1)))
+  chunk-decided c g (p ∷ ps) q e = served _ 0 refl (λ k. none-some (k .1))
 
   decided : (g n : ℕ) → Decided s (needed n s) ((supplied g n s) .answer)
   decided g n = bool (ltb n largeSize)
       (λ t. rw t (chunk-decided (classOf n) g (listOf s (classOf n)) (s .spare) refl))
-      (λ t. rw t (pages-decided (pagesFor n) (omega (arith, ltb-false)) (directFrom (pagesFor n) g s) refl (λ f. (_, refl))))
+      (λ t. rw t (pages-decided (pagesFor n) (omega (arith, ltb-false)) (directFrom (pagesFor n) g s _) _ refl (λ f. (_, refl))))
 
   module _ (g n : ℕ) where
     -- A request of a legal group and size is as it is decided.
@@ -76,27 +76,27 @@ module _ (s : State) where
     lacks-short : groupOk g ≡ true → sizeOk n ≡ true → Lacks s (needed n s) → Short s g n
     lacks-short t u l = record { group = t; size = u; pages = l .0; needs = l .1; none-long = l .2 }
 
-    pub no-room : RefusedBy 6 ((allocate g n s) .answer) ↔ Short s g n
-    no-room = (λ e. there (refusal-told NoRoom ((allocate g n s) .answer) .0 e), λ h. refusal-told NoRoom ((allocate g n s) .answer) .1 (accepted (h .group) (h .size) ∙ back (decided g n) h))
+    pub no-room : DeniedBy 6 ((allocate g n s) .answer) ↔ Short s g n
+    no-room = (λ e. let d = denial-told NoRoom ((allocate g n s) .answer) .0 e in there (d .0) (d .1), λ h. let d = back (decided g n) h in denial-told NoRoom ((allocate g n s) .answer) .1 (d .0, accepted (h .group) (h .size) ∙ d .1))
       where
-        there : (allocate g n s) .answer ≡ Refused NoRoom → Short s g n
-        there e = bool (groupOk g)
+        there : (k : ℕ) → (allocate g n s) .answer ≡ Denied NoRoom k → Short s g n
+        there j e = bool (groupOk g)
             (λ t. bool (sizeOk n)
             (λ u. go t u (decided g n) (sym (accepted t u) ∙ e))
             (λ u. let k = rw (t, u) at e in clash (cc)))
             (λ t. let k = rw t at e in clash (cc))
           where
-            go : groupOk g ≡ true → sizeOk n ≡ true → Decided s (needed n s) ((supplied g n s) .answer) → (supplied g n s) .answer ≡ Refused NoRoom → Short s g n
-            go t u (refused a l) k = lacks-short t u l
-            go t u (served q a l) k = clash (cc)
+            go : groupOk g ≡ true → sizeOk n ≡ true → Decided s (needed n s) ((supplied g n s) .answer) → (supplied g n s) .answer ≡ Denied NoRoom j → Short s g n
+            go t u (refused i a l) k = lacks-short t u l
+            go t u (served q i a l) k = clash (cc)
 
-        back : Decided s (needed n s) ((supplied g n s) .answer) → Short s g n → (supplied g n s) .answer ≡ Refused NoRoom
-        back (refused a l) h = a
-        back (served q a l) h = absurd (l (h .pages, h .needs, h .none-long))
+        back : Decided s (needed n s) ((supplied g n s) .answer) → Short s g n → (k : ℕ) × ((supplied g n s) .answer ≡ Denied NoRoom k)
+        back (refused k a l) h = (k, a)
+        back (served q k a l) h = absurd (l (h .pages, h .needs, h .none-long))
 
     pub granted-else : groupOk g ≡ true → sizeOk n ≡ true → (Short s g n → ⊥) → (o : ℕ) × GrantedAt o ((allocate g n s) .answer)
     granted-else t u h = go (decided g n)
       where
         go : Decided s (needed n s) ((supplied g n s) .answer) → (o : ℕ) × GrantedAt o ((allocate g n s) .answer)
-        go (refused a l) = absurd (h (lacks-short t u l))
-        go (served q a l) = (q, grant-told q ((allocate g n s) .answer) .1 (accepted t u ∙ a))
+        go (refused k a l) = absurd (h (lacks-short t u l))
+        go (served q k a l) = (q, grant-told q ((allocate g n s) .answer) .1 (k, accepted t u ∙ a))

@@ -93,7 +93,7 @@ release-still o m d l e i =
 pub put-fresh : (o : ℕ) (m : PageMap) (x₀ : Segment Occupancy) → locate o m ≡ some (record { away = 0; segment = x₀ }) → ((d : ℕ) → blockIn d x₀ ≡ none) → blockAt m o ≡ none
 put-fresh o m x₀ e bare = cc (bare 0)
 
-pub carve-fresh : (m : PageMap) (h : FreeRun) (n : ℕ) → 0 < n → claim n m ≡ some h → blockAt m (h .page * pageBytes) ≡ none
+pub carve-fresh : (m : PageMap) (h : FreeRun) (n : ℕ) → 0 < n → claim n m .chosen ≡ some h → blockAt m (h .page * pageBytes) ≡ none
 carve-fresh m h n pos e = put-fresh _ m _ (claim-found n m h pos e .0) (λ d. refl)
 
 pub chunk-fresh : (o : ℕ) (m : PageMap) (c i : ℕ) (l : List ℕ) → locate o m ≡ some (record { away = 0; segment = zone (record { class = c; groups = l }) }) → i * room c < zoneBytes → getD l i 0 ≡ 0 → blockAt m (o + i * room c) ≡ none

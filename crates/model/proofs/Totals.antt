@@ -8,7 +8,7 @@ use lib.Dec.{leb, eqb}
 use lib.ListN.{length}
 use Rattle.model.specs.declared.Operation.{Operation}
 use Rattle.model.specs.declared.Operation.the-variants.{Allocate, Free, Reset}
-use Rattle.model.specs.declared.Refusal.{Refusal}
+use Rattle.model.specs.declared.Answer.{Answer}
 use Rattle.model.specs.Arena.{total}
 use Rattle.model.specs.State.{State}
 use Rattle.model.specs.PageMap.{occupancy, pageMap, idleZone, Block, groupOf, blockAt}
@@ -32,7 +32,7 @@ Same s t = total (t .segments) ≡ total (s .segments)
 map-same : (s t : State) → total (pageMap t) ≡ total (pageMap s) → Same s t
 map-same s t e = sym (total-retold occupancy (t .segments)) ∙ e ∙ total-retold occupancy (s .segments)
 
-guarded : (b : Bool) (k : Refusal) (s : State) (r : Outcome State) → Same s (r .after) → Same s ((provided b k s r) .after)
+guarded : (b : Bool) (k : Answer) (s : State) (r : Outcome State) → Same s (r .after) → Same s ((provided b k s r) .after)
 guarded true k s r h = h
 guarded false k s r h = refl
 
@@ -40,8 +40,8 @@ allocate-total : (s : State) → Valid s → (g n : ℕ) → Same s ((allocate g
 allocate-total s h g n = go (allocated s h g n)
   where
     go : {r : ℕ} → Allocated s g r (allocate g n s) → Same s ((allocate g n s) .after)
-    go (gives o b ans fresh grp rm only) = map-same s ((allocate g n s) .after) (only .2)
-    go (denies k ans st) = cc
+    go (gives o k b ans fresh grp rm only) = map-same s ((allocate g n s) .after) (only .2)
+    go (denies r k ans st) = cc
 
 free-total : (s : State) (g o : ℕ) → Same s ((free g o s) .after)
 free-total s g o = guarded (groupOk g) _ s _ (go (blockAt (pageMap s) o) refl)

@@ -7,7 +7,7 @@ use mathlib.Core.Bool.{Bool, true}
 use native.Mathlib.Omega.{arith}
 use lib.Dec.{ltb, leb}
 use lib.ListN.{List·getD-map}
-use borrow.Author.Tests.{leb-true, le-leb, lt-leb}
+use borrow.Author.Tests.{leb-true, le-leb}
 use Rattle.lemmas.specs.Keep.{keep}
 use Rattle.lemmas.proofs.Cases.{bool, true-false, none-some}
 use Rattle.model.specs.Arena.{Segment, run, direct, zone, bytes, total, locate}
@@ -42,12 +42,8 @@ trimmed-empty s c e = trimmed-list s c ∙ ap (busy (s .segments)) e
 -- Runs -----------------------------------------------------------------------------------------------------------------------------
 
 module _ {Z : Type 0} where
-  -- A run that is too short, before segments.
-  pub short-before : (n b : ℕ) (r : List (Segment Z)) → b < n → hasRun n (withRun b r) ≡ hasRun n r
-  short-before n zero r h = refl
-  short-before n (suc b) r h = rw (lt-leb n (suc b) h)
-
-  pub long-before : (n b : ℕ) (r : List (Segment Z)) → 0 < n → n ≤ b → hasRun n (withRun b r) ≡ true
+  -- A run, or none, before segments.
+  long-before : (n b : ℕ) (r : List (Segment Z)) → 0 < n → n ≤ b → hasRun n (withRun b r) ≡ true
   long-before n zero r p h = absurd (omega arith)
   long-before n (suc b) r p h = rw (le-leb n (suc b) h)
 
@@ -57,7 +53,7 @@ module _ {Z : Type 0} where
 
 module _ {Z : Type 0} (gone : Z → Bool) where
   -- Free pages that are enough stay enough.
-  pub joined-enough : (n b : ℕ) (m : List (Segment Z)) → 0 < n → n ≤ b → hasRun n (joined gone b m) ≡ true
+  joined-enough : (n b : ℕ) (m : List (Segment Z)) → 0 < n → n ≤ b → hasRun n (joined gone b m) ≡ true
   joined-enough n b [] p h = long-before n b [] p h
   joined-enough n b (run k ∷ r) p h = joined-enough n (b + k) r p (omega arith)
   joined-enough n b (direct k g ∷ r) p h = long-before n b _ p h

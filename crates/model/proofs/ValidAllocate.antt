@@ -41,7 +41,7 @@ behind q p ps ne i = go (List·Memᴰ·cases-cons i)
 
 -- Pages carved from the free run h for the segment x -----------------------------------------------------------------
 
-module _ (m : List (Segment Zone)) (n : ℕ) (x : Segment Zone) (h : FreeRun) (pos : 0 < n) (pages-is : pages x ≡ n) (e : claim n m ≡ some h) where
+module _ (m : List (Segment Zone)) (n : ℕ) (x : Segment Zone) (h : FreeRun) (pos : 0 < n) (pages-is : pages x ≡ n) (e : claim n m .chosen ≡ some h) where
   abbrev carved : List (Segment Zone)
   carved = carve h n x m
 
@@ -78,8 +78,8 @@ module _ (m : List (Segment Zone)) (n : ℕ) (x : Segment Zone) (h : FreeRun) (p
 
 module _ (s : State) (h : Valid s) (g : ℕ) (least : 0 < g) (most : g ≤ mostGroup) where
   -- Whole pages from a run of the state.
-  direct-in : (n : ℕ) → 0 < n → (o : FreeRun) → claim n (s .segments) ≡ some o → Valid ((directFrom n g s (some (foundIn s o))) .after)
-  direct-in n pos o e = same-zones s _ h (record {
+  direct-in : (n k : ℕ) → 0 < n → (o : FreeRun) → claim n (s .segments) .chosen ≡ some o → Valid ((directFrom n g s k (some (foundIn s o))) .after)
+  direct-in n k pos o e = same-zones s _ h (record {
     size = carved-size _ n _ o pos refl e;
     apart = carved-apart _ n _ o pos refl e (λ c r k. k) (h .apart);
     sound = carved-sound _ n _ o pos refl e (pos, least, most) (h .sound);
@@ -93,8 +93,8 @@ module _ (s : State) (h : Valid s) (g : ℕ) (least : 0 < g) (most : g ≤ mostG
 
   module _ (c : ℕ) (class : c < classCount) where
     -- A new zone at page p, where no zone was or an idle one, is the only one on its class's list.
-    zone-in : listOf s c ≡ [] → (o : FreeRun) → claim zonePages (s .segments) ≡ some o → Valid ((zoneFrom c g s (some (foundIn s o))) .after)
-    zone-in el o e =
+    zone-in : listOf s c ≡ [] → (k : ℕ) (o : FreeRun) → claim zonePages (s .segments) .chosen ≡ some o → Valid ((zoneFrom c g s k (some (foundIn s o))) .after)
+    zone-in el k o e =
         let p = o .page in
         let new = zone (newZone c g) in
         let m = carve o zonePages new (s .segments) in
@@ -127,22 +127,22 @@ module _ (s : State) (h : Valid s) (g : ℕ) (least : 0 < g) (most : g ≤ mostG
 
 -- Pages are found in the state as it is or in the trimmed one, and both are valid.
 module _ (s : State) (h : Valid s) (g : ℕ) (least : 0 < g) (most : g ≤ mostGroup) where
-  direct-valid : (n : ℕ) → 0 < n → (o : Option Source) → sought n s ≡ o → Valid ((directFrom n g s o) .after)
-  direct-valid n pos none e = h
-  direct-valid n pos (some f) e =
-      let k = sought-from n s f e in
-      direct-in (f .state) (k .either (λ u. Valid u) h (trimmed-valid s h)) g least most n pos (f .free) (k .claimed)
+  direct-valid : (n k : ℕ) → 0 < n → (o : Option Source) → sought n s .chosen ≡ o → Valid ((directFrom n g s k o) .after)
+  direct-valid n k pos none e = h
+  direct-valid n k pos (some f) e =
+      let d = sought-from n s f e in
+      direct-in (f .state) (d .either (λ u. Valid u) h (trimmed-valid s h)) g least most n k pos (f .free) (d .claimed)
 
   module _ (c : ℕ) (class : c < classCount) where
-    zone-valid : listOf s c ≡ [] → (o : Option Source) → sought zonePages s ≡ o → Valid ((zoneFrom c g s o) .after)
-    zone-valid el none e = h
-    zone-valid el (some f) e =
-        let k = sought-from zonePages s f e in
-        let u = k .either (λ u. Valid u × (listOf u c ≡ [])) (h, el) (trimmed-valid s h, trimmed-empty s c el) in
-        zone-in (f .state) (u .0) g least most c class (u .1) (f .free) (k .claimed)
+    zone-valid : listOf s c ≡ [] → (k : ℕ) (o : Option Source) → sought zonePages s .chosen ≡ o → Valid ((zoneFrom c g s k o) .after)
+    zone-valid el k none e = h
+    zone-valid el k (some f) e =
+        let d = sought-from zonePages s f e in
+        let u = d .either (λ u. Valid u × (listOf u c ≡ [])) (h, el) (trimmed-valid s h, trimmed-empty s c el) in
+        zone-in (f .state) (u .0) g least most c class (u .1) k (f .free) (d .claimed)
 
     spare-valid : listOf s c ≡ [] → (l : List ℕ) → s .spare ≡ l → Valid ((fromSpare c g s l) .after)
-    spare-valid el [] e = zone-valid el (sought zonePages s) refl
+    spare-valid el [] e = zone-valid el _ (sought zonePages s .chosen) refl
     spare-valid el (p ∷ ps) e =
         let inn : List·Memᴰ p (s .spare) = rw e (List·Memᴰ·head refl) in
         let w = h .spared p inn in
@@ -210,6 +210,6 @@ allocate-valid s h g n = bool (groupOk g)
     (λ t. rw t (bool (sizeOk n)
     (λ u. rw u (bool (ltb n 8192)
     (λ v. rw v (chunk-valid s h g (group-least g t) (group-most g t) (classOf n) (classed n (size-least n u) (ltb-true n 8192 v) .below) (listOf s (classOf n)) refl))
-    (λ v. rw v (direct-valid s h g (group-least g t) (group-most g t) _ (omega (arith, ltb-false)) (sought (pagesFor n) s) refl))))
+    (λ v. rw v (direct-valid s h g (group-least g t) (group-most g t) _ _ (omega (arith, ltb-false)) (sought (pagesFor n) s .chosen) refl))))
     (λ u. rw u h)))
     (λ t. rw t h)

@@ -10,7 +10,7 @@ use lib.ListN.{length, getD, replicate, length-replicate, getD-replicate, List·
 use borrow.Author.Tests.{ltb-true, ltb-false, leb-true}
 use Rattle.lemmas.proofs.Cases.{bool, true-false, and-left, and-right, clash}
 use Rattle.model.specs.Numbers.{classCount, mostPages, pageBytes}
-use Rattle.model.specs.declared.Refusal.{Refusal}
+use Rattle.model.specs.declared.Answer.{Answer}
 use Rattle.model.specs.declared.Operation.{Operation}
 use Rattle.model.specs.declared.Operation.the-variants.{Allocate, Free, Reset}
 use Rattle.model.specs.Arena.{Segment, run, zone, total, Each}
@@ -96,7 +96,7 @@ perform-valid m (act a) h = go (m .state) refl h
 abbrev Leaves : {S : Type 0} → S → Outcome S → Type 0
 Leaves s r = isRefused (r .answer) ≡ true → r .after ≡ s
 
-guarded : {S : Type 0} (b : Bool) (k : Refusal) (s : S) (r : Outcome S) → Leaves s r → Leaves s (provided b k s r)
+guarded : {S : Type 0} (b : Bool) (k : Answer) (s : S) (r : Outcome S) → Leaves s r → Leaves s (provided b k s r)
 guarded true k s r h = h
 guarded false k s r h = λ _. refl
 
@@ -104,8 +104,8 @@ allocate-leaves : (s : State) → Valid s → (g n : ℕ) → Leaves s (allocate
 allocate-leaves s h g n = go (allocated s h g n)
   where
     go : {r : ℕ} → Allocated s g r (allocate g n s) → Leaves s (allocate g n s)
-    go (gives o b ans fresh grp rm only) = λ t. true-false t (ap isRefused ans)
-    go (denies k ans st) = λ _. st
+    go (gives o k b ans fresh grp rm only) = λ t. true-false t (ap isRefused ans)
+    go (denies r k ans st) = λ _. st
 
 free-leaves : (s : State) (g o : ℕ) → Leaves s (free g o s)
 free-leaves s g o = guarded (groupOk g) _ s _ (go (blockAt (pageMap s) o))

@@ -9,7 +9,7 @@ use Rattle.lemmas.specs.Keep.{putIf}
 use Rattle.lemmas.specs.Times.{remove}
 use Rattle.model.specs.Numbers.{pageBytes, mostSpare}
 use Rattle.model.specs.declared.Refusal.the-variants.{BadGroup, NoBlock, OtherGroup}
-use Rattle.model.specs.declared.Answer.the-variants.{Done, Counted}
+use Rattle.model.specs.declared.Answer.the-variants.{Refused, Done, Counted}
 use Rattle.model.specs.Sizes.{room}
 use Rattle.model.specs.Arena.{Segment, run, direct, zone, bytes}
 use Rattle.model.specs.Zone.{Zone, full, putBack}
@@ -44,10 +44,10 @@ freed o (chunk c i g) s = let p = (o - i * room c) / pageBytes in chunkBack c i 
 -- Refusals in document 01's order: 4, 7, 8.
 abbrev pub freeBlock : ℕ → ℕ → State → Option Block → Outcome State
 freeBlock g o s none = refuses s NoBlock
-freeBlock g o s (some b) = provided (eqb (groupOf b) g) OtherGroup s (answers (freed o b s) Done)
+freeBlock g o s (some b) = provided (eqb (groupOf b) g) (Refused OtherGroup) s (answers (freed o b s) Done)
 
 abbrev pub free : ℕ → ℕ → State → Outcome State
-free g o s = provided (groupOk g) BadGroup s (freeBlock g o s (blockAt (pageMap s) o))
+free g o s = provided (groupOk g) (Refused BadGroup) s (freeBlock g o s (blockAt (pageMap s) o))
 
 -- The offsets, ascending, at which a block of the group begins: in a zone's groups from o on, every r bytes; in a segment at
 -- o; in segments from o on.
@@ -78,4 +78,4 @@ freedAll (o ∷ r) s = freedAll r (freedIf o (blockAt (pageMap s) o) s)
 
 -- Reset: the group's live blocks in ascending offset, and how many there were. Refusal 4.
 abbrev pub reset : ℕ → State → Outcome State
-reset g s = provided (groupOk g) BadGroup s (answers (freedAll (offsetsOf g s) s) (Counted (length (offsetsOf g s))))
+reset g s = provided (groupOk g) (Refused BadGroup) s (answers (freedAll (offsetsOf g s) s) (Counted (length (offsetsOf g s))))

@@ -7,7 +7,7 @@ use lib.Dec.{leb}
 use lib.ListN.{length}
 use Rattle.model.specs.Numbers.{zonePages}
 use Rattle.model.specs.declared.Refusal.the-variants.{ShortBuffer}
-use Rattle.model.specs.declared.Answer.the-variants.{Counted}
+use Rattle.model.specs.declared.Answer.the-variants.{Refused, Counted}
 use Rattle.model.specs.Arena.{run, direct, zone}
 use Rattle.model.specs.State.{State}
 use Rattle.model.specs.PageMap.{PageMap, pageMap}
@@ -50,4 +50,4 @@ listingText m = section "runs" (runLines 0 m) ++ (section "direct" (directLines 
 
 -- The listing into a buffer of so many bytes: its length. Refusal 12.
 abbrev pub listInto : ℕ → State → Outcome State
-listInto n s = let k = length (listingText (pageMap s)) in provided (leb k n) ShortBuffer s (answers s (Counted k))
+listInto n s = let k = length (listingText (pageMap s)) in provided (leb k n) (Refused ShortBuffer) s (answers s (Counted k))

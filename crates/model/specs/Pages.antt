@@ -1,5 +1,5 @@
--- Pages out and in (document 01), over any kind of zone. Assumes nothing.
-use Prim.Native.Nat.{ℕ, zero, suc, _+_, _-_, _*_}
+-- Pages out and in (document 01) and how far the search for them looks (document 02, b), over any kind of zone. Assumes nothing.
+use Prim.Native.Nat.{ℕ, zero, suc, _+_, _-_, _*_, _/_}
 use mathlib.Core.List.{List, [], _∷_}
 use mathlib.Core.Option.{Option, none, some}
 use mathlib.Core.Bool.{Bool, false, cond, _||_}
@@ -12,16 +12,34 @@ pub record FreeRun : Type 0 where
   pub page : ℕ
   pub size : ℕ
 
--- The first run, in ascending order, that has n pages. p pages stand before.
-abbrev pub firstFit : {Z : Type 0} → ℕ → ℕ → List (Segment Z) → Option FreeRun
-firstFit p n [] = none
-firstFit p n (run m ∷ r) = cond (leb n m) (some (record { page = p; size = m })) (firstFit (p + m) n r)
+-- What a search comes to: what it chose, if anything, and how many runs it looked at.
+pub record Search (A : Type 0) : Type 0 where
+  pub chosen : Option A
+  pub looked : ℕ
+
+-- A search that goes on after k runs were looked at.
+abbrev pub onward : {A : Type 0} → ℕ → Search A → Search A
+onward k l = record { chosen = l .chosen; looked = k + l .looked }
+
+-- The search l behind one that looked at k runs and chose as told: it is made if that chose nothing, and then both have looked.
+abbrev pub followed : {A : Type 0} → Option A → ℕ → Search A → Search A
+followed none k l = onward k l
+followed (some a) k l = record { chosen = some a; looked = k }
+
+-- The first run, in ascending order, that has n pages; every run up to it is looked at, or all if there is none. p pages stand before.
+abbrev pub firstFit : {Z : Type 0} → ℕ → ℕ → List (Segment Z) → Search FreeRun
+firstFit p n [] = record { chosen = none; looked = 0 }
+firstFit p n (run m ∷ r) = cond (leb n m) (record { chosen = some (record { page = p; size = m }); looked = 1 }) (onward 1 (firstFit (p + m) n r))
 firstFit p n (direct m g ∷ r) = firstFit (p + m) n r
 firstFit p n (zone z ∷ r) = firstFit (p + zonePages) n r
 
--- The search through the runs. Proofs use its three laws and not its text: `claim-found`, `claim-none`, `claim-retold`.
-unfoldable pub claim : {Z : Type 0} → ℕ → List (Segment Z) → Option FreeRun
+-- The search through the runs. Proofs use its four laws and not its text: `claim-found`, `claim-none`, `claim-bounded`, `claim-retold`.
+unfoldable pub claim : {Z : Type 0} → ℕ → List (Segment Z) → Search FreeRun
 claim n m = firstFit 0 n m
+
+-- The most runs that one search looks at in an arena of n pages: half of them, rounded up. (`claim-bounded`: runs do not touch.)
+abbrev pub mostLooked : ℕ → ℕ
+mostLooked n = (n + 1) / 2
 
 -- Whether some run has n pages: `claim-has` says that the search finds one just then.
 abbrev pub hasRun : {Z : Type 0} → ℕ → List (Segment Z) → Bool

@@ -8,9 +8,9 @@ use Rattle.model.specs.Numbers.{mostPages, headerWords, pageWords}
 use Rattle.model.specs.declared.Operation.{Operation}
 use Rattle.model.specs.declared.Operation.the-variants.{Allocate, Free, Reset}
 use Rattle.model.specs.declared.Refusal.the-variants.{BadPages, FewWords, NoState}
-use Rattle.model.specs.declared.Answer.the-variants.{Done}
+use Rattle.model.specs.declared.Answer.the-variants.{Refused, Done}
 use Rattle.model.specs.State.{State, freshState}
-use Rattle.model.specs.Calls.{Action, group, trim, query, listing, Command, init, act, Outcome, answers, refuses, provided}
+use Rattle.model.specs.Calls.{Action, group, trim, query, listing, Command, init, act, Outcome, answers, provided, refusalOf}
 use Rattle.model.specs.Allocate.{allocate}
 use Rattle.model.specs.Free.{free, reset}
 use Rattle.model.specs.Trim.{trimAll, queryAt}
@@ -44,12 +44,12 @@ holding m s = record { words = m .words; state = some s }
 -- Init forgets what the words held. Refusals in document 01's order: 1, 2.
 abbrev pub initialise : Metadata → ℕ → Outcome Metadata
 initialise m n =
-    provided (leb 1 n && leb n mostPages) BadPages m
-    (provided (leb (wordsFor n) (m .words)) FewWords m (answers (holding m (freshState n)) Done))
+    provided (leb 1 n && leb n mostPages) (Refused BadPages) m
+    (provided (leb (wordsFor n) (m .words)) (Refused FewWords) m (answers (holding m (freshState n)) Done))
 
 -- Any other call: refusal 3 comes first.
 abbrev pub onState : Metadata → Action → Option State → Outcome Metadata
-onState m a none = refuses m NoState
+onState m a none = answers m (refusalOf a NoState)
 onState m a (some s) = answers (holding m ((serve s a) .after)) ((serve s a) .answer)
 
 abbrev pub perform : Metadata → Command → Outcome Metadata

@@ -33,9 +33,11 @@ pub enum Refusal {
     ShortBuffer,
 }
 
-// What a call answers: a grant with its offset, a refusal, done, done with a count, or a live block's group and room.
+// What a call answers. A request is granted an offset, or denied; both tell how many free runs were looked at. Any other call is
+// refused, done, done with a count, or tells a live block's group and room.
 pub enum Answer {
-    Granted(u32),
+    Granted { offset: u32, looked: u32 },
+    Denied { refusal: Refusal, looked: u32 },
     Refused(Refusal),
     Done,
     Counted(u32),

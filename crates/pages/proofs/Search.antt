@@ -2,8 +2,10 @@
 use Prim.Native.Nat.{ℕ, _+_, _*_, _≤_, _<_}
 use mathlib.Core.Path.{_≡_, refl, sym, ap, _∙_, subst}
 use mathlib.Core.List.{List, [], _∷_, _++_}
+use mathlib.Core.Option.{none, some}
 use mathlib.Core.Bool.{cond}
 use native.Mathlib.Omega.{arith}
+use native.Mathlib.Nat.{add-zero}
 use lib.Dec.{eqb}
 use lib.ListN.{length, getD}
 use borrow.Author.Tests.{le-leb, lt-leb, lt-ltb, le-ltb, eq-eqb, ne-eqb}
@@ -11,14 +13,17 @@ use Rattle.lemmas.proofs.Cases.{clash}
 use Rattle.model.specs.Numbers.{mostPages, pageWords}
 use Rattle.model.specs.Arena.{Segment, run, direct, zone, pages, total}
 use Rattle.model.specs.Zone.{Zone}
-use Rattle.model.specs.Pages.{firstFit, claim}
+use Rattle.model.specs.Pages.{onward, firstFit, claim}
+use Rattle.model.proofs.Claim.{onward-none, onward-more}
 use Rattle.pages.specs.declared.Found.{Found}
 use Rattle.pages.specs.declared.Found.the-variants.{Run, Nothing}
+use Rattle.pages.specs.declared.Choice.{Choice}
+use Rattle.pages.specs.declared.Choice.the-variants.{Chosen, Missed}
 use Rattle.pages.specs.declared.Spot.{Spot}
 use Rattle.pages.specs.declared.Spot.the-variants.{Segment as At}
 use Rattle.pages.specs.Encoding.{kindRun, kindOf}
 use Rattle.pages.specs.Decoding.{segmentsOf, Holds}
-use Rattle.pages.specs.Places.{found, runPages, runAtEnd, runAtStart, Stands, Passed, firstRun, spotFrom}
+use Rattle.pages.specs.Places.{found, choice, runPages, runAtEnd, runAtStart, Stands, Passed, firstRun, spotFrom}
 use Rattle.pages.proofs.Walk.{read-at, passed-more, passed-stands, passed-on, Walk, walk-from, walk-start, Next, next, past, at-it, Behind, last, more, behind-it}
 use Rattle.pages.proofs.Inverse.{run-by-kind, run-size, no-run-size}
 
@@ -34,7 +39,7 @@ abbrev pub runs : ℕ → ℕ → ℕ → List (Segment Zone) → Found
 runs a b p l = found (firstRun p l)
 
 run-here : (p : ℕ) (x : Segment Zone) (r : List (Segment Zone)) → kindOf x ≡ kindRun → found (firstRun p (x ∷ r)) ≡ Run p (pages x)
-run-here p x r k = rw (run-by-kind x k, le-leb 0 (pages x) (omega arith))
+run-here p x r k = rw (run-by-kind x k, firstRun, le-leb 0 (pages x) (omega arith))
 
 run-past : (p : ℕ) (x : Segment Zone) (r : List (Segment Zone)) → (kindOf x ≡ kindRun → ⊥) → found (firstRun p (x ∷ r)) ≡ found (firstRun (p + pages x) r)
 run-past p (run n) r k = absurd (k refl)
@@ -60,19 +65,21 @@ module _ {w : List ℕ} {n p len : ℕ} {f : Found} (i : Seeking w n f p) (h : p
 
 -- The search ---------------------------------------------------------------------------------------------------------------------
 
-abbrev pub fits : ℕ → ℕ → ℕ → ℕ → List (Segment Zone) → Found
-fits need a b p l = found (firstFit p need l)
+abbrev pub fits : ℕ → ℕ → ℕ → ℕ → List (Segment Zone) → Choice
+fits need k b p l = choice (onward k (firstFit p need l))
 
--- The loop's invariant: the search of what is left finds what the whole search finds.
-abbrev pub Searching : List ℕ → ℕ → ℕ → ℕ → Type 0
-Searching w n need p = (b : ℕ) × Walk (fits need) w n (found (claim need (segmentsOf w))) 0 b p
+-- The loop's invariant, after k runs: the search of what is left comes to what the whole search comes to.
+pub record Searching (w : List ℕ) (n need p k : ℕ) : Type 0 where
+  pub behind : ℕ
+  pub walk : Walk (fits need) w n (choice (claim need (segmentsOf w))) k behind p
+  pub few : k ≤ p
 
-pub search-start : (w : List ℕ) (n need : ℕ) → Holds w n → Searching w n need 0
+pub search-start : (w : List ℕ) (n need : ℕ) → Holds w n → Searching w n need 0 0
 unfolding claim
-search-start w n need h = (0, walk-start 0 h)
+search-start w n need h = record { behind = 0; walk = subst (λ e. Walk (fits need) w n e 0 0 0) (ap choice (onward-none (firstFit 0 need (segmentsOf w)))) (walk-start 0 h); few = omega arith }
 
--- Where there is no run, none has enough pages.
-no-run : (p need : ℕ) (l : List (Segment Zone)) → found (firstRun p l) ≡ Nothing → found (firstFit p need l) ≡ Nothing
+-- Where there is no run, none is looked at.
+no-run : (p need : ℕ) (l : List (Segment Zone)) → found (firstRun p l) ≡ Nothing → firstFit p need l ≡ record { chosen = none; looked = 0 }
 no-run p need [] e = refl
 no-run p need (run k ∷ r) e = let q : Run p k ≡ Nothing = sym (run-here p (run k) r refl) ∙ e in clash (cc)
 no-run p need (direct k g ∷ r) e = no-run (p + k) need r e
@@ -100,36 +107,45 @@ reaches p need (direct k g ∷ r) at len e = reaches-behind (direct k g) refl (r
 reaches p need (zone z ∷ r) at len e = reaches-behind (zone z) refl (reaches _ need r at len e)
 
 -- A turn: the next run f behind page p.
-module _ {w : List ℕ} {n need p : ℕ} {f : Found} (i : Searching w n need p) (next-is : f ≡ found (firstRun p (i .1 .left))) where
-  pub search-none : f ≡ Nothing → Nothing ≡ found (claim need (segmentsOf w))
-  search-none e = cc (no-run p need (i .1 .left) (sym next-is ∙ e))
+module _ {w : List ℕ} {n need p k : ℕ} {f : Found} (i : Searching w n need p k) (next-is : f ≡ found (firstRun p (i .walk .left))) where
+  pub search-none : f ≡ Nothing → Missed k ≡ choice (claim need (segmentsOf w))
+  search-none e = ap Missed (sym (add-zero k)) ∙ ap (λ l. choice (onward k l)) (sym (no-run p need (i .walk .left) (sym next-is ∙ e))) ∙ i .walk .same
 
   module _ {at len : ℕ} (is : f ≡ Run at len) where
-    stop : Reaches p need (i .1 .left) at len
+    stop : Reaches p need (i .walk .left) at len
     stop = reaches p need _ at len (sym next-is ∙ is)
 
-    from-stop : Passed (segmentsOf w) at (runAtEnd (i .0) (stop .pre)) (run len ∷ stop .post)
-    from-stop = passed-on (stop .pre) (stop .whole) (stop .starts) (i .1 .passed)
+    from-stop : Passed (segmentsOf w) at (runAtEnd (i .behind) (stop .pre)) (run len ∷ stop .post)
+    from-stop = passed-on (stop .pre) (stop .whole) (stop .starts) (i .walk .passed)
 
     pub run-inside : (0 < len) × (p ≤ at) × (at + len ≤ n) × (n ≤ mostPages)
-    run-inside = let r = read-at (i .1 .encodes) (passed-stands (run len) _ from-stop) in
+    run-inside = let r = read-at (i .walk .encodes) (passed-stands (run len) _ from-stop) in
         (r .ok .0, omega (arith, stop .starts), r .inside, r .few)
 
-    pub search-hit : need ≤ len → Run at len ≡ found (claim need (segmentsOf w))
-    search-hit h = sym (ap found (stop .same) ∙ rw (le-leb need len h)) ∙ i .1 .same
+    -- It is long enough, ..
+    here : need ≤ len → firstFit at need (run len ∷ stop .post) ≡ record { chosen = some (record { page = at; size = len }); looked = 1 }
+    here h = rw (le-leb need len h)
 
-    pub search-past : len < need → Searching w n need (at + len)
-    search-past h = (
-      len,
-      record {
-        encodes = i .1 .encodes;
-        long = i .1 .long;
-        few = i .1 .few;
+    pub search-hit : need ≤ len → Chosen at len (k + 1) ≡ choice (claim need (segmentsOf w))
+    search-hit h = ap (λ l. choice (onward k l)) (sym (stop .same ∙ here h)) ∙ i .walk .same
+
+    -- .. or is passed, and counted.
+    beyond : len < need → firstFit at need (run len ∷ stop .post) ≡ onward 1 (firstFit (at + len) need (stop .post))
+    beyond h = rw (lt-leb need len h)
+
+    pub search-past : len < need → Searching w n need (at + len) (k + 1)
+    search-past h = record {
+      behind = len;
+      walk = record {
+        encodes = i .walk .encodes;
+        long = i .walk .long;
+        few = i .walk .few;
         left = stop .post;
         passed = passed-more (run len) _ from-stop;
-        same = sym (ap found (stop .same) ∙ rw (lt-leb need len h)) ∙ i .1 .same;
-      },
-    )
+        same = ap choice (sym (onward-more (firstFit (at + len) need (stop .post)) k 1)) ∙ ap (λ l. choice (onward k l)) (sym (stop .same ∙ beyond h)) ∙ i .walk .same;
+      };
+      few = omega (arith, run-inside, i .few);
+    }
 
 -- The segment of a page ----------------------------------------------------------------------------------------------------------
 

@@ -11,17 +11,27 @@ use Rattle.model.specs.Numbers.{mostPages, pageWords}
 use Rattle.model.specs.Arena.{Segment, run, direct, zone, pages, total}
 use Rattle.model.specs.Zone.{Zone}
 use Rattle.model.specs.PageMap.{idleZone}
-use Rattle.model.specs.Pages.{FreeRun, firstFit}
+use Rattle.model.specs.Pages.{FreeRun, Search, firstFit}
 use Rattle.pages.specs.declared.Found.{Found}
 use Rattle.pages.specs.declared.Found.the-variants.{Run, Nothing}
+use Rattle.pages.specs.declared.Choice.{Choice}
+use Rattle.pages.specs.declared.Choice.the-variants.{Chosen, Missed}
 use Rattle.pages.specs.declared.Spot.{Spot}
 use Rattle.pages.specs.declared.Spot.the-variants.{Segment as At, Nowhere}
 use Rattle.pages.specs.Encoding.{kindOf}
 
--- What the search for pages found.
+-- A free run, or none, as the code has it.
 abbrev pub found : Option FreeRun → Found
 found none = Nothing
 found (some h) = Run (h .page) (h .size)
+
+-- What a search for pages came to.
+abbrev pub choiceOf : ℕ → Option FreeRun → Choice
+choiceOf k none = Missed k
+choiceOf k (some h) = Chosen (h .page) (h .size) k
+
+abbrev pub choice : Search FreeRun → Choice
+choice l = choiceOf (l .looked) (l .chosen)
 
 -- The pages of a segment that is a run, else 0.
 abbrev pub runPages : Segment Zone → ℕ
@@ -62,7 +72,7 @@ pub record Passed (m : List (Segment Zone)) (p b : ℕ) (l : List (Segment Zone)
 
 -- The first run of segments that begin at the page p: the first that has no pages or more.
 abbrev pub firstRun : ℕ → List (Segment Zone) → Option FreeRun
-firstRun p l = firstFit p 0 l
+firstRun p l = firstFit p 0 l .chosen
 
 -- The segment that holds the page q: its first page, its kind, its pages, and the pages of the run that ends where it begins. The
 -- list begins at page p, behind a run of b pages.

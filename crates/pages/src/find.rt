@@ -1,17 +1,19 @@
 // Where things stand: the size of a segment, the free runs, those that trim would leave, the segment of a page. Nothing is written.
 ghost use mathlib.Core.Path.{_≡_};
-ghost use mathlib.Core.List.{List};
-ghost use Prim.Native.Nat.{ℕ, _<_};
+ghost use mathlib.Core.List.{List, []};
+ghost use Prim.Native.Nat.{ℕ, _-_, _≤_, _<_};
 ghost use lib.Dec.{eqb};
 ghost use mathlib.Core.Bool.{true, cond};
 ghost use Rattle.zone.specs.Decoding.{isZone, zoneOf};
+ghost use Rattle.model.specs.Numbers.{mostPages};
 ghost use Rattle.model.specs.Arena.{Segment, direct, zone, pages};
 ghost use Rattle.model.specs.Zone.{Zone};
 ghost use Rattle.model.specs.PageMap.{idleZone};
-ghost use Rattle.model.specs.Pages.{claim, hasRun, joined};
+ghost use Rattle.model.specs.Pages.{onward, firstFit, claim, withRun, joined};
 ghost use Rattle.pages.specs.Encoding.{kindRun, kindOf};
 ghost use Rattle.pages.specs.Decoding.{segmentsOf, Holds};
-ghost use Rattle.pages.specs.Places.{found, runAtStart, isClear, Stands, Passed, firstRun, spotFrom};
+ghost use Rattle.pages.specs.Places.{found, choice, runAtStart, isClear, Stands, Passed, firstRun, spotFrom};
+use crate::Choice;
 use crate::Found;
 use crate::Spot;
 use model::numbers::PAGE_WORDS;
@@ -88,22 +90,28 @@ fn next_run(words: &[u32], n: usize, page: usize) -> Found
     Found::Nothing
 }
 
-// The first free run, in ascending order, that has `need` pages.
-pub fn find_run(words: &[u32], n: usize, need: usize) -> Found
+// The first free run, in ascending order, that has `need` pages, and how many runs were looked at.
+pub fn find_run(words: &[u32], n: usize, need: usize) -> Choice
     requires { ⌜ Holds (now words) n ⌝ }
-    ensures { λ r. ⌜ r ≡ found (claim need (segmentsOf (now (words .entry)))) ⌝ }
+    ensures { λ r. ⌜ r ≡ choice (claim need (segmentsOf (now (words .entry)))) ⌝ }
 {
     let mut p: usize = 0;
-    let found = loop {
+    let mut looked: u32 = 0;
+    let choice = loop {
         let Found::Run { at, len } = next_run(words, n, p) else {
-            break Found::Nothing;
+            break Choice::Missed { looked: looked };
         };
+        looked += 1;
         if need <= len {
-            break Found::Run { at: at, len: len };
+            break Choice::Chosen {
+                at: at,
+                len: len,
+                looked: looked,
+            };
         }
         p = at + len;
     };
-    found
+    choice
 }
 
 // Whether the pages of the segment that begins at page p are free once trim has been there: it is a run, or a zone without a live chunk.
@@ -122,27 +130,56 @@ fn clear(words: &[u32], n: usize, p: usize) -> bool
     zone::is_idle(zone_part(words, n, p))
 }
 
-// Whether trim would leave a run of `need` pages. `free` counts the pages before page p that would be part of one run.
-pub fn fits_trimmed(words: &[u32], n: usize, need: usize) -> bool
-    requires { ⌜ Holds (now words) n × (0 < need) ⌝ }
-    ensures { λ r. ⌜ r ≡ hasRun need (joined idleZone 0 (segmentsOf (now (words .entry)))) ⌝ }
+// A search for `need` pages, which has looked at so many runs, comes to a run of `free` pages that ends at page p. (0: to none.)
+fn look_at(p: usize, free: usize, need: usize, looked: u32) -> Choice
+    requires { ⌜ (free ≤ p) × (looked ≤ mostPages) ⌝ }
+    ensures { λ r. ⌜ r ≡ choice (onward looked (firstFit (p - free) need (withRun {Z = Zone} free []))) ⌝ }
+{
+    if free == 0 {
+        return Choice::Missed { looked: looked };
+    }
+    if free < need {
+        return Choice::Missed { looked: looked + 1 };
+    }
+    Choice::Chosen {
+        at: p - free,
+        len: free,
+        looked: looked + 1,
+    }
+}
+
+// The first run of `need` pages among those that trim would leave, and how many of them were looked at. `free` counts the pages before
+// page p that would be part of one run.
+pub fn find_trimmed(words: &[u32], n: usize, need: usize) -> Choice
+    requires { ⌜ Holds (now words) n ⌝ }
+    ensures { λ r. ⌜ r ≡ choice (claim need (joined idleZone 0 (segmentsOf (now (words .entry))))) ⌝ }
 {
     let mut p: usize = 0;
     let mut free: usize = 0;
+    let mut looked: u32 = 0;
     while p < n {
         let len = size(words, n, p);
-        if !clear(words, n, p) {
+        if clear(words, n, p) {
+            free += len;
             p += len;
-            free = 0;
             continue;
         }
-        free += len;
-        if need <= free {
-            return true;
+        match look_at(p, free, need, looked) {
+            Choice::Chosen { at, len, looked } => {
+                return Choice::Chosen {
+                    at: at,
+                    len: len,
+                    looked: looked,
+                };
+            }
+            Choice::Missed { looked: seen } => {
+                looked = seen;
+            }
         }
+        free = 0;
         p += len;
     }
-    false
+    look_at(p, free, need, looked)
 }
 
 // The segment that holds the page.

@@ -6,10 +6,16 @@ pub mod cut;
 pub mod find;
 pub mod join;
 
-// What the search for pages finds: a free run, or none that is long enough.
+// A free run, or none.
 pub enum Found {
     Run { at: usize, len: usize },
     Nothing,
+}
+
+// What a search for pages comes to: the free run that it chose, or none that is long enough; and how many runs it looked at.
+pub enum Choice {
+    Chosen { at: usize, len: usize, looked: u32 },
+    Missed { looked: u32 },
 }
 
 // Where a page lies: in the segment that begins at page `at`, of a kind and so many pages, behind a run of `before` pages (0: none).

@@ -15,11 +15,11 @@ use Rattle.model.specs.declared.Refusal.the-variants.{NoState}
 use Rattle.model.specs.declared.Call.{Call}
 use Rattle.model.specs.declared.Operation.{Operation}
 use Rattle.model.specs.declared.Answer.{Answer}
-use Rattle.model.specs.declared.Answer.the-variants.{Refused}
 use Rattle.model.specs.Arena.{total}
 use Rattle.model.specs.Valid.{Valid}
 use Rattle.model.specs.PageMap.{shown, pageMap}
-use Rattle.model.specs.Calls.{Action, group, listing, act, isRefused}
+use Rattle.model.specs.Calls.{Action, group, listing, act, isRefused, refusalOf}
+use Rattle.model.proofs.Answers.{refusal-refused}
 use Rattle.model.specs.Listing.{listingText}
 use Rattle.model.specs.Perform.{serve, wordsFor}
 use Rattle.header.specs.Encoding.{pagesIn}
@@ -61,11 +61,11 @@ module _ (w : List ℕ) where
         (λ t. absurd (omega (arith, is, ap (λ x. pagesOf x) (state-is t), state-valid w t .least)))
         (λ t. stateOf-none w t)
 
-    pub refused-answer : n ≡ 0 → (a : Action) → Refused NoState ≡ answerOf w (act a)
+    pub refused-answer : n ≡ 0 → (a : Action) → refusalOf a NoState ≡ answerOf w (act a)
     refused-answer z a = sym (unserved-answer w (no-state z) a)
 
     pub refused-words : n ≡ 0 → (a : Action) → w ≡ metaAfter w (act a)
-    refused-words z a = sym (refused-same w (act a) (ap (λ r. isRefused r) (sym (refused-answer z a))))
+    refused-words z a = sym (refused-same w (act a) (ap (λ r. isRefused r) (sym (refused-answer z a)) ∙ refusal-refused a NoState))
 
     pub refused-text : n ≡ 0 → (b : List ℕ) → b ≡ textAfter w b
     unfolding textAfter

@@ -24,7 +24,7 @@ use Rattle.slab.proofs.Words.{refused-same}
 module _ (w : List ℕ) (n : ℕ) where
   -- Init by the results of its two tests.
   abbrev tested : Bool → Bool → Outcome Metadata
-  tested a b = provided a BadPages (viewOf w) (provided b FewWords (viewOf w) (answers (holding (viewOf w) (freshState n)) Done))
+  tested a b = provided a (Refused BadPages) (viewOf w) (provided b (Refused FewWords) (viewOf w) (answers (holding (viewOf w) (freshState n)) Done))
 
   tested-answer : (a b : Bool) → (leb 1 n && leb n mostPages) ≡ a → leb (wordsFor n) (length w) ≡ b → (tested a b) .answer ≡ answerOf w (init n)
   unfolding answerOf

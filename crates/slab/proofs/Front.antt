@@ -14,6 +14,8 @@ use Rattle.model.specs.Numbers.{mostPages, headerWords}
 use Rattle.model.specs.Arena.{total}
 use Rattle.model.specs.State.{State, freshState}
 use Rattle.model.specs.Calls.{Action, Command, init, act, isRefused}
+use Rattle.model.specs.declared.Refusal.the-variants.{NoState}
+use Rattle.model.proofs.Answers.{refusal-refused}
 use Rattle.model.specs.Perform.{serve, wordsFor}
 use Rattle.header.specs.Encoding.{pagesIn}
 use Rattle.metadata.specs.Encoding.{encode, BeginsWith}
@@ -70,7 +72,7 @@ module _ (w : List ℕ) (k : ℕ) where
 
   acted-front : (a : Action) → wordsFor (legalPages (pagesIn w)) ≤ k → Alone w (act a) k
   acted-front a h = by-state (λ _. Alone w (act a) k) w
-      (λ e. let no = unserved-answer w e a in refused-front (act a) (ap isRefused no) (no ∙ sym (unserved-answer (take k w) (front-state h ∙ e) a)))
+      (λ e. let no = unserved-answer w e a in refused-front (act a) (ap isRefused no ∙ refusal-refused a NoState) (no ∙ sym (unserved-answer (take k w) (front-state h ∙ e) a)))
       (λ s e p. let q = holding-of (take k w) s (front-state h ∙ e) in (
         served-answer w s (p .valid) (p .begins) a ∙ sym (served-answer (take k w) s (q .valid) (q .begins) a),
         served-words w s (p .valid) (p .begins) a

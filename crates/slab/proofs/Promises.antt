@@ -8,10 +8,11 @@ use mathlib.Core.List.{List, _++_}
 use mathlib.Core.Option.{Option, none, some}
 use native.Mathlib.Omega.{arith}
 use lib.ListN.{length, take, drop}
+use lib.Seq.{take-all}
 use Rattle.model.specs.Numbers.{pageBytes, largeSize, mostPages}
 use Rattle.model.specs.declared.Refusal.the-variants.{NoState, NoRoom, ShortBuffer}
-use Rattle.model.specs.declared.Answer.the-variants.{Refused, Done, Counted}
-use mathlib.Core.Bool.{true, false}
+use Rattle.model.specs.declared.Answer.the-variants.{Denied, Done, Counted}
+use mathlib.Core.Bool.{true, false, cond, _&&_}
 use Rattle.model.specs.declared.Operation.the-variants.{Allocate}
 use borrow.Author.Tests.{le-leb}
 use Rattle.model.specs.Sizes.{pagesFor}
@@ -19,22 +20,27 @@ use Rattle.model.specs.Arena.{total}
 use Rattle.model.specs.State.{State, freshState}
 use Rattle.model.specs.PageMap.{pageMap, Block, roomOf, blockAt}
 use Rattle.model.specs.Valid.{Valid}
-use Rattle.model.specs.Calls.{Action, trim, query, listing, Command, init, act, reading, isRefused, grantOf, RefusedBy, GrantedAt, group, groupOk, sizeOk}
-use Rattle.model.specs.Allocate.{needed}
+use Rattle.model.specs.Calls.{Action, trim, query, listing, Command, init, act, reading, isRefused, lookedOf, RefusedBy, DeniedBy, GrantedAt, refusalOf, group, groupOk, sizeOk}
+use Rattle.model.specs.Pages.{mostLooked}
+use Rattle.model.specs.Allocate.{searched, needed, looksFor}
 use Rattle.model.specs.Trim.{trimmed}
 use Rattle.model.specs.Perform.{serve, wordsFor, onState}
 use Rattle.model.specs.Listing.{listingText}
 use Rattle.lemmas.proofs.Cases.{some-inj, none-some}
 use Rattle.model.proofs.Disjoint as model
 use Rattle.model.proofs.NoRoom as rules
+use Rattle.model.proofs.Looked as looked
+use Rattle.model.proofs.BoundMet as met
 use Rattle.model.proofs.NoRoom.{Short}
 use Rattle.history.specs.Demand.{Demand3, LedgerAgrees}
 use Rattle.history.specs.Rows.{Row}
-use Rattle.model.proofs.Answers.{refused-number, refusal-told, grant-told}
+use Rattle.model.proofs.Answers.{refused-number, refusal-refused, refusal-told, denial-told, grant-told}
 use Rattle.history.proofs.Theorem.{demand-3, ledger-agrees}
 use Rattle.history.proofs.Second as second
 use Rattle.metadata.specs.Encoding.{encode, BeginsWith}
 use Rattle.metadata.specs.Decoding.{stateOf}
+use Rattle.metadata.proofs.States.{stateOf-some}
+use Rattle.slab.specs.Arena.{pagesOf}
 use Rattle.slab.specs.Calls.{viewOf, written, answerOf, metaAfter, listedOf, textAfter, extent}
 use Rattle.slab.proofs.Words.{holding-of, by-state, written-later, view-after, after-is, same-length, refused-same}
 use Rattle.slab.proofs.Words.{query-same, listing-same, unserved-answer, served-long, served-answer, served-words, holding-long}
@@ -91,12 +97,12 @@ init-fresh w n a b h =
     let f = fresh-done w n there b (wordsFor n) refl h in
     (sym (f .0), sym (f .1) ∙ ap (λ k. encode (freshState n) ++ drop k w) (fresh-words w n there b (wordsFor n) refl))
 
--- Any other call is refused by 3 on words that begin with no valid state's, ..
+-- Any other call is refused by 3 on words that begin with no valid state's, a request with the count 0 (`refusalOf`), ..
 pub no-state-refused : (w : List ℕ) → ((s : State) → Valid s → BeginsWith w s → ⊥) → (a : Action) →
-    RefusedBy 3 (answerOf w (act a)) × (metaAfter w (act a) ≡ w)
-no-state-refused w f a = (ap reading no, refused-same w (act a) (ap isRefused no))
+    (answerOf w (act a) ≡ refusalOf a NoState) × (metaAfter w (act a) ≡ w)
+no-state-refused w f a = (no, refused-same w (act a) (ap isRefused no ∙ refusal-refused a NoState))
   where
-    no : answerOf w (act a) ≡ Refused NoState
+    no : answerOf w (act a) ≡ refusalOf a NoState
     no = unserved-answer w (by-state (λ x. x ≡ none) w (λ _. refl) (λ s _ h. absurd (f s (h .valid) (h .begins)))) a
 
 -- .. and served on words that do: the answer is that of the rules on that state, and the words are those of the state that they leave.
@@ -129,30 +135,30 @@ request g n = group (record { group = g; operation = Allocate n })
 
 -- A request is refused by 6 exactly if the words begin with those of a valid state, its group and size are legal, it needs pages, and no
 -- run of the page map that trim would leave has as many (`Short`), ..
-no-room-on : (w : List ℕ) (s : State) → stateOf w ≡ some s → (g n : ℕ) → RefusedBy 6 (answerOf w (act (request g n))) ↔ Short s g n
+no-room-on : (w : List ℕ) (s : State) → stateOf w ≡ some s → (g n : ℕ) → DeniedBy 6 (answerOf w (act (request g n))) ↔ Short s g n
 no-room-on w s e g n =
     let h = holding-of w s e in
-    let told = ap reading (served-answer w s (h .valid) (h .begins) (request g n)) in
-    (λ r. rules.no-room s g n .0 (sym told ∙ r), λ k. told ∙ rules.no-room s g n .1 k)
+    let told = served-answer w s (h .valid) (h .begins) (request g n) in
+    (λ r. rules.no-room s g n .0 (subst (DeniedBy 6) told r), λ k. subst (DeniedBy 6) (sym told) (rules.no-room s g n .1 k))
 
-no-room-without : (w : List ℕ) (g n : ℕ) → stateOf w ≡ none → RefusedBy 6 (answerOf w (act (request g n))) → ⊥
+no-room-without : (w : List ℕ) (g n : ℕ) → stateOf w ≡ none → DeniedBy 6 (answerOf w (act (request g n))) → ⊥
 no-room-without w g n e r =
-    let u = sym (unserved-answer w e (request g n)) ∙ refusal-told NoRoom (answerOf w (act (request g n))) .0 r in
+    let u = sym (unserved-answer w e (request g n)) ∙ denial-told NoRoom (answerOf w (act (request g n))) .0 r .1 in
     let z : _≡_ {A = ℕ} 0 1 = cc in omega arith
 
-pub no-room : (w : List ℕ) (g n : ℕ) → RefusedBy 6 (answerOf w (act (request g n))) ↔ ((s : State) × (stateOf w ≡ some s) × Short s g n)
-no-room w g n = by-state (λ x. RefusedBy 6 (answerOf w (act (request g n))) ↔ ((s : State) × (x ≡ some s) × Short s g n)) w
+pub no-room : (w : List ℕ) (g n : ℕ) → DeniedBy 6 (answerOf w (act (request g n))) ↔ ((s : State) × (stateOf w ≡ some s) × Short s g n)
+no-room w g n = by-state (λ x. DeniedBy 6 (answerOf w (act (request g n))) ↔ ((s : State) × (x ≡ some s) × Short s g n)) w
     (λ e. (λ r. absurd (no-room-without w g n e r), λ k. none-some (k .1)))
     (λ s e _. (λ r. (s, refl, no-room-on w s e g n .0 r), λ k. no-room-on w s e g n .1 (subst (λ x. Short x g n) (sym (some-inj (k .1))) (k .2))))
 
 -- .. so a trim before it does not help, nor does it harm: it is refused by 6 after a trim just if it is without one, ..
-pub trim-needless : (w : List ℕ) (g n : ℕ) → RefusedBy 6 (answerOf w (act (request g n))) ↔ RefusedBy 6 (answerOf (metaAfter w (act trim)) (act (request g n)))
+pub trim-needless : (w : List ℕ) (g n : ℕ) → DeniedBy 6 (answerOf w (act (request g n))) ↔ DeniedBy 6 (answerOf (metaAfter w (act trim)) (act (request g n)))
 trim-needless w g n = go (stateOf w) refl
   where
     after : (x : Option State) → stateOf w ≡ x → stateOf (metaAfter w (act trim)) ≡ (onState (viewOf w) trim x) .after .state
     after x e = ap (λ m. m .state) (view-after w (act trim)) ∙ ap (λ x. (onState (viewOf w) trim x) .after .state) e
 
-    go : (x : Option State) → stateOf w ≡ x → RefusedBy 6 (answerOf w (act (request g n))) ↔ RefusedBy 6 (answerOf (metaAfter w (act trim)) (act (request g n)))
+    go : (x : Option State) → stateOf w ≡ x → DeniedBy 6 (answerOf w (act (request g n))) ↔ DeniedBy 6 (answerOf (metaAfter w (act trim)) (act (request g n)))
     go none e = (λ r. absurd (no-room-without w g n e r), λ r. absurd (no-room-without (metaAfter w (act trim)) g n (after none e ∙ e) r))
     go (some s) e =
         let here = no-room-on w s e g n in
@@ -167,16 +173,42 @@ empty-board w s e bare g n t u enough =
     let h = holding-of w s e in
     let told = served-answer w s (h .valid) (h .begins) (request g n) in
     let k = second.empty-board s (h .valid) bare g n t u enough in
-    (k .0, (ap grantOf told ∙ k .1 .0, ap reading told ∙ k .1 .1))
+    (k .0, subst (GrantedAt (k .0)) (sym told) (k .1))
 
 -- Demand 3's rule on refusals, of words that encode any valid state: a request from 8,192 bytes up, of a legal group and size, is refused
 -- by 6 exactly when no row of as many pages as it needs is clear.
 pub no-row : (w : List ℕ) (s : State) → stateOf w ≡ some s → (g n : ℕ) → largeSize ≤ n → groupOk g ≡ true → sizeOk n ≡ true →
-    RefusedBy 6 (answerOf w (act (request g n))) ↔ (Row (pagesFor n) (pageMap s) → ⊥)
+    DeniedBy 6 (answerOf w (act (request g n))) ↔ (Row (pagesFor n) (pageMap s) → ⊥)
 no-row w s e g n h t u =
     let here = no-room-on w s e g n in
     let rows = second.no-row s (holding-of w s e .valid) g n h t u in
     (λ r. rows .0 (rules.no-room s g n .1 (here .0 r)), λ f. here .1 (rules.no-room s g n .0 (rows .1 f)))
+
+-- How far a request looks (document 02, b). Its answer has a count, whatever the words: that of the searches for the pages that it needs,
+-- where the words encode a state and its group and size are legal; else 0. ..
+pub request-looks : (w : List ℕ) (s : State) → stateOf w ≡ some s → (g n : ℕ) →
+    lookedOf (answerOf w (act (request g n))) ≡ some (cond (groupOk g && sizeOk n) (looksFor (needed n s) s) 0)
+request-looks w s e g n = let h = holding-of w s e in ap lookedOf (served-answer w s (h .valid) (h .begins) (request g n)) ∙ looked.counted s g n
+
+-- .. One search looks at no more runs than half of the pages, rounded up, in the state as it is or as trim would leave it, ..
+pub search-bounded : (w : List ℕ) (s : State) → stateOf w ≡ some s → (n : ℕ) →
+    (searched n s .looked ≤ mostLooked (total (s .segments))) × (searched n (trimmed s) .looked ≤ mostLooked (total (s .segments)))
+search-bounded w s e n = let v = holding-of w s e .valid in (looked.search-bounded s v n, looked.second-bounded s v n)
+
+-- .. and a request at no more than twice that: at none, where the words encode no state. ..
+pub request-bounded : (w : List ℕ) (g n : ℕ) → (k : ℕ) × (lookedOf (answerOf w (act (request g n))) ≡ some k) × (k ≤ 2 * mostLooked (pagesOf (stateOf w)))
+request-bounded w g n = by-state (λ x. (k : ℕ) × (lookedOf (answerOf w (act (request g n))) ≡ some k) × (k ≤ 2 * mostLooked (pagesOf x))) w
+    (λ e. (0, ap lookedOf (unserved-answer w e (request g n)), omega arith))
+    (λ s e h. let b = looked.request-bounded s (h .valid) g n in (b .0, ap lookedOf (served-answer w s (h .valid) (h .begins) (request g n)) ∙ b .1, b .2))
+
+-- .. Both bounds are met, in arenas of any number of pages, odd or even.
+pub bounds-met : (n : ℕ) → 1 ≤ n → n ≤ mostPages → (w : List ℕ) × (s : State) × (stateOf w ≡ some s) × (total (s .segments) ≡ n)
+    × (searched 2 s .looked ≡ mostLooked n) × (answerOf w (act (request 1 8192)) ≡ Denied NoRoom (2 * mostLooked n))
+bounds-met n a b =
+    let s = met.combed n in
+    let v = met.comb-valid n a b in
+    let here : BeginsWith (encode s) s = take-all (length (encode s)) (encode s) (omega arith) in
+    (encode s, s, stateOf-some (encode s) s v here, met.comb-total n, met.search-met n, served-answer (encode s) s v here (request 1 8192) ∙ met.request-met n)
 
 -- A live block begins at a multiple of every number that divides a page's bytes and the block's room, ..
 pub block-aligned : (w : List ℕ) (s : State) → stateOf w ≡ some s → (o : ℕ) (b : Block) → blockAt (pageMap s) o ≡ some b → (d : ℕ) → pageBytes % d ≡ 0 → roomOf b % d ≡ 0 → o % d ≡ 0
@@ -187,8 +219,8 @@ pub grant-aligned : (w : List ℕ) (g n o : ℕ) → GrantedAt o (answerOf w (ac
 grant-aligned w g n o h =
     let e = grant-told o (answerOf w (act (request g n))) .0 h in
     by-state (λ _. Aligned n o) w
-    (λ f. absurd (let u = sym (unserved-answer w f (request g n)) ∙ e in let z : _≡_ {A = ℕ} 0 1 = cc in omega arith))
-    (λ s _ h. aligned.grant-aligned s (h .valid) g n o (sym (served-answer w s (h .valid) (h .begins) (request g n)) ∙ e))
+    (λ f. absurd (let u = sym (unserved-answer w f (request g n)) ∙ e .1 in let z : _≡_ {A = ℕ} 0 1 = cc in omega arith))
+    (λ s _ h. aligned.grant-aligned s (h .valid) g n o (e .0) (sym (served-answer w s (h .valid) (h .begins) (request g n)) ∙ e .1))
 
 -- A listing has at most as many bytes as that of as many direct blocks of one page, of group 12, as the arena has pages, ..
 pub listing-longest : (w : List ℕ) (s : State) → stateOf w ≡ some s → length (listingText (pageMap s)) ≤ longest (total (s .segments))

@@ -13,13 +13,12 @@ use borrow.Author.Tests.{leb-true, leb-false}
 use Rattle.lemmas.proofs.Cases.{bool, and-left, and-right, some-inj}
 use Rattle.model.specs.Numbers.{mostPages}
 use Rattle.model.specs.declared.Refusal.the-variants.{NoState}
-use Rattle.model.specs.declared.Answer.the-variants.{Refused}
 use Rattle.model.specs.Arena.{total}
 use Rattle.model.specs.State.{State}
 use Rattle.model.specs.Valid.{Valid}
 use Rattle.model.specs.PageMap.{pageMap}
 use Rattle.model.specs.Listing.{listingText}
-use Rattle.model.specs.Calls.{Action, query, listing, Command, init, act, isRefused}
+use Rattle.model.specs.Calls.{Action, query, listing, Command, init, act, isRefused, refusalOf}
 use Rattle.model.specs.Perform.{serve, Metadata, wordsFor, onState, perform}
 use Rattle.model.proofs.Validity as model
 use Rattle.model.proofs.Validity.{fresh-valid, serve-valid, perform-leaves}
@@ -156,7 +155,7 @@ pub listing-same : (w : List ℕ) (n : ℕ) → metaAfter w (act (listing n)) �
 listing-same w n = still-same w (listing n) (listing-still n)
 
 -- A call on words that encode no state is refused.
-pub unserved-answer : (w : List ℕ) → stateOf w ≡ none → (a : Action) → answerOf w (act a) ≡ Refused NoState
+pub unserved-answer : (w : List ℕ) → stateOf w ≡ none → (a : Action) → answerOf w (act a) ≡ refusalOf a NoState
 unfolding answerOf
 unserved-answer w e a = ap (λ x. (onState (viewOf w) a x) .answer) e
 

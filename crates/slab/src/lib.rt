@@ -3,7 +3,9 @@
 ghost use mathlib.Core.Path.{_≡_};
 ghost use lib.ListN.{length};
 ghost use Rattle.model.specs.Calls as rules;
+ghost use Rattle.model.specs.Calls.{toldBy};
 ghost use Rattle.model.specs.declared.Operation.the-variants as operation;
+ghost use Rattle.model.specs.declared.Refusal.the-variants as refusal;
 ghost use Rattle.metadata.specs.Decoding.{stateOf};
 ghost use Rattle.slab.specs.Calls.{answerOf, metaAfter, textAfter};
 ghost use Rattle.slab.specs.Arena.{pagesOf, Arena};
@@ -115,17 +117,31 @@ fn reset_in(meta: &mut [u32], n: usize, group: u32) -> Answer
     reset::reset(&mut meta[..e], n, group)
 }
 
+// Refusal 3, as the group's call is told it: where a block is asked for, with the count of runs, of which none was looked at.
+fn no_state(operation: Operation) -> Answer
+    ensures { λ r. ⌜ r ≡ toldBy operation refusal.NoState ⌝ }
+{
+    match operation {
+        Operation::Allocate(_) => Answer::Denied {
+            refusal: Refusal::NoState,
+            looked: 0,
+        },
+        Operation::Free(_) => Answer::Refused(Refusal::NoState),
+        Operation::Reset => Answer::Refused(Refusal::NoState),
+    }
+}
+
 // A group's call: it asks for a block, gives one back, or gives back all of its blocks.
 pub fn call(meta: &mut [u32], call: Call) -> Answer
     ensures { λ r. ⌜ r ≡ answerOf (now (meta .entry)) (rules.act (rules.group call)) ⌝ }
     ensures { λ _. ⌜ now (meta .exit) ≡ metaAfter (now (meta .entry)) (rules.act (rules.group call)) ⌝ }
 {
     let n = arena_pages(meta);
-    if n == 0 {
-        return Answer::Refused(Refusal::NoState);
-    }
     let group = call.group;
     let operation = call.operation;
+    if n == 0 {
+        return no_state(operation);
+    }
     match operation {
         Operation::Allocate(size) => allocate_in(meta, n, group, size),
         Operation::Free(offset) => free_in(meta, n, group, offset),

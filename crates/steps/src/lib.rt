@@ -7,7 +7,7 @@ ghost use Prim.Native.Nat.{ℕ, _≤_, _<_};
 ghost use lib.ListN.{length, getD, drop};
 ghost use Rattle.model.specs.Arena.{Segment, run, direct, zone, pages, total};
 ghost use Rattle.model.specs.Zone.{Zone, touched, full, newZone, nextChunk, granted, putBack};
-ghost use Rattle.model.specs.Pages.{claim, hasRun};
+ghost use Rattle.model.specs.Pages.{claim};
 ghost use Rattle.model.specs.Trim.{trimmed};
 ghost use Rattle.model.specs.State.{listOf, zoneAt};
 ghost use Rattle.model.specs.PageMap.{idleZone};
@@ -17,7 +17,7 @@ ghost use Rattle.header.specs.Encoding.{spareSlots, listSlots};
 ghost use Rattle.header.specs.Front.{frontOf};
 ghost use Rattle.zone.specs.Decoding.{isZone, zoneOf};
 ghost use Rattle.pages.specs.Encoding.{kindOf};
-ghost use Rattle.pages.specs.Places.{found, runPages, Stands, spotFrom};
+ghost use Rattle.pages.specs.Places.{choice, runPages, Stands, spotFrom};
 ghost use Rattle.metadata.specs.Encoding.{encode};
 ghost use Rattle.metadata.specs.Decoding.{decode};
 ghost use Rattle.steps.specs.Lent.{Lent, ZoneHere};
@@ -25,7 +25,7 @@ ghost use Rattle.steps.specs.Moves.{fronted, unlisted, spared, rezoned, 
 ghost use Rattle.model.specs.Numbers.{zonePages, mostGroup, classCount, mostPages};
 use header::Front;
 use model::numbers::HEADER_WORDS;
-use pages::Found;
+use pages::Choice;
 use pages::Spot;
 use zone::layout::WORDS as ZONE_WORDS;
 
@@ -235,20 +235,20 @@ pub fn find_segment(words: &[u32], n: usize, page: usize) -> Spot
     pages::find::find_segment(&words[HEADER_WORDS..], n, page)
 }
 
-// The first free run, in ascending order, that has `need` pages.
-pub fn find_run(words: &[u32], n: usize, need: usize) -> Found
+// The first free run, in ascending order, that has `need` pages, and how many runs were looked at.
+pub fn find_run(words: &[u32], n: usize, need: usize) -> Choice
     requires { ⌜ Lent (now words) × (n ≡ total (decode (now words) .segments)) ⌝ }
-    ensures { λ r. ⌜ r ≡ found (claim need (decode (now (words .entry)) .segments)) ⌝ }
+    ensures { λ r. ⌜ r ≡ choice (claim need (decode (now (words .entry)) .segments)) ⌝ }
 {
     pages::find::find_run(&words[HEADER_WORDS..], n, need)
 }
 
-// Whether trim would leave a run of `need` pages. Nothing is written.
-pub fn fits_trimmed(words: &[u32], n: usize, need: usize) -> bool
-    requires { ⌜ Lent (now words) × (n ≡ total (decode (now words) .segments)) × (0 < need) ⌝ }
-    ensures { λ r. ⌜ r ≡ hasRun need (trimmed (decode (now (words .entry))) .segments) ⌝ }
+// The same among the runs that trim would leave. Nothing is written.
+pub fn find_trimmed(words: &[u32], n: usize, need: usize) -> Choice
+    requires { ⌜ Lent (now words) × (n ≡ total (decode (now words) .segments)) ⌝ }
+    ensures { λ r. ⌜ r ≡ choice (claim need (trimmed (decode (now (words .entry))) .segments)) ⌝ }
 {
-    pages::find::fits_trimmed(&words[HEADER_WORDS..], n, need)
+    pages::find::find_trimmed(&words[HEADER_WORDS..], n, need)
 }
 
 // The run at page `at` gives its low `need` pages to a direct block of the group.

@@ -3,8 +3,8 @@
 use mathlib.Core.Path.{_≡_, refl}
 use mathlib.Core.List.{[], _∷_, map}
 use Rattle.model.specs.declared.Operation.the-variants.{Allocate, Free, Reset}
-use Rattle.model.specs.declared.Refusal.the-variants.{OtherGroup}
-use Rattle.model.specs.declared.Answer.the-variants.{Granted, Refused, Done, Counted, Block}
+use Rattle.model.specs.declared.Refusal.the-variants.{NoRoom, OtherGroup}
+use Rattle.model.specs.declared.Answer.the-variants.{Granted, Denied, Refused, Done, Counted, Block}
 use Rattle.model.specs.Ascii.{ascii}
 use Rattle.model.specs.Text.{digits, decimal, line}
 use Rattle.text.specs.Writing.{named}
@@ -26,8 +26,8 @@ bad-lines : map lineOf (ascii "" ∷ ascii " t" ∷ ascii "q  1 8" ∷ ascii "t 
 unfolding ascii lineOf lineWith bareLine lineOfOne lineOfTwo numbersAt firstOf secondAt secondOf numberAt numberOf leading value unpadded
 bad-lines = refl
 
-answers : map answerText (Done ∷ Granted 104 ∷ Refused OtherGroup ∷ Counted 1 ∷ Block 2 104 ∷ [])
-    ≡ ascii "ok\n" ∷ ascii "at 104\n" ∷ ascii "no 8\n" ∷ ascii "ok 1\n" ∷ ascii "2 104\n" ∷ []
+answers : map answerText (Done ∷ Granted 104 7 ∷ Denied NoRoom 7 ∷ Refused OtherGroup ∷ Counted 1 ∷ Block 2 104 ∷ [])
+    ≡ ascii "ok\n" ∷ ascii "at 104\n" ∷ ascii "no 6\n" ∷ ascii "no 8\n" ∷ ascii "ok 1\n" ∷ ascii "2 104\n" ∷ []
 unfolding answerText named line decimal digits ascii
 answers = refl
 

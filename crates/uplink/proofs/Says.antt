@@ -10,7 +10,7 @@ use Rattle.lemmas.specs.Every.{every}
 use Rattle.lemmas.proofs.Cases.{and-both}
 use Rattle.model.specs.declared.Refusal.{Refusal}
 use Rattle.model.specs.declared.Answer.{Answer}
-use Rattle.model.specs.declared.Answer.the-variants.{Granted, Refused, Done, Counted, Block}
+use Rattle.model.specs.declared.Answer.the-variants.{Granted, Denied, Refused, Done, Counted, Block}
 use Rattle.model.specs.Ascii.{ascii}
 use Rattle.model.specs.Text.{line}
 use Rattle.model.specs.Calls.{number}
@@ -41,17 +41,21 @@ module _ {l m : List ℕ} {at r : ℕ} where
 -- ---- the text of each kind of answer
 
 module _ {a : Answer} {n : ℕ} where
-  pub says-granted : {o : ℕ} → a ≡ Granted o → n ≡ o → named (ascii "at") n ≡ answerText a
+  pub says-granted : {o k : ℕ} → a ≡ Granted o k → n ≡ o → named (ascii "at") n ≡ answerText a
   unfolding answerText
   says-granted e q = cc
-
-  pub says-refused : {k : Refusal} → a ≡ Refused k → n ≡ number k → named (ascii "no") n ≡ answerText a
-  unfolding answerText
-  says-refused e q = cc
 
   pub says-counted : {k : ℕ} → a ≡ Counted k → n ≡ k → named (ascii "ok") n ≡ answerText a
   unfolding answerText
   says-counted e q = cc
+
+pub says-denied : {a : Answer} {k : Refusal} {n : ℕ} → a ≡ Denied k n → named (ascii "no") (number k) ≡ answerText a
+unfolding answerText
+says-denied e = ap answerText (sym e)
+
+pub says-refused : {a : Answer} {k : Refusal} → a ≡ Refused k → named (ascii "no") (number k) ≡ answerText a
+unfolding answerText
+says-refused e = ap answerText (sym e)
 
 pub says-done : {a : Answer} → a ≡ Done → ascii "ok\n" ≡ answerText a
 unfolding answerText

@@ -22,11 +22,6 @@ listed c = c .before .before .before .before
 find-pages-requires : tie.Need-find-pages-requires
 find-pages-requires c κs = (c .before .before .pre .0 .good, omega arith)
 
-returns : tie.Need-returns
-returns c =
-    let f = c .before .before .before .before in
-    let h = start f .pre in no-zone (h .0) (h .1 .0) (h .1 .1) (c .enum-told .given .1) (f .find-pages .ensures)
-
 take-zone-requires : tie.Need-take-zone-requires
 take-zone-requires c κs =
     let a = c .before .before in
@@ -55,15 +50,15 @@ list-front-requires c κs =
     let e = t .take-zone .ensures in
     (lent (open-words (h .0) (h .1 .0) (h .1 .1) k s e), (omega (arith, h .0 .class), open-page (h .0) (h .1 .0) (h .1 .1) k s, open-room (h .0) (h .1 .0) (h .1 .1) k s e))
 
-mul-t17 : tie.Need-mul-t17
-mul-t17 c =
+mul-t19 : tie.Need-mul-t19
+mul-t19 c =
     let a = taken (listed (c .before .before)) in
     let f = searched a in
     let h = start f .pre in
     let p = open-page (h .0) (h .1 .0) (h .1 .1) (a .at .given .1) (f .find-pages .ensures) in omega arith
 
-returns-2 : tie.Need-returns-2
-returns-2 c =
+returns : tie.Need-returns
+returns c =
     let l = c .before .before in
     let t = listed l in
     let a = taken t in
@@ -73,18 +68,23 @@ returns-2 c =
     let s = f .find-pages .ensures in
     (open-answer (h .0) (h .1 .0) (h .1 .1) k s, opened-words (h .0) (h .1 .0) (h .1 .1) k s (t .take-zone .ensures) (l .list-front .ensures))
 
+returns-2 : tie.Need-returns-2
+returns-2 c =
+    let f : tie.After-find-pages = c .before .before .before .before .before in
+    let h = start f .pre in no-zone (h .0) (h .1 .0) (h .1 .1) (c .before .looked .given .1) (f .find-pages .ensures)
+
 pub open-zone-spec : {M : Type 1} → statement M
 open-zone-spec =
     tie.close
     (tie.spec
     find-pages-requires
     (λ c. omega arith)
-    (λ c. omega arith)
-    (λ c. search needs)
-    returns
     take-zone-requires
     cast-start
     list-front-requires
-    mul-t17
+    mul-t19
+    (λ c. omega arith)
+    (λ c. search needs)
+    returns
     (λ c. search needs)
     returns-2)

@@ -7,20 +7,26 @@ use Rattle.capi.proofs.take_apart.Statement.{statement}
 use Rattle.capi.proofs.take_apart.Tie as tie
 
 returns : tie.Need-returns
-returns c = c .valued .ensures ∙ sym (ap toldOf (c .before .before .answer .given .1))
+returns c = c .paired .ensures ∙ sym (ap toldOf (c .before .before .answer .given .1))
 
 returns-2 : tie.Need-returns-2
 returns-2 c =
-    c .bare .ensures ∙ (λ i. record { refusal = c .before .number .ensures i; some = false; first = 0; both = false; second = 0 }) ∙ sym (ap toldOf (c .before .before .before .answer2 .given .1))
+    let v = c .valued .ensures in
+    let n = c .before .number .ensures in
+    let a = ap toldOf (c .before .before .before .answer2 .given .1) in cc
 
 returns-3 : tie.Need-returns-3
-returns-3 c = c .bare2 .ensures ∙ sym (ap toldOf (c .before .enum-told .given .1))
+returns-3 c =
+    c .bare .ensures ∙ (λ i. record { refusal = c .before .number2 .ensures i; some = false; first = 0; both = false; second = 0 }) ∙ sym (ap toldOf (c .before .before .before .answer3 .given .1))
 
 returns-4 : tie.Need-returns-4
-returns-4 c = c .valued2 .ensures ∙ sym (ap toldOf (c .before .before .answer3 .given .1))
+returns-4 c = c .bare2 .ensures ∙ sym (ap toldOf (c .before .enum-told .given .1))
 
 returns-5 : tie.Need-returns-5
-returns-5 c = sym (ap toldOf (c .before .answer4 .given .1))
+returns-5 c = c .valued2 .ensures ∙ sym (ap toldOf (c .before .before .answer4 .given .1))
+
+returns-6 : tie.Need-returns-6
+returns-6 c = c .paired2 .ensures ∙ sym (ap toldOf (c .before .before .answer5 .given .1))
 
 pub take-apart-spec : {M : Type 1} → statement M
 take-apart-spec =
@@ -36,8 +42,13 @@ take-apart-spec =
     (λ c. omega arith)
     (λ c. omega arith)
     (λ c. omega arith)
+    (λ c. omega arith)
+    (λ c. omega arith)
+    (λ c. omega arith)
+    (λ c. omega arith)
     returns
     returns-2
     returns-3
     returns-4
-    returns-5)
+    returns-5
+    returns-6)

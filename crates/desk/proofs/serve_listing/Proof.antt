@@ -21,11 +21,12 @@ abbrev listed : tie.After-slice-known4 → tie.After-listing
 listed c = c .before .before .before .before
 
 -- The arms that bind no count are those of the other kinds of answer.
-not-counted : (k : ℕ) → OneOf (0 ∷ 1 ∷ 2 ∷ 4 ∷ []) (tagOf answer.the-type (Counted k)) → ⊥
+not-counted : (k : ℕ) → OneOf (0 ∷ 1 ∷ 2 ∷ 3 ∷ 5 ∷ []) (tagOf answer.the-type (Counted k)) → ⊥
 not-counted k (inl e) = omega (arith, e)
 not-counted k (inr (inl e)) = omega (arith, e)
 not-counted k (inr (inr (inl e))) = omega (arith, e)
-not-counted k (inr (inr (inr e))) = omega (arith, e)
+not-counted k (inr (inr (inr (inl e)))) = omega (arith, e)
+not-counted k (inr (inr (inr (inr e)))) = omega (arith, e)
 
 returns : tie.Need-returns
 returns c =
@@ -42,7 +43,7 @@ returns-2 c =
     let e = l .listing .ensures in (
       e .1 .0 ∙ listing-unchanged _ _,
       listing-refused (s .args .meta .now) (s .args .out .now) (e .0, e .1 .1)
-          (λ k q. not-counted k (subst (λ a. OneOf (0 ∷ 1 ∷ 2 ∷ 4 ∷ []) (tagOf answer.the-type a)) q (m .match .keys2))) (c .before .before .put-answer .ensures),
+          (λ k q. not-counted k (subst (λ a. OneOf (0 ∷ 1 ∷ 2 ∷ 3 ∷ 5 ∷ []) (tagOf answer.the-type a)) q (m .match .keys2))) (c .before .before .put-answer .ensures),
     )
 
 pub serve-listing-spec : {M : Type 1} → statement M

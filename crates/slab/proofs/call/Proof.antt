@@ -1,5 +1,7 @@
 -- `call` meets its contract. Assumes nothing.
+use mathlib.Core.Path.{_∙_}
 use native.Mathlib.Omega.{arith}
+use Rattle.model.specs.Calls.{group}
 use Rattle.slab.proofs.Acting.{refused-answer, refused-words, arena-of, same-call}
 use Rattle.slab.proofs.call.Statement.{statement}
 use Rattle.slab.proofs.call.Tie as tie
@@ -21,7 +23,11 @@ abbrev start : tie.After-arena-pages → tie.Start
 start c = c .before .before .before
 
 returns : tie.Need-returns
-returns c = (refused-answer _ _ (c .before .arena-pages .ensures) (c .if1 .taken) _, refused-words _ _ (c .before .arena-pages .ensures) (c .if1 .taken) _)
+returns c =
+    let t : tie.Then1 = c .before in
+    let a : tie.After-arena-pages = t .before in
+    let q = group (start a .args .call) in
+    (c .no-state .ensures ∙ refused-answer _ _ (a .arena-pages .ensures) (t .if1 .taken) q, refused-words _ _ (a .arena-pages .ensures) (t .if1 .taken) q)
 
 allocate-in-requires : tie.Need-allocate-in-requires
 allocate-in-requires c κs =
@@ -63,6 +69,7 @@ pub call-spec : {M : Type 1} → statement M
 call-spec =
     tie.close
     (tie.spec
+    (λ c. omega arith)
     (λ c. omega arith)
     (λ c. omega arith)
     returns

@@ -2,7 +2,7 @@
 use native.Mathlib.Omega.{arith}
 use mathlib.Core.Path.{_≡_}
 use Rattle.steps.proofs.Body.{has-header, body-holds, of-body}
-use Rattle.pages.specs.Places.{found}
+use Rattle.pages.specs.Places.{choice}
 use Rattle.model.specs.Pages.{claim}
 use Rattle.steps.proofs.find_run.Statement.{statement}
 use Rattle.steps.proofs.find_run.Tie as tie
@@ -17,7 +17,7 @@ find-run-requires : tie.Need-find-run-requires
 find-run-requires c κs = let h = c .before .before .pre in body-holds (h .0) _ (h .1)
 
 returns : tie.Need-returns
-returns c = let s = c .before .before .before in of-body (s .pre .0) (λ m. c .find-run .result ≡ found (claim (s .args .need) m)) (c .find-run .ensures)
+returns c = let s = c .before .before .before in of-body (s .pre .0) (λ m. c .find-run .result ≡ choice (claim (s .args .need) m)) (c .find-run .ensures)
 
 pub find-run-spec : {M : Type 1} → statement M
 find-run-spec =

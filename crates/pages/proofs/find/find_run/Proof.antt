@@ -8,10 +8,10 @@ use Rattle.pages.proofs.find.find_run.Statement.{statement}
 use Rattle.pages.proofs.find.find_run.Tie as tie
 
 abbrev Inv-loop : tie.InvT-loop
-Inv-loop words n need p₀ p = Searching words n need p
+Inv-loop words n need p₀ looked₀ p looked = Searching words n need p looked
 
 abbrev μ-loop : tie.MeasureT-loop
-μ-loop words n need p₀ p = n - p
+μ-loop words n need p₀ looked₀ p looked = n - p
 
 -- The places: a turn, its next run asked for, and the run bound.
 abbrev turn : tie.After-next-run Inv-loop μ-loop → tie.At-loop Inv-loop μ-loop
@@ -20,14 +20,17 @@ turn c = c .before
 abbrev asked : tie.After-known-told Inv-loop μ-loop → tie.After-next-run Inv-loop μ-loop
 asked c = c .before .before .before
 
-next-is : (c : tie.After-next-run Inv-loop μ-loop) → c .next-run .result ≡ found (firstRun (turn c .loop .p) (turn c .loop .inv .1 .left))
-next-is c = c .next-run .ensures _ _ (turn c .loop .inv .1 .passed)
+next-is : (c : tie.After-next-run Inv-loop μ-loop) → c .next-run .result ≡ found (firstRun (turn c .loop .p) (turn c .loop .inv .walk .left))
+next-is c = c .next-run .ensures _ _ (turn c .loop .inv .walk .passed)
 
 loop-holds : tie.Need-loop-holds Inv-loop μ-loop
 loop-holds c = search-start _ _ _ (c .before .pre)
 
 next-run-requires : tie.Need-next-run-requires Inv-loop μ-loop
-next-run-requires c κs = let i = c .loop .inv in (c .before .before .pre, (i .0, i .1 .left, i .1 .passed))
+next-run-requires c κs = let i = c .loop .inv in (c .before .before .pre, (i .behind, i .walk .left, i .walk .passed))
+
+add-looked : tie.Need-add-looked Inv-loop μ-loop
+add-looked c = let a = asked c in let i = turn a .loop .inv in let r = run-inside i (next-is a) (c .before .at .given .1) in omega (arith, i .few)
 
 add-p : tie.Need-add-p Inv-loop μ-loop
 add-p c = let a = asked (c .before) in let r = run-inside (turn a .loop .inv) (next-is a) (c .before .before .at .given .1) in omega arith
@@ -54,6 +57,7 @@ find-run-spec =
     next-run-requires
     (λ c. omega arith)
     (λ c. omega arith)
+    add-looked
     add-p
     loop-less
     loop-again

@@ -1,0 +1,87 @@
+-- How far a request looks: the count that its answer has, and that one search looks at no more runs than half of the pages, rounded up, and
+-- a request at no more than twice that. Assumes nothing.
+use Prim.Native.Nat.{ℕ, _*_, _≤_, _<_}
+use mathlib.Core.Path.{_≡_, refl, sym, ap, subst}
+use mathlib.Core.List.{List, [], _∷_}
+use mathlib.Core.Option.{Option, none, some}
+use mathlib.Core.Bool.{Bool, true, false, cond, _&&_}
+use native.Mathlib.Omega.{arith}
+use lib.Dec.{ltb}
+use Rattle.lemmas.proofs.Cases.{bool}
+use Rattle.model.specs.Numbers.{zonePages, largeSize}
+use Rattle.model.specs.Sizes.{classOf, pagesFor}
+use Rattle.model.specs.Arena.{Segment, run, direct, zone, pages, total, Each}
+use Rattle.model.specs.Zone.{Zone}
+use Rattle.model.specs.State.{State, listOf}
+use Rattle.model.specs.PageMap.{idleZone}
+use Rattle.model.specs.Pages.{FreeRun, claim, mostLooked}
+use Rattle.model.specs.Valid.{Apart, ValidSegment, Valid}
+use Rattle.model.specs.Trim.{trimmed}
+use Rattle.model.specs.Calls.{lookedOf, groupOk, sizeOk}
+use Rattle.model.specs.Allocate.{Source, searched, sought, directFrom, zoneFrom, fromSpare, chunkFrom, supplied, zoneNeeded, needed, looksFor, allocate}
+use Rattle.model.proofs.Claim.{claim-bounded}
+use Rattle.model.proofs.Joins.{total-joined}
+use Rattle.model.proofs.Sought.{sought-first, sought-second}
+use Rattle.model.proofs.ValidTrim.{trimmed-valid}
+
+-- The count --------------------------------------------------------------------------------------------------------------
+
+module _ (s : State) where
+  direct-counted : (n g k : ℕ) (o : Option Source) → lookedOf ((directFrom n g s k o) .answer) ≡ some k
+  direct-counted n g k none = refl
+  direct-counted n g k (some f) = refl
+
+  zone-counted : (c g k : ℕ) (o : Option Source) → lookedOf ((zoneFrom c g s k o) .answer) ≡ some k
+  zone-counted c g k none = refl
+  zone-counted c g k (some f) = refl
+
+  chunk-counted : (c g : ℕ) (l q : List ℕ) → s .spare ≡ q → lookedOf ((chunkFrom c g s l) .answer) ≡ some (looksFor (zoneNeeded l q) s)
+  chunk-counted c g [] [] e = subst (λ z. lookedOf ((fromSpare c g s z) .answer) ≡ some (looksFor (zoneNeeded [] []) s)) (sym e) (zone-counted c g (sought zonePages s .looked) (sought zonePages s .chosen))
+  chunk-counted c g [] (p ∷ ps) e = subst (λ z. lookedOf ((fromSpare c g s z) .answer) ≡ some 0) (sym e) refl
+  chunk-counted c g (p ∷ ps) q e = refl
+
+  supplied-counted : (g n : ℕ) → lookedOf ((supplied g n s) .answer) ≡ some (looksFor (needed n s) s)
+  supplied-counted g n = bool (ltb n largeSize)
+      (λ t. rw t (chunk-counted (classOf n) g (listOf s (classOf n)) (s .spare) refl))
+      (λ t. rw t (direct-counted (pagesFor n) g (sought (pagesFor n) s .looked) (sought (pagesFor n) s .chosen)))
+
+  -- Every answer to a request has a count: that of the searches for the pages that it needs; 0 where it needs none, and where its group
+  -- or size is not legal.
+  pub counted : (g n : ℕ) → lookedOf ((allocate g n s) .answer) ≡ some (cond (groupOk g && sizeOk n) (looksFor (needed n s) s) 0)
+  counted g n = bool (groupOk g)
+      (λ t. bool (sizeOk n) (λ u. rw (t, u) (supplied-counted g n)) (λ u. rw (t, u)))
+      (λ t. rw t)
+
+-- The bounds -------------------------------------------------------------------------------------------------------------
+
+sized : (b : Bool) (m : List (Segment Zone)) → Apart b m → Each ValidSegment m → Each (λ x. 0 < pages x) m
+sized b [] a v = tt
+sized b (run n ∷ r) a v = (a .1, sized true r (a .2) (v .1))
+sized b (direct n g ∷ r) a v = (v .0 .0, sized false r a (v .1))
+sized b (zone z ∷ r) a v = (omega arith, sized false r a (v .1))
+
+module _ (s : State) (v : Valid s) where
+  -- One search.
+  pub search-bounded : (n : ℕ) → searched n s .looked ≤ mostLooked (total (s .segments))
+  search-bounded n = claim-bounded n (s .segments) (v .apart, sized false (s .segments) (v .apart) (v .sound))
+
+module _ (s : State) (v : Valid s) where
+  -- The second one goes through as many pages.
+  pub second-bounded : (n : ℕ) → searched n (trimmed s) .looked ≤ mostLooked (total (s .segments))
+  second-bounded n = omega (arith, search-bounded (trimmed s) (trimmed-valid s v) n, total-joined idleZone 0 (s .segments))
+
+  -- Both.
+  pub sought-bounded : (n : ℕ) → sought n s .looked ≤ 2 * mostLooked (total (s .segments))
+  sought-bounded n = go (claim n (s .segments) .chosen) refl
+    where
+      go : (h : Option FreeRun) → claim n (s .segments) .chosen ≡ h → sought n s .looked ≤ 2 * mostLooked (total (s .segments))
+      go none c = omega (arith, ap (λ l. l .looked) (sought-second n s c), search-bounded s v n, second-bounded n)
+      go (some h) c = omega (arith, ap (λ l. l .looked) (sought-first n s h c), search-bounded s v n)
+
+  looks-bounded : (o : Option ℕ) → looksFor o s ≤ 2 * mostLooked (total (s .segments))
+  looks-bounded none = omega arith
+  looks-bounded (some k) = sought-bounded k
+
+  -- A request.
+  pub request-bounded : (g n : ℕ) → (k : ℕ) × (lookedOf ((allocate g n s) .answer) ≡ some k) × (k ≤ 2 * mostLooked (total (s .segments)))
+  request-bounded g n = (cond (groupOk g && sizeOk n) (looksFor (needed n s) s) 0, counted s g n, bool (groupOk g && sizeOk n) (λ t. rw t (looks-bounded (needed n s))) (λ t. rw t (omega arith)))
