@@ -127,12 +127,12 @@ module _ {w : List ℕ} {n c g : ℕ} (h : Asked w n c g) (empty : frontOf (list
     -- There are none.
     pub no-zone : {v : List ℕ} {r : Choice} {j : ℕ} → r ≡ Missed j → Finds s (sought zonePages s) r v → Makes (chunkFrom c g s (listOf s c)) (Denied NoRoom j) v
     no-zone told e =
-        let rule = zone-rule ∙ ap (λ l. zoneFrom c g s (l .looked) (l .chosen)) (none-sought (h .good) some-pages told e) in
-        (ap (λ o. o .answer) (sym rule), none-words (h .good) some-pages told e ∙ ap (λ o. encode (o .after)) (sym rule))
+        let rule = zone-rule ∙ ap (λ l. zoneFrom c g s (l .looked) (l .chosen)) (none-sought (h .good) zonePages told e) in
+        (ap (λ o. o .answer) (sym rule), none-words (h .good) zonePages told e ∙ ap (λ o. encode (o .after)) (sym rule))
 
     module _ {v : List ℕ} {r : Choice} {p k j : ℕ} (told : r ≡ Chosen p k j) (e : Finds s (sought zonePages s) r v) where
-      from : Sourced (h .good) some-pages v p k j
-      from = sourced (h .good) some-pages told e
+      from : Sourced (h .good) zonePages v p k j
+      from = sourced (h .good) zonePages told e
 
       abbrev t : State
       t = decode v

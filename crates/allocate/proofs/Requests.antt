@@ -56,11 +56,11 @@ module _ {w : List ℕ} {n need : ℕ} (h : Good w n) (pos : 0 < need) (g : ℕ)
   s = decode w
 
   pub no-pages : {v : List ℕ} {r : Choice} {j : ℕ} → r ≡ Missed j → Finds s (sought need s) r v → Makes (wholePages need g s) (Denied NoRoom j) v
-  no-pages told e = made (ap (λ l. directFrom need g s (l .looked) (l .chosen)) (sym (none-sought h pos told e))) (refl, none-words h pos told e)
+  no-pages told e = made (ap (λ l. directFrom need g s (l .looked) (l .chosen)) (sym (none-sought h need told e))) (refl, none-words h need told e)
 
   module _ {v : List ℕ} {r : Choice} {p k j : ℕ} (told : r ≡ Chosen p k j) (e : Finds s (sought need s) r v) where
-    from : Sourced h pos v p k j
-    from = sourced h pos told e
+    from : Sourced h need v p k j
+    from = sourced h need told e
 
     pub pages-good : Good v n
     pages-good = from .good

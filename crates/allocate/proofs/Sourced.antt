@@ -1,5 +1,5 @@
 -- The two searches for pages on words: what each way through them finds, and what a caller then has. Assumes nothing.
-use Prim.Native.Nat.{ℕ, _+_, _*_, _≤_, _<_}
+use Prim.Native.Nat.{ℕ, _+_, _*_, _≤_}
 use mathlib.Core.Path.{_≡_, refl, sym, ap, _∙_, subst}
 use mathlib.Core.List.{List}
 use mathlib.Core.Option.{Option, none, some, Option·map}
@@ -31,7 +31,7 @@ use Rattle.allocate.proofs.Found.{choice-run, choice-none}
 as-found : (s : State) {l l′ : Search Source} {r : Choice} {w : List ℕ} → l ≡ l′ → Finds s l′ r w → Finds s l r w
 as-found s {r} {w} e k = subst (λ l. Finds s l r w) (sym e) k
 
-module _ {w : List ℕ} {n need : ℕ} (h : Good w n) (pos : 0 < need) where
+module _ {w : List ℕ} {n : ℕ} (h : Good w n) (need : ℕ) where
   abbrev s : State
   s = decode w
 

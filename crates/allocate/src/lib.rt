@@ -3,6 +3,7 @@
 ghost use mathlib.Core.Path.{_≡_};
 ghost use Prim.Native.Nat.{_≤_, _<_};
 ghost use Rattle.model.specs.State.{listOf};
+ghost use Rattle.model.specs.declared.Answer.the-variants.{Granted};
 ghost use Rattle.model.specs.Calls.{sizeOk};
 ghost use Rattle.model.specs.Pages.{claim};
 ghost use Rattle.model.specs.Allocate.{sought, wholePages, chunkFrom, supplied, allocate as allocated};
@@ -29,7 +30,7 @@ use pages::Choice;
 
 // Finds a run of `need` pages, for a direct block or a zone: as the words are or, if there is none, as trim leaves them.
 fn find_pages(words: &mut [u32], n: usize, need: usize) -> Choice
-    requires { ⌜ Good (now words) n × (0 < need) ⌝ }
+    requires { ⌜ Good (now words) n ⌝ }
     ensures { λ r. ⌜ Finds (decode (now (words .entry))) (sought need (decode (now (words .entry)))) r (now (words .exit)) ⌝ }
 {
     match steps::find_run(words, n, need) {
@@ -45,21 +46,23 @@ fn find_pages(words: &mut [u32], n: usize, need: usize) -> Choice
 // The second search, after one that looked at so many runs and found none. It trims only where that gives one, so that nothing has
 // changed where nothing is found.
 fn find_again(words: &mut [u32], n: usize, need: usize, before: u32) -> Choice
-    requires { ⌜ Good (now words) n × (0 < need) × (choice (claim need (decode (now words) .segments)) ≡ Missed before) ⌝ }
+    requires { ⌜ Good (now words) n × (choice (claim need (decode (now words) .segments)) ≡ Missed before) ⌝ }
     ensures { λ r. ⌜ Finds (decode (now (words .entry))) (sought need (decode (now (words .entry)))) r (now (words .exit)) ⌝ }
 {
     match steps::find_trimmed(words, n, need) {
         Choice::Chosen { at, len, looked } => {
             trim::trim_all(words, n);
+            let all = before + looked;
             Choice::Chosen {
                 at: at,
                 len: len,
-                looked: before + looked,
+                looked: all,
             }
         }
-        Choice::Missed { looked } => Choice::Missed {
-            looked: before + looked,
-        },
+        Choice::Missed { looked } => {
+            let both = before + looked;
+            Choice::Missed { looked: both }
+        }
     }
 }
 
@@ -85,6 +88,16 @@ fn supply_pages(words: &mut [u32], n: usize, group: u32, need: usize) -> Answer
 
 // ---- chunks
 
+// A chunk of a zone that stands already: no run was looked at.
+fn granted_at(offset: u32) -> Answer
+    ensures { λ r. ⌜ r ≡ Granted offset 0 ⌝ }
+{
+    Answer::Granted {
+        offset: offset,
+        looked: 0,
+    }
+}
+
 // The zone that stands first on the class's list serves; once its last chunk goes, it leaves the list.
 fn serve(words: &mut [u32], n: usize, class: u32, page: u32, group: u32) -> Answer
     requires { ⌜ Asked (now words) n class group ⌝ }
@@ -95,16 +108,10 @@ fn serve(words: &mut [u32], n: usize, class: u32, page: u32, group: u32) -> Answ
     let chunk = steps::zone_grant(words, at, group);
     let offset = page * PAGE_BYTES + chunk * zone::sizes::room(class);
     if !steps::zone_full(words, at) {
-        return Answer::Granted {
-            offset: offset,
-            looked: 0,
-        };
+        return granted_at(offset);
     }
     steps::list_without(words, class, page);
-    Answer::Granted {
-        offset: offset,
-        looked: 0,
-    }
+    granted_at(offset)
 }
 
 // No zone of the class has a chunk left: the first of the empty list is set up anew.
@@ -116,10 +123,7 @@ fn renew(words: &mut [u32], n: usize, class: u32, page: u32, group: u32) -> Answ
     steps::spare_behind(words);
     steps::zone_renew(words, page as usize, class, group);
     steps::list_front(words, class, page);
-    Answer::Granted {
-        offset: page * PAGE_BYTES,
-        looked: 0,
-    }
+    granted_at(page * PAGE_BYTES)
 }
 
 // The empty list has no zone either: 8 pages are taken from the runs and set up.
@@ -191,16 +195,10 @@ pub fn allocate(words: &mut [u32], n: usize, group: u32, size: u32) -> Answer
     ensures { λ r. ⌜ Makes (allocated group size (decode (now (words .entry)))) r (now (words .exit)) ⌝ }
 {
     if !model::group_ok(group) {
-        return Answer::Denied {
-            refusal: Refusal::BadGroup,
-            looked: 0,
-        };
+        return model::denied_by(Refusal::BadGroup);
     }
     if !size_ok(size) {
-        return Answer::Denied {
-            refusal: Refusal::BadSize,
-            looked: 0,
-        };
+        return model::denied_by(Refusal::BadSize);
     }
     supply(words, n, group, size)
 }

@@ -1,6 +1,7 @@
 // The public types of which the contracts speak, and the little code that every layer shares: numbers, the group test, a refusal's
-// number. The rules themselves are definitions, in specs/.
+// number, a request's refusal. The rules themselves are definitions, in specs/.
 ghost use mathlib.Core.Path.{_≡_};
+ghost use Rattle.model.specs.declared.Answer.the-variants.{Denied};
 ghost use Rattle.model.specs.Calls.{groupOk, number as numberOf};
 
 pub mod numbers;
@@ -58,6 +59,16 @@ pub fn number(refusal: Refusal) -> u32
         Refusal::NoBlock => 7,
         Refusal::OtherGroup => 8,
         Refusal::ShortBuffer => 12,
+    }
+}
+
+// A request's refusal before any search.
+pub fn denied_by(refusal: Refusal) -> Answer
+    ensures { λ r. ⌜ r ≡ Denied refusal 0 ⌝ }
+{
+    Answer::Denied {
+        refusal: refusal,
+        looked: 0,
     }
 }
 

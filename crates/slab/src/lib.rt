@@ -122,10 +122,7 @@ fn no_state(operation: Operation) -> Answer
     ensures { λ r. ⌜ r ≡ toldBy operation refusal.NoState ⌝ }
 {
     match operation {
-        Operation::Allocate(_) => Answer::Denied {
-            refusal: Refusal::NoState,
-            looked: 0,
-        },
+        Operation::Allocate(_) => model::denied_by(Refusal::NoState),
         Operation::Free(_) => Answer::Refused(Refusal::NoState),
         Operation::Reset => Answer::Refused(Refusal::NoState),
     }

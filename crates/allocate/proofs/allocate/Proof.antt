@@ -4,7 +4,7 @@ use Rattle.metadata.specs.Decoding.{decode}
 use Rattle.allocate.proofs.Requests.{made, size-most, bad-group, bad-size, accepted}
 use Rattle.model.proofs.Allocated.{group-least, group-most, size-least}
 use borrow.Author.Tests.{not-true, not-false}
-use mathlib.Core.Path.{refl, sym, _∙_}
+use mathlib.Core.Path.{sym, _∙_}
 use Rattle.allocate.proofs.allocate.Statement.{statement}
 use Rattle.allocate.proofs.allocate.Tie as tie
 
@@ -23,17 +23,20 @@ size-ok c = c .before
 
 returns : tie.Need-returns
 returns c =
-    let a = c .before .before .before .args in
-    made (bad-group (decode (a .words .now)) (a .group) (a .size) (sym (c .before .group-ok .ensures) ∙ not-true _ (c .if1 .taken))) (refl, c .before .before .before .pre .lent .words)
+    let t : tie.Then1 = c .before in
+    let g : tie.After-group-ok = t .before in
+    let a = start g .args in
+    made (bad-group (decode (a .words .now)) (a .group) (a .size) (sym (g .group-ok .ensures) ∙ not-true _ (t .if1 .taken))) (c .denied-by .ensures, start g .pre .lent .words)
 
 returns-2 : tie.Need-returns-2
 returns-2 c =
-    let e = else1 (c .before) in
+    let t : tie.Then2 = c .before in
+    let e = else1 (t .before) in
     let g = group-ok e in
     let s = start g in
     let a = s .args in
-    made (bad-size (decode (a .words .now)) (a .group) (a .size) (sym (g .group-ok .ensures) ∙ not-false _ (e .if1 .left)) (sym (c .before .size-ok .ensures) ∙ not-true _ (c .if2 .taken)))
-    (refl, s .pre .lent .words)
+    made (bad-size (decode (a .words .now)) (a .group) (a .size) (sym (g .group-ok .ensures) ∙ not-false _ (e .if1 .left)) (sym (t .before .size-ok .ensures) ∙ not-true _ (t .if2 .taken)))
+    (c .denied-by2 .ensures, s .pre .lent .words)
 
 supply-requires : tie.Need-supply-requires
 supply-requires c κs =
@@ -62,7 +65,9 @@ allocate-spec =
     tie.close
     (tie.spec
     (λ c. omega arith)
+    (λ c. omega arith)
     returns
+    (λ c. omega arith)
     (λ c. omega arith)
     returns-2
     supply-requires

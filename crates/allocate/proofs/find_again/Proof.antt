@@ -12,30 +12,30 @@ start c = c .before .before .before
 abbrev chosen : tie.After-trim-all → tie.After-at
 chosen c = c .before .before .before
 
-add-t13 : tie.Need-add-t13
-add-t13 c =
+add-all : tie.Need-add-all
+add-all c =
     let a = chosen (c .before .before) in
     let f : tie.After-find-trimmed = a .before .before in
     let h = start f .pre in
-    let k = run-few (h .0) (h .1) (h .2) (f .find-trimmed .ensures) (a .at .given .1) in omega arith
+    let k = run-few (h .0) _ (h .1) (f .find-trimmed .ensures) (a .at .given .1) in omega arith
 
 returns : tie.Need-returns
 returns c =
     let t = c .before .before in
     let a = chosen t in
     let f : tie.After-find-trimmed = a .before .before in
-    let h = start f .pre in second-run (h .0) (h .1) (h .2) (f .find-trimmed .ensures) (a .at .given .1) (t .trim-all .ensures .1)
+    let h = start f .pre in second-run (h .0) _ (h .1) (f .find-trimmed .ensures) (a .at .given .1) (t .trim-all .ensures .1)
 
-add-t16 : tie.Need-add-t16
-add-t16 c =
+add-both : tie.Need-add-both
+add-both c =
     let f : tie.After-find-trimmed = c .before .before .before in
     let h = start f .pre in
-    let k = none-fits (h .0) (h .1) (h .2) (f .find-trimmed .ensures) (c .before .looked .given .1) .1 in omega arith
+    let k = none-fits (h .0) _ (h .1) (f .find-trimmed .ensures) (c .before .looked .given .1) .1 in omega arith
 
 returns-2 : tie.Need-returns-2
 returns-2 c =
     let f : tie.After-find-trimmed = c .before .before .before in
-    let h = start f .pre in none-fits (h .0) (h .1) (h .2) (f .find-trimmed .ensures) (c .before .looked .given .1) .0
+    let h = start f .pre in none-fits (h .0) _ (h .1) (f .find-trimmed .ensures) (c .before .looked .given .1) .0
 
 pub find-again-spec : {M : Type 1} → statement M
 find-again-spec =
@@ -44,9 +44,9 @@ find-again-spec =
     (λ c κs. search needs)
     (λ c. omega arith)
     (λ c κs. search needs)
-    add-t13
+    add-all
     (λ c. omega arith)
-    add-t16
+    add-both
     (λ c. search needs)
     returns
     (λ c. search needs)

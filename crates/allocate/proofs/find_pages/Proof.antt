@@ -13,12 +13,12 @@ start c = c .before .before .before
 find-again-requires : tie.Need-find-again-requires
 find-again-requires c κs =
     let f : tie.After-find-run = c .before .before .before .before in
-    let h = start f .pre in (h .0, h .1, sym (f .find-run .ensures) ∙ c .before .before .looked .given .1)
+    (start f .pre, sym (f .find-run .ensures) ∙ c .before .before .looked .given .1)
 
 returns : tie.Need-returns
 returns c =
     let f : tie.After-find-run = c .before .before .before in
-    let h = start f .pre in first-run (h .0) (h .1) (f .find-run .ensures) (c .before .at .given .1)
+    first-run (start f .pre) _ (f .find-run .ensures) (c .before .at .given .1)
 
 pub find-pages-spec : {M : Type 1} → statement M
 find-pages-spec =

@@ -20,7 +20,7 @@ abbrev listed : tie.After-list-front → tie.After-take-zone
 listed c = c .before .before .before .before
 
 find-pages-requires : tie.Need-find-pages-requires
-find-pages-requires c κs = (c .before .before .pre .0 .good, omega arith)
+find-pages-requires c κs = c .before .before .pre .0 .good
 
 take-zone-requires : tie.Need-take-zone-requires
 take-zone-requires c κs =

@@ -1,6 +1,7 @@
 -- `renew` meets its contract. Assumes nothing.
 use Rattle.allocate.proofs.Opened.{renew-page, renew-answer, behind-words, behind-zone, renewed-words, renewed-room, renewed}
 use Rattle.steps.proofs.Lent.{lent}
+use mathlib.Core.Path.{_∙_}
 use native.Mathlib.Omega.{arith}
 use Rattle.allocate.proofs.renew.Statement.{statement}
 use Rattle.allocate.proofs.renew.Tie as tie
@@ -31,17 +32,18 @@ list-front-requires c κs =
     let f = z .zone-renew .ensures in
     (lent (renewed-words (h .0) (h .1 .0) (h .1 .1) e f), (omega (arith, h .0 .class), renew-page (h .0) (h .1 .0) (h .1 .1), renewed-room (h .0) (h .1 .0) (h .1 .1) e f))
 
-mul-t14 : tie.Need-mul-t14
-mul-t14 c =
+mul-granted-at : tie.Need-mul-granted-at
+mul-granted-at c =
     let s = start (spare-behind (c .before .before .before .before .before .before)) in
     let h = s .pre in let k = renew-page (h .0) (h .1 .0) (h .1 .1) in omega arith
 
 returns : tie.Need-returns
 returns c =
-    let z = c .before .before .before .before .before .before in
+    let l : tie.After-list-front = c .before .before .before in
+    let z = l .before .before .before .before in
     let s = spare-behind z in
     let s₁ = start s in
-    let h = s₁ .pre in (renew-answer (h .0) (h .1 .0) (h .1 .1), renewed (h .0) (h .1 .0) (h .1 .1) (s .spare-behind .ensures) (z .zone-renew .ensures) (c .before .before .list-front .ensures))
+    let h = s₁ .pre in (c .granted-at .ensures ∙ renew-answer (h .0) (h .1 .0) (h .1 .1), renewed (h .0) (h .1 .0) (h .1 .1) (s .spare-behind .ensures) (z .zone-renew .ensures) (l .list-front .ensures))
 
 pub renew-spec : {M : Type 1} → statement M
 renew-spec =
@@ -50,6 +52,7 @@ renew-spec =
     spare-behind-requires
     zone-renew-requires
     list-front-requires
-    mul-t14
+    mul-granted-at
+    (λ c. omega arith)
     (λ c. omega arith)
     returns)

@@ -2,6 +2,7 @@
 use Rattle.allocate.proofs.Served.{serve-page, serve-zone, serve-open, serve-inside, serve-answer, granted-words, granted-zone, stays, leaves}
 use Rattle.steps.proofs.Lent.{lent}
 use borrow.Author.Tests.{not-true, not-false}
+use mathlib.Core.Path.{_∙_}
 use native.Mathlib.Omega.{arith}
 use Rattle.allocate.proofs.serve.Statement.{statement}
 use Rattle.allocate.proofs.serve.Tie as tie
@@ -47,10 +48,11 @@ zone-full-requires c κs =
 
 returns : tie.Need-returns
 returns c =
-    let r = room (c .before) in
+    let t : tie.Then1 = c .before in
+    let r = room (t .before) in
     let z = zone-grant r in
     let s = start z in
-    let h = s .pre in let e = z .zone-grant .ensures in (serve-answer (h .0) (h .1) (e .0) (r .room .ensures), stays (h .0) (h .1) (e .1) (c .before .zone-full .ensures) (not-true _ (c .if1 .taken)))
+    let h = s .pre in let e = z .zone-grant .ensures in (c .granted-at .ensures ∙ serve-answer (h .0) (h .1) (e .0) (r .room .ensures), stays (h .0) (h .1) (e .1) (t .before .zone-full .ensures) (not-true _ (t .if1 .taken)))
 
 list-without-requires : tie.Need-list-without-requires
 list-without-requires c κs =
@@ -60,14 +62,15 @@ list-without-requires c κs =
 
 returns-2 : tie.Need-returns-2
 returns-2 c =
-    let e₁ = c .before .before .before .before in
+    let l : tie.After-list-without = c .before .before .before in
+    let e₁ = l .before .before in
     let z = zone-full e₁ in
     let r = room z in
     let z₁ = zone-grant r in
     let s = start z₁ in
     let h = s .pre in
     let e = z₁ .zone-grant .ensures in
-    (serve-answer (h .0) (h .1) (e .0) (r .room .ensures), leaves (h .0) (h .1) (e .1) (z .zone-full .ensures) (not-false _ (e₁ .if1 .left)) (c .before .before .list-without .ensures))
+    (c .granted-at2 .ensures ∙ serve-answer (h .0) (h .1) (e .0) (r .room .ensures), leaves (h .0) (h .1) (e .1) (z .zone-full .ensures) (not-false _ (e₁ .if1 .left)) (l .list-without .ensures))
 
 pub serve-spec : {M : Type 1} → statement M
 serve-spec =
@@ -80,7 +83,9 @@ serve-spec =
     add-offset
     zone-full-requires
     (λ c. omega arith)
+    (λ c. omega arith)
     returns
     list-without-requires
+    (λ c. omega arith)
     (λ c. omega arith)
     returns-2)
