@@ -1,5 +1,6 @@
 //! Live blocks, direct or chunk: made, found by their offset, and ended.
 
+use crate::pages::Taken;
 use crate::sizes::{need, Need, PAGE_BYTES, ZONE_PAGES};
 use crate::state::{DirectBlock, Group, Page, State, Zone};
 
@@ -38,17 +39,15 @@ impl State {
 
     /// Grants a block of a legal size to a legal group and answers its
     /// offset; `None`, and no change, where refusal 6 is due.
-    pub(crate) fn take_block(&mut self, group: Group, size: u32) -> Option<u32> {
+    pub(crate) fn take_block(&mut self, group: Group, size: u32) -> Taken<u32> {
         match need(size) {
-            Need::Chunk { class } => {
-                let (zone, chunk) = self.take_chunk(class, group)?;
-                Some(chunk_offset(zone, &self.zones[&zone], chunk))
-            }
-            Need::Pages { pages } => {
-                let start = self.take_pages(pages)?;
+            Need::Chunk { class } => self
+                .take_chunk(class, group)
+                .map(|(zone, chunk)| chunk_offset(zone, &self.zones[&zone], chunk)),
+            Need::Pages { pages } => self.take_pages(pages).map(|start| {
                 self.direct.insert(start, DirectBlock { pages, group });
-                Some(start * PAGE_BYTES)
-            }
+                start * PAGE_BYTES
+            }),
         }
     }
 

@@ -1,7 +1,9 @@
-//! Document 01's "Calls" and "Numbers for no": what each call answers, in the
+//! Document 01's "Calls" and "Numbers for no", with the count that document
+//! 02's request b) adds to a request's answer: what each call answers, in the
 //! order in which the refusals are tested.
 
 use crate::listing;
+use crate::pages::Taken;
 use crate::sizes::{words_needed, GROUPS, MAX_PAGES, MAX_SIZE};
 use crate::state::{Group, State};
 use crate::validity::is_valid;
@@ -30,6 +32,18 @@ pub enum Refusal {
 }
 
 impl Refusal {
+    pub const ALL: [Refusal; 9] = [
+        Refusal::PageCount,
+        Refusal::TooFewWords,
+        Refusal::NoLegalState,
+        Refusal::Group,
+        Refusal::Size,
+        Refusal::NoRun,
+        Refusal::NoBlock,
+        Refusal::OtherGroup,
+        Refusal::ShortBuffer,
+    ];
+
     /// Document 01's number for it.
     pub fn number(self) -> u32 {
         match self {
@@ -61,8 +75,11 @@ pub enum Call {
 /// What a call answers.
 #[derive(Clone, Debug, PartialEq, Eq)]
 pub enum Answer {
-    /// A grant with its offset.
-    Granted { offset: u32 },
+    /// A grant with its offset, and the runs that the request looked at.
+    Granted { offset: u32, looked: u32 },
+    /// A request's refusal, with nothing changed, and the runs that it looked
+    /// at before.
+    Denied { refusal: Refusal, looked: u32 },
     /// Done, no count being named.
     Done,
     /// Done, with the count of blocks that a reset returned or of zones that
@@ -72,8 +89,49 @@ pub enum Answer {
     Held { group: u32, room: u32 },
     /// The listing's text; the call's own answer is its length.
     Listed(String),
-    /// A refusal, with nothing changed.
+    /// The refusal of a call that is no request, with nothing changed.
     Refused(Refusal),
+}
+
+impl Answer {
+    /// Why the call was refused, if it was, be it a request or another.
+    pub fn refusal(&self) -> Option<Refusal> {
+        match *self {
+            Answer::Denied { refusal, .. } | Answer::Refused(refusal) => Some(refusal),
+            _ => None,
+        }
+    }
+
+    /// Document 01's number of the refusal, and 0 for any other answer.
+    pub fn number(&self) -> u32 {
+        self.refusal().map_or(0, Refusal::number)
+    }
+
+    /// The runs looked at, if it was a request.
+    pub fn looked(&self) -> Option<u32> {
+        match *self {
+            Answer::Granted { looked, .. } | Answer::Denied { looked, .. } => Some(looked),
+            _ => None,
+        }
+    }
+}
+
+/// What comes of a request: the granted block's offset or a refusal, and in
+/// either case the count of free runs that were looked at.
+#[derive(Clone, Copy, Debug, PartialEq, Eq)]
+pub struct Requested {
+    pub outcome: Result<u32, Refusal>,
+    pub looked: u32,
+}
+
+impl Requested {
+    fn answer(self) -> Answer {
+        let looked = self.looked;
+        match self.outcome {
+            Ok(offset) => Answer::Granted { offset, looked },
+            Err(refusal) => Answer::Denied { refusal, looked },
+        }
+    }
 }
 
 /// An arena with the books lent for it: how many words they have, and the
@@ -122,14 +180,20 @@ impl Allocator {
         Ok(())
     }
 
-    /// Request: answers the granted block's offset.
-    pub fn allocate(&mut self, group: u32, size: u32) -> Result<u32, Refusal> {
-        let state = self.legal_state_mut()?;
-        let group = legal_group(group)?;
-        if size == 0 || size > MAX_SIZE {
-            return Err(Refusal::Size);
+    /// Request: answers the granted block's offset. What is refused by 3, 4 or
+    /// 5 is refused before any search, so it has looked at no run.
+    pub fn allocate(&mut self, group: u32, size: u32) -> Requested {
+        match self.legal_request(group, size) {
+            Ok((state, group)) => {
+                let Taken { taken, looked } = state.take_block(group, size);
+                let outcome = taken.ok_or(Refusal::NoRun);
+                Requested { outcome, looked }
+            }
+            Err(refusal) => Requested {
+                outcome: Err(refusal),
+                looked: 0,
+            },
         }
-        state.take_block(group, size).ok_or(Refusal::NoRun)
     }
 
     /// Return of the group's live block that begins at the offset.
@@ -184,9 +248,7 @@ impl Allocator {
     pub fn serve(&mut self, call: Call) -> Answer {
         let answer = match call {
             Call::Init { pages } => self.init(pages).map(|()| Answer::Done),
-            Call::Allocate { group, size } => self
-                .allocate(group, size)
-                .map(|offset| Answer::Granted { offset }),
+            Call::Allocate { group, size } => Ok(self.allocate(group, size).answer()),
             Call::Free { group, offset } => self.free(group, offset).map(|()| Answer::Done),
             Call::Reset { group } => self.reset(group).map(Answer::Counted),
             Call::Trim => self.trim().map(Answer::Counted),
@@ -196,6 +258,16 @@ impl Allocator {
             Call::Listing { capacity } => self.listing(capacity).map(Answer::Listed),
         };
         answer.unwrap_or_else(Answer::Refused)
+    }
+
+    /// Refusals 3, 4 and 5 of a request; the state and the group if none is due.
+    fn legal_request(&mut self, group: u32, size: u32) -> Result<(&mut State, Group), Refusal> {
+        let state = self.legal_state_mut()?;
+        let group = legal_group(group)?;
+        if size == 0 || size > MAX_SIZE {
+            return Err(Refusal::Size);
+        }
+        Ok((state, group))
     }
 
     fn legal_state(&self) -> Result<&State, Refusal> {

@@ -1,15 +1,16 @@
-//! Document 01's cases, and those of document 02's request a): scripts with
-//! their answers, read from the files of cases/, one file for each part of
-//! document 01 and one for the request. Every program that keeps the rules is
-//! held to the same ones. cases/README.md says how they are written.
+//! Document 01's cases, and those of document 02's requests: scripts with their
+//! answers, read from the files of cases/, one file for each part of document
+//! 01 and one for each request. Every program that keeps the rules is held to
+//! the same ones. cases/README.md says how they are written.
 
 use crate::bench::WORDS;
 use crate::sizes::words_needed;
 use crate::state::State;
 
 /// The files, by name and text.
-pub const FILES: [(&str, &str); 8] = [
+pub const FILES: [(&str, &str); 9] = [
     ("calls", include_str!("../cases/calls.txt")),
+    ("counts", include_str!("../cases/counts.txt")),
     ("edges", include_str!("../cases/edges.txt")),
     ("pages", include_str!("../cases/pages.txt")),
     ("refusals", include_str!("../cases/refusals.txt")),
@@ -33,6 +34,8 @@ pub struct Step {
     pub asked: String,
     /// The answer's lines, each ended by LF.
     pub answer: String,
+    /// Of a request, the runs that it looked at, where the case says so.
+    pub looked: Option<u32>,
 }
 
 impl Case {
@@ -115,6 +118,7 @@ fn steps(line: &str, pages: u32) -> Vec<Step> {
     let (asked, answer) = line
         .split_once(" -> ")
         .unwrap_or_else(|| panic!("no answer: {line}"));
+    let (answer, looked) = counted(answer);
     let answer: String = answer.split(", ").map(|line| format!("{line}\n")).collect();
     let mut steps = Vec::new();
     for time in 0..times {
@@ -122,10 +126,20 @@ fn steps(line: &str, pages: u32) -> Vec<Step> {
             steps.push(Step {
                 asked: with_values(&asked, pages, time),
                 answer: with_values(&answer, pages, time),
+                looked: looked.map(|count| number(&value(count, pages, time))),
             });
         }
     }
     steps
+}
+
+/// An answer, and the count in brackets behind it, if there is one.
+fn counted(answer: &str) -> (&str, Option<&str>) {
+    let behind = answer.strip_suffix(')');
+    match behind.and_then(|answer| answer.split_once(" (")) {
+        Some((answer, count)) => (answer, Some(count)),
+        None => (answer, None),
+    }
 }
 
 /// The calls that a line stands for: a place with `|` has each of its values

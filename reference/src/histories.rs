@@ -246,7 +246,7 @@ impl History {
     pub fn observe(&mut self, call: &Call, answer: &Answer) {
         match (*call, answer) {
             (Call::Init { .. }, Answer::Done) => self.live.clear(),
-            (Call::Allocate { group, .. }, Answer::Granted { offset }) => {
+            (Call::Allocate { group, .. }, Answer::Granted { offset, .. }) => {
                 let offset = *offset;
                 self.live.push(Granted { group, offset });
             }

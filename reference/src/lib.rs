@@ -1,5 +1,5 @@
-//! The allocator of document 01 with document 02's request a) a second time,
-//! on abstract states.
+//! The allocator of document 01 with document 02's requests a) and b) a second
+//! time, on abstract states.
 //!
 //! No 32-bit words stand here: of the books only their number of words is
 //! kept, because refusals 2 and 3 ask for it. Everything else is runs, direct

@@ -78,14 +78,17 @@ pub fn line_of(call: &Call) -> String {
     }
 }
 
-/// What is written for an answer; every line ends with LF.
+/// What is written for an answer; every line ends with LF. A request's count of
+/// runs is not written.
 pub fn render(answer: &Answer) -> String {
     match answer {
-        Answer::Granted { offset } => format!("at {offset}\n"),
+        Answer::Granted { offset, .. } => format!("at {offset}\n"),
         Answer::Done => "ok\n".to_string(),
         Answer::Counted(count) => format!("ok {count}\n"),
         Answer::Held { group, room } => format!("{group} {room}\n"),
         Answer::Listed(text) => text.clone(),
-        Answer::Refused(refusal) => format!("no {}\n", refusal.number()),
+        Answer::Denied { refusal, .. } | Answer::Refused(refusal) => {
+            format!("no {}\n", refusal.number())
+        }
     }
 }

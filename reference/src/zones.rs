@@ -1,5 +1,6 @@
 //! Document 01's "Zones": chunks out and in, and zones set up and given back.
 
+use crate::pages::Taken;
 use crate::sizes::ZONE_PAGES;
 use crate::state::{Group, Page, State, Zone};
 
@@ -9,17 +10,12 @@ const EMPTY_LIMIT: usize = 2;
 impl State {
     /// Grants a chunk and answers its zone and number; `None` if pages are
     /// needed and neither search finds them, and then nothing has changed.
-    pub(crate) fn take_chunk(&mut self, class: u32, group: Group) -> Option<(Page, u32)> {
-        let start = match self.list(class).front() {
-            Some(&first) => first,
-            None => self.set_up_zone(class)?,
+    pub(crate) fn take_chunk(&mut self, class: u32, group: Group) -> Taken<(Page, u32)> {
+        let zone = match self.list(class).front() {
+            Some(&first) => Taken::at_hand(first),
+            None => self.set_up_zone(class),
         };
-        let zone = self.zone_mut(start);
-        let chunk = zone.grant(group);
-        if zone.is_full() {
-            self.unlist(class, start);
-        }
-        Some((start, chunk))
+        zone.map(|start| (start, self.grant_from(start, group)))
     }
 
     /// Takes a live chunk back.
@@ -59,14 +55,27 @@ impl State {
     /// A zone for a class whose list is empty: the first of the empty list,
     /// or where that is empty too, new pages. Its former class, count and
     /// chain are forgotten.
-    fn set_up_zone(&mut self, class: u32) -> Option<Page> {
-        let start = match self.empty.pop_front() {
-            Some(first) => first,
-            None => self.take_pages(ZONE_PAGES)?,
+    fn set_up_zone(&mut self, class: u32) -> Taken<Page> {
+        let pages = match self.empty.pop_front() {
+            Some(first) => Taken::at_hand(first),
+            None => self.take_pages(ZONE_PAGES),
         };
-        self.zones.insert(start, Zone::set_up(class));
-        self.list_mut(class).push_front(start);
-        Some(start)
+        pages.map(|start| {
+            self.zones.insert(start, Zone::set_up(class));
+            self.list_mut(class).push_front(start);
+            start
+        })
+    }
+
+    /// Grants a chunk of a zone on its class's list, and answers its number.
+    fn grant_from(&mut self, start: Page, group: Group) -> u32 {
+        let zone = self.zone_mut(start);
+        let class = zone.class;
+        let chunk = zone.grant(group);
+        if zone.is_full() {
+            self.unlist(class, start);
+        }
+        chunk
     }
 
     /// Moves an idle zone from its class's list to the empty list, or past it

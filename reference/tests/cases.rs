@@ -1,14 +1,20 @@
-//! Document 01's cases and those of request a) on the second program.
+//! Document 01's cases and those of document 02's requests on the second
+//! program.
 
-use reference::calls::{Allocator, Answer};
+use reference::calls::{Allocator, Answer, Call};
 use reference::cases::{all, look, Case, FILES};
 use reference::lines::{parse, render};
 use reference::validity::is_valid;
 use std::collections::BTreeSet;
 use std::fs;
 
-/// Checks every answer, that refusals, asks and listings change nothing, and
-/// that each state is legal.
+/// Whether nothing may have changed with this answer.
+fn is_without_effect(answer: &Answer) -> bool {
+    answer.refusal().is_some() || matches!(answer, Answer::Held { .. } | Answer::Listed(_))
+}
+
+/// Checks every answer and every count, that refusals, asks and listings change
+/// nothing, and that each state is legal.
 fn follow(case: &Case) {
     let mut allocator = Allocator::zeroed(case.words);
     for step in &case.steps {
@@ -16,8 +22,17 @@ fn follow(case: &Case) {
         let answer = match parse(step.asked.as_bytes()) {
             Some(call) => {
                 let answer = allocator.serve(call);
-                if let Answer::Refused(_) | Answer::Held { .. } | Answer::Listed(_) = answer {
+                if is_without_effect(&answer) {
                     assert_eq!(allocator, before, "{}: {}", case.name, step.asked);
+                }
+                if step.looked.is_some() {
+                    assert_eq!(
+                        answer.looked(),
+                        step.looked,
+                        "{}: {}",
+                        case.name,
+                        step.asked
+                    );
                 }
                 Some(render(&answer))
             }
@@ -32,6 +47,24 @@ fn follow(case: &Case) {
 #[test]
 fn every_case() {
     all().iter().for_each(follow);
+}
+
+/// Where counts are what the cases are about, no request is without its own,
+/// and no other call has one.
+#[test]
+fn every_request_of_the_cases_of_counts_has_its_count() {
+    let cases = all();
+    let counts = cases
+        .iter()
+        .filter(|case| case.name.starts_with("counts: "));
+    let steps: Vec<_> = counts.flat_map(|case| &case.steps).collect();
+    for step in &steps {
+        let call = parse(step.asked.as_bytes());
+        let is_request = matches!(call, Some(Call::Allocate { .. }));
+        assert_eq!(step.looked.is_some(), is_request, "{}", step.asked);
+    }
+    let most = steps.iter().filter_map(|step| step.looked).max();
+    assert_eq!(most, Some(128));
 }
 
 #[test]

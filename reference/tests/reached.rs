@@ -50,7 +50,7 @@ impl Passed {
         self.set_up_anew += u32::from(from_empty);
         self.third_given_back += u32::from(zone_went);
         self.grants += u32::from(matches!(answer, Answer::Granted { .. }));
-        self.refusals += u32::from(matches!(answer, Answer::Refused(_)));
+        self.refusals += u32::from(answer.refusal().is_some());
     }
 }
 

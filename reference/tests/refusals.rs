@@ -13,9 +13,9 @@ use reference::state::{DirectBlock, State};
 /// 0 and of group 2 at 104, and the rest a direct block of group 3.
 fn full() -> Allocator {
     let mut allocator = started(24);
-    assert_eq!(allocator.allocate(1, 100), Ok(0));
-    assert_eq!(allocator.allocate(2, 100), Ok(104));
-    assert_eq!(allocator.allocate(3, 65_536), Ok(32_768));
+    assert_eq!(allocator.allocate(1, 100).outcome, Ok(0));
+    assert_eq!(allocator.allocate(2, 100).outcome, Ok(104));
+    assert_eq!(allocator.allocate(3, 65_536).outcome, Ok(32_768));
     allocator
 }
 
@@ -32,13 +32,14 @@ fn unusable() -> Vec<Allocator> {
     ]
 }
 
-/// Serves the call and checks its number and that nothing changed.
+/// Serves a call that is refused before any search, and checks its number, of
+/// a request that it looked at no run, and that nothing changed.
 fn assert_refused(allocator: &mut Allocator, call: Call, number: u32) {
     let before = allocator.clone();
-    match allocator.serve(call) {
-        Answer::Refused(refusal) => assert_eq!(refusal.number(), number, "{call:?}"),
-        answer => panic!("{call:?} answered {answer:?}, not refusal {number}"),
-    }
+    let answer = allocator.serve(call);
+    assert_eq!(answer.number(), number, "{call:?}");
+    let is_request = matches!(call, Call::Allocate { .. });
+    assert_eq!(answer.looked(), is_request.then_some(0), "{call:?}");
     assert_eq!(*allocator, before, "{call:?} changed the state");
 }
 
@@ -84,7 +85,7 @@ fn without_a_legal_state_every_call_but_start_is_refused_by_3() {
 #[test]
 fn a_legal_state_on_just_enough_words_is_served() {
     let mut allocator = Allocator::picturing(13_504, State::fresh(24));
-    assert_eq!(allocator.allocate(1, 1), Ok(0));
+    assert_eq!(allocator.allocate(1, 1).outcome, Ok(0));
 }
 
 #[test]
@@ -114,6 +115,7 @@ fn every_refusal_has_document_01s_number() {
     for (refusal, number) in numbers {
         assert_eq!(refusal.number(), number);
     }
+    assert_eq!(numbers.map(|(refusal, _)| refusal), Refusal::ALL);
 }
 
 #[test]
@@ -127,9 +129,9 @@ fn refusals_asks_and_listings_change_nothing_in_histories() {
             let before = allocator.clone();
             let answer = allocator.serve(call);
             history.observe(&call, &answer);
-            match answer {
-                Answer::Refused(refusal) => refused[refusal.number() as usize] += 1,
-                Answer::Held { .. } | Answer::Listed(_) => {}
+            match (answer.refusal(), answer) {
+                (Some(refusal), _) => refused[refusal.number() as usize] += 1,
+                (None, Answer::Held { .. } | Answer::Listed(_)) => {}
                 _ => continue,
             }
             assert_eq!(allocator, before, "{call:?}");

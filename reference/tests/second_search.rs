@@ -8,6 +8,7 @@ mod common;
 use common::{started, state};
 use reference::calls::{Allocator, Answer, Call, Refusal};
 use reference::histories::{History, Profile};
+use reference::lines::render;
 use reference::sizes::DIRECT_FROM;
 use reference::state::State;
 
@@ -47,8 +48,8 @@ fn check(ends: &mut Ends, before: &Allocator, call: Call, answer: &Answer, after
         Some(pages) if !has_run(state(before), pages) => {
             let mut tidied = before.clone();
             assert_eq!(tidied.trim(), Ok(idle.len() as u32));
-            assert_eq!(tidied.serve(call), *answer, "{call:?}");
-            let refused = *answer == Answer::Refused(Refusal::NoRun);
+            assert_eq!(render(&tidied.serve(call)), render(answer), "{call:?}");
+            let refused = answer.refusal() == Some(Refusal::NoRun);
             let left = if refused { before } else { &tidied };
             assert_eq!(after, left, "{call:?}");
             assert!(refused || idle_zones(state(after)).is_empty(), "{call:?}");
@@ -86,7 +87,8 @@ fn follow(pages: u32, seeds: u64) -> Ends {
                 let before = allocator.clone();
                 let answer = allocator.serve(call);
                 history.observe(&call, &answer);
-                if let Answer::Granted { .. } | Answer::Refused(Refusal::NoRun) = answer {
+                let granted = matches!(answer, Answer::Granted { .. });
+                if granted || answer.refusal() == Some(Refusal::NoRun) {
                     check(&mut ends, &before, call, &answer, &allocator);
                 }
             }
@@ -138,12 +140,12 @@ fn several_idle_zones_on_one_list_are_all_given_back() {
     let mut allocator = Allocator::picturing(allocator.words(), odd);
     let mut other = allocator.clone();
     // No other class is served by that list, and the empty list is empty.
-    assert_eq!(allocator.allocate(2, 100), Ok(0));
+    assert_eq!(allocator.allocate(2, 100).outcome, Ok(0));
     assert_eq!(common::runs(&allocator), [(8, 16)]);
     assert_eq!(common::list(&allocator, 63), []);
     assert_eq!(common::list(&allocator, 12), [0]);
     // Its own class is, and nothing is given back.
-    assert_eq!(other.allocate(2, 8_191), Ok(73_728));
+    assert_eq!(other.allocate(2, 8_191).outcome, Ok(73_728));
     assert_eq!(common::list(&other, 63).len(), 3);
     assert_eq!(common::runs(&other), []);
 }

@@ -111,7 +111,7 @@ fn zones_with_nothing_handed_out_are_legal_and_serve() {
         }
         assert_served(state.clone());
         let mut allocator = Allocator::picturing(words_needed(8), state);
-        assert_eq!(allocator.allocate(1, 8_191), Ok(0));
+        assert_eq!(allocator.allocate(1, 8_191).outcome, Ok(0));
     }
 }
 
@@ -134,7 +134,7 @@ fn several_idle_zones_on_one_list_are_legal_in_any_order() {
         let mut allocator = Allocator::picturing(words, idle_zones(order));
         // The front one serves, at its k.
         let offset = order[0] * 4_096 + 2 * 8_192;
-        assert_eq!(allocator.allocate(1, 8_191), Ok(offset));
+        assert_eq!(allocator.allocate(1, 8_191).outcome, Ok(offset));
         assert_eq!(allocator.free(1, offset), Ok(()));
         assert_eq!(common::empty(&allocator), order[..1]);
         assert_eq!(common::list(&allocator, 63), order[1..]);

@@ -33,7 +33,7 @@ pub fn state(allocator: &Allocator) -> &State {
 
 /// Grants of one size to one group; answers their offsets.
 pub fn grant(allocator: &mut Allocator, group: u32, size: u32, times: usize) -> Vec<u32> {
-    let grants = (0..times).map(|_| allocator.allocate(group, size));
+    let grants = (0..times).map(|_| allocator.allocate(group, size).outcome);
     grants.collect::<Result<_, _>>().expect("there is room")
 }
 
