@@ -17,12 +17,12 @@
  *
  * Answers. Every function returns 0, or the number of the refusal (enum nostrimel_refusal). Which numbers a function can return
  * stands at the function, in the order in which they are tested: the first that applies is returned. A refused call changes no
- * word of the metadata and no byte of the text, and writes nothing through its other pointers: results are written only where the
- * function returns 0.
+ * word of the metadata and no byte of the text. Results are written only where the function returns 0, but for one: *looked of
+ * nostrimel_allocate is written by each of its calls, refused or not. A refused call writes nothing else through its pointers.
  *
  * What the caller keeps. These are conditions of C, which no callee can test:
  *   - meta points to an array of that many words, text to one of capacity bytes. Neither is NULL, even if the number is 0.
- *   - A pointer to a result (offset, count, group, room, length) points to one such object and is not NULL.
+ *   - A pointer to a result (offset, looked, count, group, room, length) points to one such object and is not NULL.
  *   - What two pointers of one call point to does not overlap: not the metadata with a result or with the text, not two results.
  *   - While a call runs, nobody else writes what it was lent, or reads what it may write. There are no locks: calls on the same
  *     words take turns; only queries and listings may run beside each other.
@@ -47,7 +47,7 @@
 #include <stddef.h>
 #include <stdint.h>
 
-/* Results that must be looked at: a call's number says whether its other results were written. */
+/* Results that must be looked at: a call's number says whether its other results were written (*looked is always). */
 #if defined(__cplusplus) && __cplusplus >= 201703L
 #define NOSTRIMEL_LOOK_AT [[nodiscard]]
 #elif defined(__STDC_VERSION__) && __STDC_VERSION__ >= 202311L
@@ -116,13 +116,22 @@ NOSTRIMEL_LOOK_AT uint32_t nostrimel_init(uint32_t *meta, size_t words, uint32_t
  * Where pages are needed and no free run has as many, every zone without a live chunk is given back as nostrimel_trim does, if then
  * one has; if not even then, the request is refused by NO_ROOM and nothing has been given back. So trimming before a request is
  * never needed for it to be granted.
+ * How far it looked: *looked is the count of free runs that were looked at. A search goes through them from the lowest page up. It
+ * counts those up to and including the first that has enough pages, or all of them if none has. If none has, a second search goes
+ * through the runs as a trim would leave them, whether there is a zone to give back or not, and its count is added, whether it
+ * finds one or not. *looked is 0 where no pages are needed, since a zone that stands gives the chunk, and where the request is
+ * refused by NO_STATE, BAD_GROUP or BAD_SIZE.
+ * Its bound: no two runs touch, so an arena of N pages has at most (N + 1) / 2 of them, rounded down. One search looks at no more,
+ * and a request at no more than twice as many: at most 24 for 24 pages, at most 256 for 256.
+ * Written: *offset only where the function returns 0, *looked always.
  * Alignment: *offset is a multiple of every power of two up to 4,096 that divides the block's room (the size rounded up). So it is
  * a multiple of 8 always, of 16 from 128 bytes up, of 32 from 256, of 64 from 512, of 128 from 1,024, of 256 from 2,048, of 512
  * from 4,096, of 4,096 from 8,192; and a request of 64 bytes begins at a multiple of 64. The address arena + *offset is aligned so
  * as far as the arena's start is.
  * Refusals: NO_STATE, BAD_GROUP, BAD_SIZE, NO_ROOM.
  */
-NOSTRIMEL_LOOK_AT uint32_t nostrimel_allocate(uint32_t *meta, size_t words, uint32_t group, uint32_t size, uint32_t *offset);
+NOSTRIMEL_LOOK_AT uint32_t nostrimel_allocate(uint32_t *meta, size_t words, uint32_t group, uint32_t size, uint32_t *offset,
+                                              uint32_t *looked);
 
 /*
  * Returns the group's live block that begins at the offset.

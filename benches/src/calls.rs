@@ -26,7 +26,7 @@ use resets::{reset_of, returns_of, PAGES, SIZE};
 use searches::{given_back, refused, zones_to_give, Refused};
 use single::{clock, time_of};
 use std::process::ExitCode;
-use tests::calls::{allocate, free, init, listing, query, reset, trim};
+use tests::calls::{allocate, free, init, listing, query, reset, trim, Requested};
 use tests::check::check;
 use tests::layout::encode;
 
@@ -65,6 +65,8 @@ struct Measured {
     behind: Step,
     /// Whether the bar is for this call.
     barred: bool,
+    /// The runs that a request looks at, where that is what is measured.
+    looked: Option<u32>,
     /// The fastest check and the fastest call.
     nanoseconds: [f64; 2],
 }
@@ -99,16 +101,22 @@ fn measured_refused(one: Refused) -> Measured {
         call,
         state,
         size,
+        looked,
     } = one;
+    let refusal = Requested {
+        outcome: Err(NO_ROOM),
+        looked,
+    };
     Measured {
         pages: state.pages,
         arena,
         call,
         words: words_of(&state, arena),
         before: step(|_| true),
-        step: step(move |words| allocate(words, GROUP, size) == Err(NO_ROOM)),
+        step: step(move |words| allocate(words, GROUP, size) == refusal),
         behind: step(|_| true),
         barred: true,
+        looked: Some(looked),
         nanoseconds: [f64::INFINITY; 2],
     }
 }
@@ -121,10 +129,11 @@ fn measured_trimming(pages: u32, zones: u32) -> Measured {
         arena: "zones",
         call: "allocate, trims",
         before: step(|_| true),
-        step: step(|words| allocate(words, GROUP, ZONE) == Ok(0)),
+        step: step(|words| allocate(words, GROUP, ZONE).outcome == Ok(0)),
         behind: put_right(&words),
         words,
         barred: false,
+        looked: None,
         nanoseconds: [f64::INFINITY; 2],
     }
 }
@@ -143,6 +152,7 @@ fn measured(arena: Arena) -> Vec<Measured> {
         step,
         behind,
         barred: true,
+        looked: None,
         nanoseconds: [f64::INFINITY; 2],
     };
     let unbarred = |call, step, behind| Measured {
@@ -150,9 +160,13 @@ fn measured(arena: Arena) -> Vec<Measured> {
         ..one(call, nothing(), step, behind)
     };
     // Where a block of this size will be each time.
-    let place = |size| allocate(&mut words.clone(), GROUP, size).expect("room");
+    let place = |size| {
+        let outcome = allocate(&mut words.clone(), GROUP, size).outcome;
+        outcome.expect("room")
+    };
     let (small, large) = (place(chunk), place(LARGE));
-    let grant = |size, offset| step(move |words| allocate(words, GROUP, size) == Ok(offset));
+    let grant =
+        |size, offset| step(move |words| allocate(words, GROUP, size).outcome == Ok(offset));
     let give = |offset| step(move |words| free(words, GROUP, offset) == Ok(()));
     // Without the trim a fresh arena would keep the chunk's zone; in the others it finds nothing.
     let give_and_trim =
@@ -241,9 +255,10 @@ impl Measured {
             pages, arena, call, ..
         } = self;
         let met = ratio <= CALL_BAR;
-        let said = match self.barred {
-            true => remark(met, CALL_BAR),
-            false => String::new(),
+        let said = match (self.barred, self.looked) {
+            (true, None) => remark(met, CALL_BAR),
+            (true, Some(runs)) => format!("{}, {runs} runs looked at", remark(met, CALL_BAR)),
+            (false, _) => String::new(),
         };
         println!(
             "{pages:>5}  {arena:<12}{call:<16}{call_ns:>12.0}{check_ns:>12.0}{ratio:>8.2}  {said}"

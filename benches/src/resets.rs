@@ -23,7 +23,7 @@ fn arena(chunks: u32, returned: u32) -> Allocator {
     let mut arena = Allocator::zeroed(words_needed(PAGES));
     arena.init(PAGES).expect("words enough");
     for _ in 0..chunks {
-        arena.allocate(1, SIZE).expect("room");
+        arena.allocate(1, SIZE).outcome.expect("room");
     }
     for chunk in 0..returned {
         arena.free(1, chunk * SIZE).expect("a live block");

@@ -15,6 +15,8 @@ pub struct Refused {
     pub call: &'static str,
     pub state: State,
     pub size: u32,
+    /// The runs that both searches look at together.
+    pub looked: u32,
 }
 
 /// As many segments as there can be, with no zone to give back; and zones to give back of which no
@@ -27,21 +29,26 @@ pub fn refused(pages: u32) -> [Refused; 3] {
         0 => idle,
         rest => idle.direct(rest, 1),
     };
-    let one = |arena, call, plan: Plan, size| Refused {
+    let one = |arena, call, plan: Plan, size, looked| Refused {
         arena,
         call,
         state: plan.assemble(),
         size,
+        looked,
     };
+    let twice_all = 2 * (pages / 2);
+    let zones = pages / (ZONE_PAGES + 1);
+    let nine = (ZONE_PAGES + 1) * PAGE_BYTES;
     [
-        one("by turns", "no 6, pages", by_turns(), 2 * PAGE_BYTES),
-        one("by turns", "no 6, chunk", by_turns(), 100),
         one(
-            "idle zones",
+            "by turns",
             "no 6, pages",
-            idle,
-            (ZONE_PAGES + 1) * PAGE_BYTES,
+            by_turns(),
+            2 * PAGE_BYTES,
+            twice_all,
         ),
+        one("by turns", "no 6, chunk", by_turns(), 100, twice_all),
+        one("idle zones", "no 6, pages", idle, nine, zones),
     ]
 }
 

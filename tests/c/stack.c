@@ -26,7 +26,7 @@ static ucontext_t here, there;
 
 /* What is asked, and what came. */
 static enum call which;
-static uint32_t first, second, answer, offset, count, group, room;
+static uint32_t first, second, answer, offset, looked, count, group, room;
 static size_t length;
 
 /* The most that each call has used, and how often it was made. */
@@ -38,7 +38,7 @@ static void make(void)
 {
     switch (which) {
     case INIT: answer = nostrimel_init(meta, WORDS, first); break;
-    case ALLOCATE: answer = nostrimel_allocate(meta, WORDS, first, second, &offset); break;
+    case ALLOCATE: answer = nostrimel_allocate(meta, WORDS, first, second, &offset, &looked); break;
     case FREE: answer = nostrimel_free(meta, WORDS, first, second); break;
     case RESET: answer = nostrimel_reset(meta, WORDS, first, &count); break;
     case TRIM: answer = nostrimel_trim(meta, WORDS, &count); break;

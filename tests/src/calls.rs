@@ -1,11 +1,10 @@
 //! The allocator's calls, through C. include/nostrimel.h says what each of them does.
 //!
-//! A refusal is told by its number. What only this file can see is looked at here: that a refused
-//! call writes no result, and a listing no byte behind its text. Who lends the words looks at
-//! those.
+//! What only this file can see is looked at here: that a refused call writes no result but for a
+//! request's count, that a request writes that always, and a listing no byte behind its text. Who
+//! lends the words looks at those.
 
-use reference::calls::{Answer, Call};
-use reference::lines::render;
+use reference::calls::{Answer, Call, Refusal};
 
 extern "C" {
     fn nostrimel_init(meta: *mut u32, words: usize, pages: u32) -> u32;
@@ -15,6 +14,7 @@ extern "C" {
         group: u32,
         size: u32,
         offset: *mut u32,
+        looked: *mut u32,
     ) -> u32;
     fn nostrimel_free(meta: *mut u32, words: usize, group: u32, offset: u32) -> u32;
     fn nostrimel_reset(meta: *mut u32, words: usize, group: u32, count: *mut u32) -> u32;
@@ -53,11 +53,23 @@ pub fn init(words: &mut [u32], pages: u32) -> Result<(), Number> {
     done(number)
 }
 
-pub fn allocate(words: &mut [u32], group: u32, size: u32) -> Result<u32, Number> {
-    // SAFETY: as in `init`; the result is a local of its own.
-    result(|offset| unsafe {
-        nostrimel_allocate(words.as_mut_ptr(), words.len(), group, size, offset)
-    })
+/// What comes of a request: the block's offset or the number of a refusal, and in either case the
+/// count of free runs that were looked at.
+#[derive(Clone, Copy, Debug, PartialEq, Eq)]
+pub struct Requested {
+    pub outcome: Result<u32, Number>,
+    pub looked: u32,
+}
+
+pub fn allocate(words: &mut [u32], group: u32, size: u32) -> Requested {
+    let (meta, count) = (words.as_mut_ptr(), words.len());
+    let mut looked = UNWRITTEN;
+    // SAFETY: as in `init`; the two results are two locals.
+    let outcome = result(|offset| unsafe {
+        nostrimel_allocate(meta, count, group, size, offset, &mut looked)
+    });
+    assert!(looked != UNWRITTEN, "a request wrote no count");
+    Requested { outcome, looked }
 }
 
 pub fn free(words: &mut [u32], group: u32, offset: u32) -> Result<(), Number> {
@@ -67,12 +79,12 @@ pub fn free(words: &mut [u32], group: u32, offset: u32) -> Result<(), Number> {
 }
 
 pub fn reset(words: &mut [u32], group: u32) -> Result<u32, Number> {
-    // SAFETY: as in `allocate`.
+    // SAFETY: as in `init`; the result is a local of its own.
     result(|count| unsafe { nostrimel_reset(words.as_mut_ptr(), words.len(), group, count) })
 }
 
 pub fn trim(words: &mut [u32]) -> Result<u32, Number> {
-    // SAFETY: as in `allocate`.
+    // SAFETY: as in `reset`.
     result(|count| unsafe { nostrimel_trim(words.as_mut_ptr(), words.len(), count) })
 }
 
@@ -129,13 +141,11 @@ pub fn listed(words: &mut [u32], capacity: usize) -> Result<String, Number> {
     Ok(String::from_utf8(text).expect("a listing is ASCII"))
 }
 
-/// A call of any kind. A refusal is no [`Answer`] here, only its number.
-pub fn serve(words: &mut [u32], call: Call) -> Result<Answer, Number> {
-    match call {
+/// A call of any kind.
+pub fn serve(words: &mut [u32], call: Call) -> Answer {
+    let answer = match call {
         Call::Init { pages } => init(words, pages).map(|()| Answer::Done),
-        Call::Allocate { group, size } => {
-            allocate(words, group, size).map(|offset| Answer::Granted { offset })
-        }
+        Call::Allocate { group, size } => Ok(requested(allocate(words, group, size))),
         Call::Free { group, offset } => free(words, group, offset).map(|()| Answer::Done),
         Call::Reset { group } => reset(words, group).map(Answer::Counted),
         Call::Trim => trim(words).map(Answer::Counted),
@@ -143,23 +153,26 @@ pub fn serve(words: &mut [u32], call: Call) -> Result<Answer, Number> {
             query(words, offset).map(|(group, room)| Answer::Held { group, room })
         }
         Call::Listing { capacity } => listed(words, capacity).map(Answer::Listed),
+    };
+    answer.unwrap_or_else(|number| Answer::Refused(refusal(number)))
+}
+
+/// A request's answer.
+fn requested(Requested { outcome, looked }: Requested) -> Answer {
+    match outcome {
+        Ok(offset) => Answer::Granted { offset, looked },
+        Err(number) => Answer::Denied {
+            refusal: refusal(number),
+            looked,
+        },
     }
 }
 
-/// The second program's answer in the same form.
-pub fn told(answer: Answer) -> Result<Answer, Number> {
-    match answer {
-        Answer::Refused(refusal) => Err(refusal.number()),
-        served => Ok(served),
-    }
-}
-
-/// What the bench program writes for an answer.
-pub fn written(answer: &Result<Answer, Number>) -> String {
-    match answer {
-        Ok(answer) => render(answer),
-        Err(number) => format!("no {number}\n"),
-    }
+/// The refusal with a number, which a function has returned.
+fn refusal(number: Number) -> Refusal {
+    let mut all = Refusal::ALL.into_iter();
+    let found = all.find(|refusal| refusal.number() == number);
+    found.unwrap_or_else(|| panic!("no refusal has the number {number}"))
 }
 
 fn done(number: u32) -> Result<(), Number> {

@@ -4,7 +4,7 @@
 //! The words afterwards are not those of some state that looks right, but the encoding of the
 //! second program's state, written by [`encode`]; the words behind it, lent or not, stay.
 
-use crate::calls::{self, told, Number};
+use crate::calls::{self, Number, Requested};
 use crate::layout::{decode, encode, used_words};
 use reference::calls::{Allocator, Answer, Call};
 use reference::histories::Xorshift;
@@ -73,14 +73,14 @@ impl Pair {
         state.expect("the words hold a valid state")
     }
 
-    /// Makes a call on both and compares the answers.
-    pub fn serve(&mut self, call: Call) -> Result<Answer, Number> {
+    /// Makes a call on both and compares the answers: of a request its count of runs too.
+    pub fn serve(&mut self, call: Call) -> Answer {
         if let Call::Init { .. } = call {
             // What it leaves behind its own words is what the state before had there.
             self.settle();
         }
         let ours = calls::serve(&mut self.words[..self.lent], call);
-        let theirs = told(self.reference.serve(call));
+        let theirs = self.reference.serve(call);
         assert_eq!(ours, theirs, "{}: {call:?}, answers", self.name);
         ours
     }
@@ -99,20 +99,32 @@ impl Pair {
     }
 
     /// Makes a call on both, and compares the answers and every word.
-    pub fn call(&mut self, call: Call) -> Result<Answer, Number> {
+    pub fn call(&mut self, call: Call) -> Answer {
         let answer = self.serve(call);
         self.compare();
         answer
     }
 
     pub fn init(&mut self, pages: u32) -> Result<(), Number> {
-        self.call(Call::Init { pages }).map(|_| ())
+        self.served(Call::Init { pages }).map(|_| ())
     }
 
     /// The offset of the block granted.
     pub fn allocate(&mut self, group: u32, size: u32) -> Result<u32, Number> {
-        match self.call(Call::Allocate { group, size })? {
-            Answer::Granted { offset } => Ok(offset),
+        self.request(group, size).outcome
+    }
+
+    /// The same, with the count of runs looked at.
+    pub fn request(&mut self, group: u32, size: u32) -> Requested {
+        match self.call(Call::Allocate { group, size }) {
+            Answer::Granted { offset, looked } => Requested {
+                outcome: Ok(offset),
+                looked,
+            },
+            Answer::Denied { refusal, looked } => Requested {
+                outcome: Err(refusal.number()),
+                looked,
+            },
             other => panic!("{other:?}"),
         }
     }
@@ -127,7 +139,7 @@ impl Pair {
 
     /// Group and room.
     pub fn query(&mut self, offset: u32) -> Result<(u32, u32), Number> {
-        match self.call(Call::Query { offset })? {
+        match self.served(Call::Query { offset })? {
             Answer::Held { group, room } => Ok((group, room)),
             other => panic!("{other:?}"),
         }
@@ -135,7 +147,7 @@ impl Pair {
 
     /// The text that a buffer of so many bytes takes.
     pub fn listing(&mut self, capacity: usize) -> Result<String, Number> {
-        match self.call(Call::Listing { capacity })? {
+        match self.served(Call::Listing { capacity })? {
             Answer::Listed(text) => Ok(text),
             other => panic!("{other:?}"),
         }
@@ -147,9 +159,17 @@ impl Pair {
     }
 
     fn counted(&mut self, call: Call) -> Result<u32, Number> {
-        match self.call(call)? {
+        match self.served(call)? {
             Answer::Counted(count) => Ok(count),
             other => panic!("{other:?}"),
+        }
+    }
+
+    /// The answer of a call that is no request, or the number of its refusal.
+    fn served(&mut self, call: Call) -> Result<Answer, Number> {
+        match self.call(call) {
+            Answer::Refused(refusal) => Err(refusal.number()),
+            answer => Ok(answer),
         }
     }
 

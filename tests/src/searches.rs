@@ -1,11 +1,12 @@
-//! The second searches that requests come to (document 02, request a), told by the second program
-//! before a request is served.
+//! The searches that requests come to (document 02, requests a and b), told by the second program
+//! before a request is served: what a second search is for and what it comes to, and how many runs
+//! are looked at.
 //!
 //! A new zone needs 8 pages, which every idle zone gives back; so a second search for a zone fails
 //! only where no zone is idle. For a block it can fail with idle zones too.
 
 use reference::calls::Call;
-use reference::pages::Search;
+use reference::pages::{Search, Searches};
 use reference::sizes::{DIRECT_FROM, GROUPS, MAX_SIZE};
 use reference::state::State;
 
@@ -20,28 +21,78 @@ pub const KINDS: [&str; 7] = [
     "second search, zone: finds, several zones go",
 ];
 
-/// The kinds that a call on this state is of: none, unless it comes to a second search.
-pub fn kinds_of(state: &State, call: &Call) -> &'static [&'static str] {
+/// How many runs a request of a legal group and size looks at.
+pub const COUNTS: [&str; 7] = [
+    "runs looked at: none, a chunk at hand",
+    "runs looked at: none, in two searches",
+    "runs looked at: one, in one search",
+    "runs looked at: several, in one search",
+    "runs looked at: fewer in the second search",
+    "runs looked at: as many in the second search",
+    "runs looked at: more in the second search",
+];
+
+/// The searches of a call on a state.
+#[derive(Default)]
+pub struct Met {
+    /// The kinds of its second search; none, unless it comes to one.
+    pub kinds: &'static [&'static str],
+    /// Its count; `None`, unless it is a request of a legal group and size.
+    pub count: Option<&'static str>,
+}
+
+impl Met {
+    /// All that is to be counted.
+    pub fn names(&self) -> impl Iterator<Item = &'static str> {
+        self.kinds.iter().copied().chain(self.count)
+    }
+}
+
+/// What a call on this state comes to.
+pub fn met(state: &State, call: &Call) -> Met {
     let size = match *call {
         Call::Allocate { group, size } if (1..=GROUPS).contains(&group) => size,
-        _ => return &[],
+        _ => return Met::default(),
     };
     if !(1..=MAX_SIZE).contains(&size) {
-        return &[];
+        return Met::default();
     }
-    let search = state
+    let searches = state
         .pages_needed(size)
         .map(|pages| state.search_for(pages));
+    let second = searches.and_then(|searches| searches.second);
     let idle = state.zones.values().filter(|zone| zone.is_idle()).count();
-    let is_block = size >= DIRECT_FROM;
-    match (search, is_block) {
-        (Some(Search::Failed), true) if idle > 0 => &KINDS[0..2],
-        (Some(Search::Failed), true) => &KINDS[0..1],
-        (Some(Search::Second), true) if idle > 1 => &KINDS[2..4],
-        (Some(Search::Second), true) => &KINDS[2..3],
-        (Some(Search::Failed), false) => &KINDS[4..5],
-        (Some(Search::Second), false) if idle > 1 => &KINDS[5..7],
-        (Some(Search::Second), false) => &KINDS[5..6],
-        (Some(Search::First) | None, _) => &[],
+    Met {
+        kinds: match second {
+            Some(second) => kinds_of(size >= DIRECT_FROM, second, idle),
+            None => &[],
+        },
+        count: Some(COUNTS[searches.map_or(0, count_of)]),
+    }
+}
+
+/// The kinds of a second search, for a block or for a zone, where so many zones are idle.
+fn kinds_of(is_block: bool, second: Search, idle: usize) -> &'static [&'static str] {
+    match (second.chosen, is_block) {
+        (None, true) if idle > 0 => &KINDS[0..2],
+        (None, true) => &KINDS[0..1],
+        (Some(_), true) if idle > 1 => &KINDS[2..4],
+        (Some(_), true) => &KINDS[2..3],
+        (None, false) => &KINDS[4..5],
+        (Some(_), false) if idle > 1 => &KINDS[5..7],
+        (Some(_), false) => &KINDS[5..6],
+    }
+}
+
+/// Which of the counts searches come to.
+fn count_of(searches: Searches) -> usize {
+    let first = searches.first.looked;
+    match searches.second.map(|second| second.looked) {
+        None if first == 1 => 2,
+        None => 3,
+        Some(0) if first == 0 => 1,
+        Some(second) if second < first => 4,
+        Some(second) if second == first => 5,
+        Some(_) => 6,
     }
 }

@@ -1,5 +1,5 @@
-//! Words that never were a state, of many lengths: every call is refused by 3 and changes nothing;
-//! only an init is served on them, if they are enough, and then leaves the fresh state whatever
+//! Words that never were a state, of many lengths: every call is refused by 3 and changes nothing,
+//! and a request has looked at no run; only an init is served on them, if they are enough, and then leaves the fresh state whatever
 //! they held. Every call compares every word, and 600 more behind the lent ones.
 //!
 //!     cargo test --offline --locked -p tests --test arbitrary
@@ -62,7 +62,7 @@ fn calls(random: &mut Xorshift) -> Vec<Call> {
 fn refused(words: Vec<u32>, random: &mut Xorshift) {
     let mut pair = Pair::over(words);
     for call in calls(random) {
-        assert_eq!(pair.call(call), Err(3), "{call:?}");
+        assert_eq!(pair.call(call).number(), 3, "{call:?}");
     }
 }
 
@@ -140,7 +140,7 @@ fn zeros_behind_a_right_beginning() {
         for pages in 0..=257 {
             let mut pair = Pair::over(begun(vec![0; length], pages));
             let call = random.pick(&calls(&mut Xorshift::new(u64::from(pages))));
-            assert_eq!(pair.call(call), Err(3), "{call:?}");
+            assert_eq!(pair.call(call).number(), 3, "{call:?}");
         }
     }
 }
@@ -149,7 +149,7 @@ fn zeros_behind_a_right_beginning() {
 #[test]
 fn after_an_init_the_words_held_nothing() {
     for pages in [1, 8, 24, 32, 255, 256] {
-        let mut told: Vec<Vec<Result<Answer, u32>>> = Vec::new();
+        let mut told: Vec<Vec<Answer>> = Vec::new();
         for mut pair in [
             Pair::zeroed(used_words(pages)),
             Pair::noisy(used_words(pages)),

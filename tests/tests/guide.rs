@@ -1,7 +1,10 @@
 //! docs/GUIDE.md and docs/TEACHER.md: their calls are made in the order in which they stand there, on the second program and
-//! on the bench program, and their answers, drawings and tables of sizes are the ones that come.
+//! on the bench program, and their answers, drawings, counts of runs and tables of sizes are the ones that come. What the guide
+//! says of counts, the example in C prints.
 
 use reference::bench::{Bench, WORDS};
+use reference::calls::Call;
+use reference::lines::{parse, render};
 use reference::sizes::{chunk_count, chunk_size, need, Need, PAGE_BYTES, ZONE_PAGES};
 use reference::state::{Page, State};
 use std::collections::VecDeque;
@@ -9,9 +12,13 @@ use tests::program::answers;
 
 const GUIDE: &str = include_str!("../../docs/GUIDE.md");
 const TEACHER: &str = include_str!("../../docs/TEACHER.md");
+const TIMING: &str = include_str!("../../examples/timing.out");
 
 /// What stands before a line that is typed.
 const TYPED: &str = "> ";
+
+/// What stands above requests with their counts.
+const COUNTS: &str = "group  bytes  answer    runs looked at";
 
 /// A fenced block: what is said behind its fence, and its lines.
 struct Block {
@@ -34,13 +41,13 @@ fn blocks(document: &'static str) -> Vec<Block> {
 #[test]
 fn every_answer_and_every_drawing_of_the_guide() {
     let (sessions, drawings) = hold(GUIDE);
-    assert!(sessions >= 24 && drawings >= 21, "{sessions}, {drawings}");
+    assert!(sessions >= 28 && drawings >= 26, "{sessions}, {drawings}");
 }
 
 #[test]
 fn every_answer_and_every_drawing_for_the_teacher() {
     let (sessions, drawings) = hold(TEACHER);
-    assert!(sessions >= 5 && drawings >= 1, "{sessions}, {drawings}");
+    assert!(sessions >= 9 && drawings >= 3, "{sessions}, {drawings}");
 }
 
 /// Every block of a document is what comes; how many sessions and drawings there were. A session is the bench program's, on from where
@@ -48,6 +55,7 @@ fn every_answer_and_every_drawing_for_the_teacher() {
 fn hold(document: &'static str) -> (usize, usize) {
     let (mut words, mut bench) = (WORDS, Bench::new(WORDS));
     let (mut sessions, mut drawings) = (0, 0);
+    let mut requests = Vec::new();
     for block in blocks(document) {
         let told = block.lines.join("\n");
         let stands = match block.kind.split_once(' ').unwrap_or((block.kind, "")) {
@@ -60,7 +68,12 @@ fn hold(document: &'static str) -> (usize, usize) {
                 if lent != words {
                     (words, bench) = (lent, Bench::new(lent));
                 }
-                talk(&mut bench, &block.lines)
+                requests.clear();
+                talk(&mut bench, &block.lines, &mut requests)
+            }
+            ("counts", _) => {
+                drawings += 1;
+                format!("{COUNTS}\n{}", requests.join("\n"))
             }
             (kind, of) => {
                 drawings += 1;
@@ -81,10 +94,12 @@ fn hold(document: &'static str) -> (usize, usize) {
     (sessions, drawings)
 }
 
-/// The typed lines of a block, each with what the second program answers behind it.
-fn talk(bench: &mut Bench, lines: &[&str]) -> String {
+/// The typed lines of a block, each with what the second program answers behind it. The requests among them are kept with their
+/// counts, which no line shows.
+fn talk(bench: &mut Bench, lines: &[&str], requests: &mut Vec<String>) -> String {
     let mut text = String::new();
     for typed in lines.iter().filter_map(|line| line.strip_prefix(TYPED)) {
+        requests.extend(counted(bench, typed));
         let mut answer = Vec::new();
         let fed = bench.feed(format!("{typed}\n").as_bytes(), &mut answer);
         fed.expect("memory takes every byte");
@@ -92,6 +107,36 @@ fn talk(bench: &mut Bench, lines: &[&str]) -> String {
         text.push_str(&String::from_utf8(answer).expect("answers are ASCII"));
     }
     text.trim_end().to_string()
+}
+
+/// A typed request with its answer and its count, as the example in C prints it.
+fn counted(bench: &Bench, typed: &str) -> Option<String> {
+    let call = parse(typed.as_bytes())?;
+    let (group, size) = match call {
+        Call::Allocate { group, size } => (group, size),
+        _ => return None,
+    };
+    let answer = bench.allocator().clone().serve(call);
+    let looked = answer.looked().expect("a request has a count");
+    let told = render(&answer);
+    Some(format!(
+        "{group:>5}{size:>7}  {:<10}{looked:>14}",
+        told.trim_end()
+    ))
+}
+
+/// The same requests in the same order, with the same answers and counts.
+#[test]
+fn the_example_in_c_prints_the_counts_of_the_guide() {
+    let blocks = blocks(GUIDE).into_iter();
+    let told: Vec<&str> = blocks
+        .filter(|block| block.kind == "counts")
+        .flat_map(|block| block.lines)
+        .collect();
+    let lines = TIMING.lines();
+    let printed = lines.filter(|line| *line == COUNTS || line.starts_with(' '));
+    assert_eq!(told, printed.collect::<Vec<&str>>());
+    assert!(told.len() >= 12, "{} lines", told.len());
 }
 
 #[test]

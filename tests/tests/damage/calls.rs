@@ -12,7 +12,7 @@ use reference::histories::Xorshift;
 use reference::listing::LONGEST;
 use reference::sizes::chunk_size;
 use reference::state::State;
-use tests::calls::{serve, told};
+use tests::calls::serve;
 use tests::counts::{on_all_processors, Counts};
 use tests::layout::{decode, encode};
 use tests::searches;
@@ -45,6 +45,7 @@ fn calls_on_damaged_words_do_what_the_second_program_does() {
     counts.expect(80_000, &[STATELESS]);
     counts.expect(25_000, &[SERVED]);
     counts.expect(50, &searches::KINDS);
+    counts.expect(50, &searches::COUNTS);
 }
 
 /// All kinds once, from one seed.
@@ -72,8 +73,8 @@ fn judge(
     let found = decode(&subject.twin()[..count]);
     let call = any_call(found.as_ref().unwrap_or(&subject.state), random);
     if let Some(state) = &found {
-        for kind in searches::kinds_of(state, &call) {
-            counts.count(kind, 1);
+        for name in searches::met(state, &call).names() {
+            counts.count(name, 1);
         }
     }
     let mut second = match found {
@@ -81,10 +82,10 @@ fn judge(
         None => Allocator::zeroed(count),
     };
     let ours = serve(subject.lend(count), call);
-    let theirs = told(second.serve(call));
+    let theirs = second.serve(call);
     let (words, twin) = (subject.words(), subject.twin());
     let as_expected = match second.state() {
-        Some(state) if theirs.is_ok() => {
+        Some(state) if theirs.number() == 0 => {
             let own = encode(state);
             words.starts_with(&own) && words[own.len()..] == twin[own.len()..]
         }
@@ -101,8 +102,8 @@ fn judge(
     }
     subject.undo();
     counts.count(MADE, 1);
-    counts.count(STATELESS, u32::from(theirs == Err(3)));
-    counts.count(SERVED, u32::from(theirs.is_ok()));
+    counts.count(STATELESS, u32::from(theirs.number() == 3));
+    counts.count(SERVED, u32::from(theirs.number() == 0));
 }
 
 /// A call that a state is likely to serve: about its blocks, its classes, its groups.

@@ -7,7 +7,7 @@ use std::path::{Path, PathBuf};
 
 /// Words in backticks that are no names of the tree: of the bench program's lines and answers, of C and Rattle, of the kit and of shells;
 /// files that are built; and the signs of the cases.
-pub const FOREIGN: [&str; 34] = [
+pub const FOREIGN: [&str; 35] = [
     "?",
     ">",
     ".out",
@@ -34,6 +34,7 @@ pub const FOREIGN: [&str; 34] = [
     "->",
     "0+8192",
     "8192|40960",
+    "(8)",
     "N*4096",
     "N*4096-1",
     "N-2",

@@ -1,9 +1,8 @@
-//! Document 01's cases and those of request a) through C. Every answer is the one written down, and
-//! every word after each call that of the second program's state.
+//! Document 01's cases and those of document 02's requests through C. Every answer is the one written
+//! down, every count of runs too, and every word after each call that of the second program's state.
 
 use reference::cases::{all, look, Case};
-use reference::lines::parse;
-use tests::calls::written;
+use reference::lines::{parse, render};
 use tests::pair::Pair;
 
 /// Makes the calls of a case, and looks at the state where it does.
@@ -11,7 +10,19 @@ fn follow(case: &Case, pair: Pair) {
     let mut pair = pair.named(case.name.clone());
     for step in &case.steps {
         let answer = match parse(step.asked.as_bytes()) {
-            Some(call) => Some(written(&pair.call(call))),
+            Some(call) => {
+                let answer = pair.call(call);
+                if step.looked.is_some() {
+                    assert_eq!(
+                        answer.looked(),
+                        step.looked,
+                        "{}: {}",
+                        case.name,
+                        step.asked
+                    );
+                }
+                Some(render(&answer))
+            }
             None => look(pair.state(), &step.asked),
         };
         let expected = Some(step.answer.clone());

@@ -2,8 +2,7 @@
 
 use reference::bench::WORDS;
 use reference::calls::{Call, Refusal};
-use reference::lines::parse;
-use tests::calls::written;
+use reference::lines::{parse, render};
 use tests::pair::Pair;
 
 const INPUT: &str = include_str!("../../../examples/session.txt");
@@ -17,7 +16,7 @@ fn calls() -> impl Iterator<Item = Call> {
 #[test]
 fn the_session() {
     let mut pair = Pair::zeroed(WORDS);
-    let output: String = calls().map(|call| written(&pair.call(call))).collect();
+    let output: String = calls().map(|call| render(&pair.call(call))).collect();
     assert_eq!(output, OUTPUT);
     assert_eq!(pair.query(104), Ok((2, 104)));
 }
@@ -26,7 +25,7 @@ fn the_session() {
 fn the_session_on_words_of_any_kind_and_number() {
     for more in [0, 1, 520, 5_000] {
         let mut pair = Pair::noisy(WORDS + more);
-        let output: String = calls().map(|call| written(&pair.call(call))).collect();
+        let output: String = calls().map(|call| render(&pair.call(call))).collect();
         assert_eq!(output, OUTPUT);
     }
 }
@@ -35,7 +34,7 @@ fn the_session_on_words_of_any_kind_and_number() {
 fn before_its_start_everything_is_refused_by_3() {
     let mut pair = Pair::zeroed(WORDS);
     for call in calls().skip(1) {
-        assert_eq!(pair.call(call), Err(Refusal::NoLegalState.number()));
+        assert_eq!(pair.call(call).refusal(), Some(Refusal::NoLegalState));
     }
     assert_eq!(pair.init(25), Err(2));
 }

@@ -3,7 +3,6 @@
 use reference::calls::{Answer, Call};
 use reference::state::{State, Zone};
 use std::ops::RangeInclusive;
-use tests::calls::Number;
 use tests::counts::Counts;
 use tests::searches;
 
@@ -12,7 +11,7 @@ pub const CALLS: &str = "calls";
 /// Live blocks that were asked for at a history's end.
 pub const ASKED: &str = "live blocks asked for at the end";
 
-/// All that histories are to come upon, with the second searches, and nothing else.
+/// All that histories are to come upon, with the searches, and nothing else.
 pub const ALL: [&str; 30] = [
     "allocate, chunk: no 4",
     "allocate, chunk: no 5",
@@ -46,7 +45,7 @@ pub const ALL: [&str; 30] = [
     "zones seen: with a chain",
 ];
 
-/// The arenas in which second searches are counted, each kind by itself.
+/// The arenas in which searches are counted, each kind by itself.
 const ARENAS: [(&str, RangeInclusive<u32>); 3] = [
     ("24 pages", 24..=24),
     ("25 to 127 pages", 25..=127),
@@ -55,35 +54,44 @@ const ARENAS: [(&str, RangeInclusive<u32>); 3] = [
 
 /// The second searches of every kind in every arena.
 pub fn searches() -> Vec<String> {
-    let of_arena = |(arena, _): &(&str, _)| searches::KINDS.map(|kind| in_arena(arena, kind));
+    in_every_arena(searches::KINDS)
+}
+
+/// The counts of runs of every kind in every arena.
+pub fn looks() -> Vec<String> {
+    in_every_arena(searches::COUNTS)
+}
+
+fn in_every_arena(kinds: [&str; 7]) -> Vec<String> {
+    let of_arena = |(arena, _): &(&str, _)| kinds.map(|kind| in_arena(arena, kind));
     ARENAS.iter().flat_map(of_arena).collect()
 }
 
 /// All that histories are to come upon.
 pub fn all_with_searches() -> Vec<String> {
     let others = ALL.iter().map(|kind| kind.to_string());
-    others.chain(searches()).collect()
+    others.chain(searches()).chain(looks()).collect()
 }
 
 fn in_arena(arena: &str, kind: &str) -> String {
     format!("{arena}, {kind}")
 }
 
-/// Counts the second search that a call on this state comes to, if it does; whether there is an idle
-/// zone that it gives back or leaves.
+/// Counts the searches that a call on this state comes to; whether there is an idle zone that a
+/// second one gives back or leaves.
 pub fn count_searches(counts: &mut Counts, state: &State, call: &Call) -> bool {
-    let kinds = searches::kinds_of(state, call);
+    let met = searches::met(state, call);
     let mut arenas = ARENAS.iter();
     if let Some((arena, _)) = arenas.find(|(_, pages)| pages.contains(&state.pages)) {
-        for kind in kinds {
-            counts.count(&in_arena(arena, kind), 1);
+        for name in met.names() {
+            counts.count(&in_arena(arena, name), 1);
         }
     }
-    !kinds.is_empty() && state.zones.values().any(Zone::is_idle)
+    !met.kinds.is_empty() && state.zones.values().any(Zone::is_idle)
 }
 
 /// A call's kind and its answer's.
-pub fn of_answer(call: &Call, answer: &Result<Answer, Number>) -> String {
+pub fn of_answer(call: &Call, answer: &Answer) -> String {
     let kind = match call {
         Call::Init { .. } => "init",
         Call::Allocate { size, .. } if *size < 8_192 => "allocate, chunk",
@@ -94,9 +102,9 @@ pub fn of_answer(call: &Call, answer: &Result<Answer, Number>) -> String {
         Call::Query { .. } => "query",
         Call::Listing { .. } => "listing",
     };
-    match answer {
-        Err(number) => format!("{kind}: no {number}"),
-        Ok(_) => format!("{kind}: served"),
+    match answer.number() {
+        0 => format!("{kind}: served"),
+        number => format!("{kind}: no {number}"),
     }
 }
 

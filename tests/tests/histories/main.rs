@@ -4,14 +4,15 @@
 //!
 //!     cargo test --offline --locked -p tests --test histories
 //!
-//! Both programs give the same answer to every call and the same listing after every tenth. Their
-//! words are the same after every fiftieth call, after every second search where a zone is idle, and
+//! Both programs give the same answer to every call, a request's count of runs among it, and the
+//! same listing after every tenth. Their words are the same after every fiftieth call, after every second search where a zone is idle, and
 //! at the end; to compare them after every call would take minutes in the large arenas. At the end
 //! both answer the same to a query of every live offset and of the byte behind it; of a beginning
 //! with any number of blocks, to 100 of them.
 //!
 //! The tests print what their histories came upon: among it the second searches, by what they are
-//! for, what they come to, and the arena's pages. They are the same in every run.
+//! for and what they come to, and how many runs the requests looked at, both by the arena's pages.
+//! They are the same in every run.
 
 mod kinds;
 
@@ -41,6 +42,7 @@ fn histories_that_begin_with_an_init() {
     counts.expect(2_000 * CALLS, &[kinds::CALLS]);
     counts.expect(300, &kinds::ALL);
     counts.expect(200, &kinds::searches());
+    counts.expect(200, &kinds::looks());
     counts.expect_nothing_but(&kinds::all_with_searches());
 }
 
@@ -51,6 +53,8 @@ fn histories_that_begin_with_any_valid_state() {
     counts.expect(400 * CALLS, &[kinds::CALLS]);
     counts.expect(50, &kinds::ALL);
     counts.expect(20, &kinds::searches());
+    // The least: none, in two searches of a large arena, whose pages are seldom all taken.
+    counts.expect(10, &kinds::looks());
     counts.expect_nothing_but(&kinds::all_with_searches());
 }
 
@@ -112,12 +116,10 @@ fn follow(
         let searched = kinds::count_searches(counts, pair.state(), &call);
         let answer = pair.serve(call);
         counts.count(&kinds::of_answer(&call, &answer), 1);
-        if let Ok(answer) = answer {
-            history.observe(&call, &answer);
-        }
+        history.observe(&call, &answer);
         if made % LISTING == 0 {
             let capacity = LONGEST;
-            assert!(pair.serve(Call::Listing { capacity }).is_ok());
+            assert_eq!(pair.serve(Call::Listing { capacity }).number(), 0);
         }
         if made % WORDS == 0 {
             pair.compare();
@@ -132,7 +134,7 @@ fn follow(
     for block in live.iter().take(asked) {
         for offset in [block.offset, block.offset + 1] {
             let answer = pair.serve(Call::Query { offset });
-            let begins = matches!(answer, Ok(Answer::Held { group, .. }) if group == block.group);
+            let begins = matches!(answer, Answer::Held { group, .. } if group == block.group);
             assert_eq!(begins, offset == block.offset);
         }
         counts.count(kinds::ASKED, 1);

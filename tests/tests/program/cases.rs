@@ -1,5 +1,5 @@
-//! Document 01's cases and those of request a), as far as they need no more words than the program
-//! has.
+//! Document 01's cases and those of document 02's requests, as far as they need no more words than
+//! the program has. It writes no count of runs.
 
 use crate::check_bytes;
 use reference::cases::{all, Case};
