@@ -48,25 +48,26 @@ static void expect(const char *what, unsigned long came, unsigned long expected)
     }
 }
 
-/* A request that is granted at the expected offset. */
+/* A request that is granted at the expected offset. What it says of the free runs, timing.c shows. */
 static uint32_t request(uint32_t group, uint32_t size, uint32_t expected)
 {
-    uint32_t offset;
+    uint32_t offset, looked;
 
-    expect("request", nostrimel_allocate(meta, WORDS, group, size, &offset), NOSTRIMEL_DONE);
+    expect("request", nostrimel_allocate(meta, WORDS, group, size, &offset, &looked), NOSTRIMEL_DONE);
     expect("offset", offset, expected);
     printf("group %2u asks for %5u bytes: at %5u\n", (unsigned)group, (unsigned)size, (unsigned)offset);
     return offset;
 }
 
-/* A request that is refused. The offset is not written. */
+/* A request that is refused. The offset is not written; the count of free runs is. */
 static void refused(uint32_t group, uint32_t size, enum nostrimel_refusal expected)
 {
-    uint32_t offset = 77;
-    uint32_t number = nostrimel_allocate(meta, WORDS, group, size, &offset);
+    uint32_t offset = 77, looked = 77;
+    uint32_t number = nostrimel_allocate(meta, WORDS, group, size, &offset, &looked);
 
     expect("refusal", number, (unsigned long)expected);
     expect("offset after a refusal", offset, 77);
+    expect("a count after a refusal", looked != 77, 1);
     printf("group %2u asks for %5u bytes: no %u\n", (unsigned)group, (unsigned)size, (unsigned)number);
 }
 
