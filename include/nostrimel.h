@@ -81,7 +81,7 @@ extern "C" {
 
 /*
  * Bytes of stack that a call uses at most. That is measured and not proved: in twenty thousand calls of all kinds, on painted stacks,
- * a listing used 504 at most and any other call 360 (tests/c/stack.c, which fails where a call uses more than this).
+ * a listing used 504 at most and any other call 376 (tests/c/stack.c, which fails where a call uses more than this).
  */
 #define NOSTRIMEL_STACK_BYTES 1024u
 
