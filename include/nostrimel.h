@@ -9,6 +9,9 @@
  *     ./library --prefix DIR     also installs both below DIR, with a file for pkg-config
  *     cc -std=c99 board.c $(PKG_CONFIG_PATH=DIR/lib/pkgconfig pkg-config --cflags --libs nostrimel)
  *
+ * Compile with the header that came with the archive: a function's arguments can change from one archive to the next, and a linker does
+ * not see that.
+ *
  * For which processors. The archive is one ELF object for x86-64 (any: SSE2 is all that it needs) with the calling convention of
  * System V, which Linux uses; its code is position independent. Any other processor needs another archive, which the kit's compiler
  * does not write. A linker for one refuses this archive: GNU ld says "skipping incompatible .../libnostrimel.a when searching for

@@ -4,6 +4,7 @@
 //! the same ones. cases/README.md says how they are written.
 
 use crate::bench::WORDS;
+use crate::calls::Answer;
 use crate::sizes::words_needed;
 use crate::state::State;
 
@@ -36,6 +37,13 @@ pub struct Step {
     pub answer: String,
     /// Of a request, the runs that it looked at, where the case says so.
     pub looked: Option<u32>,
+}
+
+impl Step {
+    /// Whether an answer has the count that the case says, where it says one.
+    pub fn has_count_of(&self, answer: &Answer) -> bool {
+        self.looked.is_none() || answer.looked() == self.looked
+    }
 }
 
 impl Case {

@@ -25,15 +25,8 @@ fn follow(case: &Case) {
                 if is_without_effect(&answer) {
                     assert_eq!(allocator, before, "{}: {}", case.name, step.asked);
                 }
-                if step.looked.is_some() {
-                    assert_eq!(
-                        answer.looked(),
-                        step.looked,
-                        "{}: {}",
-                        case.name,
-                        step.asked
-                    );
-                }
+                let counted = step.has_count_of(&answer);
+                assert!(counted, "{}: {}: {:?}", case.name, step.asked, answer);
                 Some(render(&answer))
             }
             None => allocator.state().and_then(|state| look(state, &step.asked)),

@@ -1,23 +1,32 @@
--- How far a request looks: the count that its answer has, and that one search looks at no more runs than half of the pages, rounded up, and
--- a request at no more than twice that. Assumes nothing.
+-- How far a request looks: the count that its answer has, and no other call's; and that one search looks at no more runs than half of the
+-- pages, rounded up, and a request at no more than twice that. Assumes nothing.
 use Prim.Native.Nat.{ℕ, _*_, _≤_, _<_}
 use mathlib.Core.Path.{_≡_, refl, sym, ap, subst}
 use mathlib.Core.List.{List, [], _∷_}
 use mathlib.Core.Option.{Option, none, some}
 use mathlib.Core.Bool.{Bool, true, false, cond, _&&_}
 use native.Mathlib.Omega.{arith}
-use lib.Dec.{ltb}
+use lib.Dec.{ltb, leb, eqb}
+use lib.ListN.{length}
 use Rattle.lemmas.proofs.Cases.{bool}
-use Rattle.model.specs.Numbers.{zonePages, largeSize}
+use Rattle.model.specs.Numbers.{zonePages, largeSize, mostPages}
+use Rattle.model.specs.declared.Call.{Call}
+use Rattle.model.specs.declared.Operation.{Operation}
+use Rattle.model.specs.declared.Operation.the-variants.{Allocate, Free, Reset}
+use Rattle.model.specs.declared.Refusal.{Refusal}
+use Rattle.model.specs.declared.Refusal.the-variants.{NoState}
 use Rattle.model.specs.Sizes.{classOf, pagesFor}
 use Rattle.model.specs.Arena.{Segment, run, direct, zone, pages, total, Each}
 use Rattle.model.specs.Zone.{Zone}
 use Rattle.model.specs.State.{State, listOf}
-use Rattle.model.specs.PageMap.{idleZone}
+use Rattle.model.specs.PageMap.{pageMap, idleZone, Block, groupOf, blockAt}
 use Rattle.model.specs.Pages.{FreeRun, claim, mostLooked}
 use Rattle.model.specs.Valid.{Apart, ValidSegment, Valid}
-use Rattle.model.specs.Trim.{trimmed}
-use Rattle.model.specs.Calls.{lookedOf, groupOk, sizeOk}
+use Rattle.model.specs.Trim.{trimmed, described}
+use Rattle.model.specs.Free.{freeBlock, free}
+use Rattle.model.specs.Listing.{listingText}
+use Rattle.model.specs.Perform.{asked, serve, Metadata, wordsFor, onState, perform}
+use Rattle.model.specs.Calls.{Action, group, trim, query, listing, Command, init, act, lookedOf, toldBy, refusalOf, groupOk, sizeOk}
 use Rattle.model.specs.Allocate.{Source, searched, sought, directFrom, zoneFrom, fromSpare, chunkFrom, supplied, zoneNeeded, needed, looksFor, allocate}
 use Rattle.model.proofs.Claim.{claim-bounded}
 use Rattle.model.proofs.Joins.{total-joined}
@@ -51,6 +60,54 @@ module _ (s : State) where
   counted g n = bool (groupOk g)
       (λ t. bool (sizeOk n) (λ u. rw (t, u) (supplied-counted g n)) (λ u. rw (t, u)))
       (λ t. rw t)
+
+-- Nothing else has one -------------------------------------------------------------------------------------------------
+
+-- A call that is no request.
+abbrev pub NoRequest : Command → Type 0
+NoRequest c = (g n : ℕ) → c ≡ act (group (record { group = g; operation = Allocate n })) → ⊥
+
+module _ (s : State) where
+  free-uncounted : (g o : ℕ) → lookedOf ((free g o s) .answer) ≡ none
+  free-uncounted g o = bool (groupOk g) (λ t. rw t (go (blockAt (pageMap s) o))) (λ t. rw t)
+    where
+      go : (b : Option Block) → lookedOf ((freeBlock g o s b) .answer) ≡ none
+      go none = refl
+      go (some b) = bool (eqb (groupOf b) g) (λ t. rw t) (λ t. rw t)
+
+  query-uncounted : (b : Option Block) → lookedOf (described b) ≡ none
+  query-uncounted none = refl
+  query-uncounted (some b) = refl
+
+  asked-uncounted : (c : Call) (q : Operation) → c .operation ≡ q → NoRequest (act (group c)) → lookedOf ((asked (c .group) q s) .answer) ≡ none
+  asked-uncounted c (Allocate n) e f = absurd (f (c .group) n (λ i. act (group (record { group = c .group; operation = e i }))))
+  asked-uncounted c (Free o) e f = free-uncounted (c .group) o
+  asked-uncounted c Reset e f = bool (groupOk (c .group)) (λ t. rw t) (λ t. rw t)
+
+  serve-uncounted : (a : Action) → NoRequest (act a) → lookedOf ((serve s a) .answer) ≡ none
+  serve-uncounted (group c) f = asked-uncounted c (c .operation) refl f
+  serve-uncounted trim f = refl
+  serve-uncounted (query o) f = query-uncounted (blockAt (pageMap s) o)
+  serve-uncounted (listing n) f = bool (leb (length (listingText (pageMap s))) n) (λ t. rw t) (λ t. rw t)
+
+refusal-uncounted : (a : Action) (k : Refusal) → NoRequest (act a) → lookedOf (refusalOf a k) ≡ none
+refusal-uncounted (group c) k f = go (c .operation) refl
+  where
+    go : (q : Operation) → c .operation ≡ q → lookedOf (toldBy q k) ≡ none
+    go (Allocate n) e = absurd (f (c .group) n (λ i. act (group (record { group = c .group; operation = e i }))))
+    go (Free o) e = refl
+    go Reset e = refl
+refusal-uncounted trim k f = refl
+refusal-uncounted (query o) k f = refl
+refusal-uncounted (listing n) k f = refl
+
+pub uncounted : (m : Metadata) (c : Command) → NoRequest c → lookedOf ((perform m c) .answer) ≡ none
+uncounted m (init n) f = bool (leb 1 n && leb n mostPages) (λ t. bool (leb (wordsFor n) (m .words)) (λ u. rw (t, u)) (λ u. rw (t, u))) (λ t. rw t)
+uncounted m (act a) f = go (m .state)
+  where
+    go : (x : Option State) → lookedOf ((onState m a x) .answer) ≡ none
+    go none = refusal-uncounted a NoState f
+    go (some s) = serve-uncounted s a f
 
 -- The bounds -------------------------------------------------------------------------------------------------------------
 

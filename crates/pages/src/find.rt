@@ -130,7 +130,7 @@ fn clear(words: &[u32], n: usize, p: usize) -> bool
     zone::is_idle(zone_part(words, n, p))
 }
 
-// A search for `need` pages, which has looked at so many runs, comes to a run of `free` pages that ends at page p. (0: to none.)
+// A search for `need` pages that has looked at so many runs comes to one of `free` pages, which ends at page p. (No pages are no run.)
 fn look_at(p: usize, free: usize, need: usize, looked: u32) -> Choice
     requires { ⌜ (free ≤ p) × (looked ≤ mostPages) ⌝ }
     ensures { λ r. ⌜ r ≡ choice (onward looked (firstFit (p - free) need (withRun {Z = Zone} free []))) ⌝ }

@@ -190,6 +190,11 @@ pub request-looks : (w : List ℕ) (s : State) → stateOf w ≡ some s → (g n
     lookedOf (answerOf w (act (request g n))) ≡ some (cond (groupOk g && sizeOk n) (looksFor (needed n s) s) 0)
 request-looks w s e g n = let h = holding-of w s e in ap lookedOf (served-answer w s (h .valid) (h .begins) (request g n)) ∙ looked.counted s g n
 
+-- .. No other call's answer has a count of runs, refused or not. ..
+pub others-uncounted : (w : List ℕ) (c : Command) → ((g n : ℕ) → c ≡ act (request g n) → ⊥) → lookedOf (answerOf w c) ≡ none
+unfolding answerOf
+others-uncounted w c f = looked.uncounted (viewOf w) c f
+
 -- .. One search looks at no more runs than half of the pages, rounded up, in the state as it is or as trim would leave it, ..
 pub search-bounded : (w : List ℕ) (s : State) → stateOf w ≡ some s → (n : ℕ) →
     (searched n s .looked ≤ mostLooked (total (s .segments))) × (searched n (trimmed s) .looked ≤ mostLooked (total (s .segments)))

@@ -12,15 +12,8 @@ fn follow(case: &Case, pair: Pair) {
         let answer = match parse(step.asked.as_bytes()) {
             Some(call) => {
                 let answer = pair.call(call);
-                if step.looked.is_some() {
-                    assert_eq!(
-                        answer.looked(),
-                        step.looked,
-                        "{}: {}",
-                        case.name,
-                        step.asked
-                    );
-                }
+                let counted = step.has_count_of(&answer);
+                assert!(counted, "{}: {}: {:?}", case.name, step.asked, answer);
                 Some(render(&answer))
             }
             None => look(pair.state(), &step.asked),
