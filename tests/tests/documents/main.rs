@@ -52,7 +52,7 @@ fn held_documents() -> Vec<Document> {
         name.map_or(false, |name| name != "README.md")
     };
     let all = documents();
-    let last = all.iter().filter(|document| note(document)).last();
+    let last = all.iter().rfind(|document| note(document));
     let last = last.expect("a landing's note").path.clone();
     all.into_iter()
         .filter(|document| !note(document) || document.path == last)
