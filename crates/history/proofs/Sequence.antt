@@ -104,7 +104,8 @@ direct-says s n g k (some h) = refl
 allocate-both : (s : State) (g n : ℕ) → Neat false (pageMap s) → 8192 ≤ n → (pageMap ((allocate g n s) .after) ≡ mapAfter (pageMap s) g (Allocate n)) × ((allocate g n s) .answer ≡ sayAt (pageMap s) g (Allocate n))
 allocate-both s g n k h = rw (le-ltb n 8192 h) (bool (groupOk g)
     (λ t. rw t (bool (sizeOk n)
-    (λ u. rw (u, neat-sought s (pagesFor n) k, claim-retold occupancy (pagesFor n) (s .segments)) (let l = claim (pagesFor n) (s .segments) in (direct-map s _ g (l .looked) (l .chosen), direct-says s _ g (l .looked) (l .chosen))))
+    (λ u. rw (u, neat-sought s (pagesFor n) k, claim-retold occupancy (pagesFor n) (s .segments))
+    (let l = claim (pagesFor n) (s .segments) in (direct-map s _ g (l .looked) (l .chosen), direct-says s _ g (l .looked) (l .chosen))))
     (λ u. rw u (refl, refl))))
     (λ t. rw t (refl, refl)))
 

@@ -10,12 +10,16 @@ use mathlib.Core.Bool.{Bool, true, false, cond, _||_}
 use native.Mathlib.Omega.{arith}
 use lib.Dec.{leb}
 use borrow.Author.Tests.{leb-true, leb-false, lt-ltb, le-ltb}
-use Rattle.lemmas.proofs.Cases.{bool, either, true-false, some-inj, none-some}
+use Rattle.lemmas.proofs.Cases.{bool, true-false, some-inj, none-some}
 use Rattle.model.specs.Numbers.{pageBytes, zonePages}
 use Rattle.model.specs.Arena.{Segment, run, direct, zone, pages, bytes, total, retold, locate, Each}
 use Rattle.model.specs.Valid.{Apart}
 use Rattle.model.specs.Pages.{FreeRun, Search, onward, firstFit, claim, hasRun, mostLooked}
 use Rattle.model.proofs.Arena.{each-locate}
+
+half : (b : Bool) → cond b 1 0 ≤ 1
+half true = omega arith
+half false = omega arith
 
 -- Runs looked at before a search are added.
 module _ {A : Type 0} (l : Search A) where
@@ -92,12 +96,12 @@ module _ {Z : Type 0} where
 
   -- A run that stands before takes the half page that is rounded up.
   looked-most : (p n : ℕ) (b : Bool) (m : List (Segment Z)) → Spread b m → firstFit p n m .looked * 2 + cond b 1 0 ≤ total m + 1
-  looked-most p n b [] h = either (λ k. 0 * 2 + k ≤ 0 + 1) b 1 0 (λ _. omega arith) (λ _. omega arith)
+  looked-most p n b [] h = omega (arith, half b)
   looked-most p n b (run k ∷ r) h = bool (leb n k)
       (λ t. rw (t, h .0 .0) (omega (arith, h .1 .0)))
       (λ t. rw (t, h .0 .0) (omega (arith, h .1 .0, looked-most (p + k) n true r (h .0 .2, h .1 .1))))
-  looked-most p n b (direct k g ∷ r) h = either (λ j. firstFit (p + k) n r .looked * 2 + j ≤ k + total r + 1) b 1 0 (λ _. omega (arith, h .1 .0, looked-most (p + k) n false r (h .0, h .1 .1))) (λ _. omega (arith, looked-most (p + k) n false r (h .0, h .1 .1)))
-  looked-most p n b (zone z ∷ r) h = either (λ j. firstFit (p + zonePages) n r .looked * 2 + j ≤ zonePages + total r + 1) b 1 0 (λ _. omega (arith, looked-most (p + zonePages) n false r (h .0, h .1 .1))) (λ _. omega (arith, looked-most (p + zonePages) n false r (h .0, h .1 .1)))
+  looked-most p n b (direct k g ∷ r) h = omega (arith, half b, h .1 .0, looked-most (p + k) n false r (h .0, h .1 .1))
+  looked-most p n b (zone z ∷ r) h = omega (arith, half b, looked-most (p + zonePages) n false r (h .0, h .1 .1))
 
   -- Runs do not touch: so no search looks at more of them than half of the pages, rounded up.
   pub claim-bounded : (n : ℕ) (m : List (Segment Z)) → Spread false m → claim n m .looked ≤ mostLooked (total m)

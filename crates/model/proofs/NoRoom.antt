@@ -77,8 +77,14 @@ module _ (s : State) where
     lacks-short t u l = record { group = t; size = u; pages = l .0; needs = l .1; none-long = l .2 }
 
     pub no-room : DeniedBy 6 ((allocate g n s) .answer) ↔ Short s g n
-    no-room = (λ e. let d = denial-told NoRoom ((allocate g n s) .answer) .0 e in there (d .0) (d .1), λ h. let d = back (decided g n) h in denial-told NoRoom ((allocate g n s) .answer) .1 (d .0, accepted (h .group) (h .size) ∙ d .1))
+    no-room = (
+      λ e. let d = told .0 e in there (d .0) (d .1),
+      λ h. let d = back (decided g n) h in told .1 (d .0, accepted (h .group) (h .size) ∙ d .1),
+    )
       where
+        told : DeniedBy 6 ((allocate g n s) .answer) ↔ ((k : ℕ) × ((allocate g n s) .answer ≡ Denied NoRoom k))
+        told = denial-told NoRoom ((allocate g n s) .answer)
+
         there : (k : ℕ) → (allocate g n s) .answer ≡ Denied NoRoom k → Short s g n
         there j e = bool (groupOk g)
             (λ t. bool (sizeOk n)

@@ -84,7 +84,11 @@ pub record Trimming (need : ℕ) (w : List ℕ) (n : ℕ) (e : Choice) (a k p : 
 
 pub trim-start : {w : List ℕ} {n need : ℕ} → Holds w n → Trimming need w n (choice (claim need (joined idleZone 0 (segmentsOf w)))) 0 0 0
 unfolding claim
-trim-start {w} {n} {need} h = record { behind = 0; walk = subst (λ e. Walk (rests need) w n e (0, 0) 0 0) (ap choice (onward-none (firstFit 0 need (joined idleZone 0 (segmentsOf w))))) (walk-start (0, 0) h); inside = omega arith }
+trim-start {w} {n} {need} h = record {
+  behind = 0;
+  walk = subst (λ e. Walk (rests need) w n e (0, 0) 0 0) (ap choice (onward-none (firstFit 0 need (joined idleZone 0 (segmentsOf w))))) (walk-start (0, 0) h);
+  inside = omega arith;
+}
 
 module _ {need : ℕ} {w : List ℕ} {n : ℕ} {e : Choice} {a k p : ℕ} (i : Trimming need w n e a k p) where
   module _ (h : p < n) where
@@ -106,7 +110,11 @@ module _ {need : ℕ} {w : List ℕ} {n : ℕ} {e : Choice} {a k p : ℕ} (i : T
         abbrev ending : Search FreeRun
         ending = ended (p - a) need a
 
-        whole : choice (onward k (followed (ending .chosen) (ending .looked) (firstFit (p + pages (here .x)) need (joined idleZone 0 (here .rest))))) ≡ e
+        -- The search behind it.
+        abbrev rest : Search FreeRun
+        rest = firstFit (p + pages (here .x)) need (joined idleZone 0 (here .rest))
+
+        whole : choice (onward k (followed (ending .chosen) (ending .looked) rest)) ≡ e
         whole =
             ap (λ q. choice (onward k (followed (ending .chosen) (ending .looked) (firstFit (q + pages (here .x)) need (joined idleZone 0 (here .rest)))))) (let q : p ≡ p - a + a = omega (arith, i .inside) in q)
             ∙ ap (λ l. choice (onward k l)) (sym (solid-more (p - a) need a (here .x) (here .rest) c)) ∙ at-it (i .walk) here
@@ -117,15 +125,12 @@ module _ {need : ℕ} {w : List ℕ} {n : ℕ} {e : Choice} {a k p : ℕ} (i : T
           where
             go : (o : Option FreeRun) → ending .chosen ≡ o → Chosen at long j ≡ e
             go none q = let z : Chosen at long j ≡ Missed (k + ending .looked) = sym told ∙ is ∙ ap (choiceOf (k + ending .looked)) q in clash (cc)
-            go (some y) q = sym told ∙ is ∙ ap (choiceOf (k + ending .looked)) q ∙ ap (λ o. choice (onward k (followed o (ending .looked) (firstFit (p + pages (here .x)) need (joined idleZone 0 (here .rest)))))) (sym q) ∙ whole
+            go (some y) q = sym told ∙ is ∙ ap (choiceOf (k + ending .looked)) q ∙ ap (λ o. choice (onward k (followed o (ending .looked) rest))) (sym q) ∙ whole
 
         -- .. or the search goes on.
         pub trim-past : {f : Choice} {j : ℕ} → f ≡ choice (onward k ending) → f ≡ Missed j → Trimming need w n e 0 j (p + len)
         trim-past {f} {j} is told = go (ending .chosen) refl
           where
-            rest : Search FreeRun
-            rest = firstFit (p + pages (here .x)) need (joined idleZone 0 (here .rest))
-
             go : (o : Option FreeRun) → ending .chosen ≡ o → Trimming need w n e 0 j (p + len)
             go (some y) q = let z : Missed j ≡ Chosen (y .page) (y .size) (k + ending .looked) = sym told ∙ is ∙ ap (choiceOf (k + ending .looked)) q in clash (cc)
             go none q =

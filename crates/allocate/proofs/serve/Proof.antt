@@ -52,7 +52,9 @@ returns c =
     let r = room (t .before) in
     let z = zone-grant r in
     let s = start z in
-    let h = s .pre in let e = z .zone-grant .ensures in (c .granted-at .ensures ∙ serve-answer (h .0) (h .1) (e .0) (r .room .ensures), stays (h .0) (h .1) (e .1) (t .before .zone-full .ensures) (not-true _ (t .if1 .taken)))
+    let h = s .pre in
+    let e = z .zone-grant .ensures in
+    (c .granted-at .ensures ∙ serve-answer (h .0) (h .1) (e .0) (r .room .ensures), stays (h .0) (h .1) (e .1) (t .before .zone-full .ensures) (not-true _ (t .if1 .taken)))
 
 list-without-requires : tie.Need-list-without-requires
 list-without-requires c κs =
