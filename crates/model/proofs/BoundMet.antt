@@ -7,7 +7,7 @@ use mathlib.Core.Option.{none, Option·map}
 use mathlib.Core.Bool.{false}
 use native.Mathlib.Omega.{arith}
 use lib.Dec.{ltb}
-use lib.ListN.{replicate}
+use lib.ListN.{length, replicate}
 use Rattle.lemmas.proofs.Cases.{bool, clash, none-some}
 use Rattle.model.specs.Numbers.{pageBytes, classCount, mostPages}
 use Rattle.model.specs.declared.Refusal.the-variants.{NoRoom}
@@ -15,12 +15,15 @@ use Rattle.model.specs.declared.Answer.the-variants.{Denied}
 use Rattle.model.specs.Arena.{Segment, run, direct, zone, total, Each}
 use Rattle.model.specs.Zone.{Zone}
 use Rattle.model.specs.State.{State, Begins}
-use Rattle.model.specs.PageMap.{idleZone}
-use Rattle.model.specs.Pages.{onward, firstFit, claim, joined, mostLooked}
+use Rattle.model.specs.PageMap.{idleZone, shown}
+use Rattle.model.specs.Pages.{claim, hasRun, joined, mostLooked}
+use Rattle.model.specs.Listing.{runLines}
 use Rattle.model.specs.Valid.{Apart, ValidSegment, Valid}
 use Rattle.model.specs.Trim.{trimmed}
 use Rattle.model.specs.Allocate.{foundIn, searched, sought, directFrom, allocate}
 use Rattle.model.proofs.Arena.{same-segment}
+use Rattle.model.proofs.Claim.{claim-has}
+use Rattle.model.proofs.ReadOff.{state-all}
 use Rattle.model.proofs.Sought.{sought-second}
 use Rattle.model.proofs.Validity.{bare-valid}
 
@@ -58,21 +61,28 @@ comb-bare (suc (suc n)) o z e = bool (ltb o pageBytes)
 pub comb-valid : (n : ℕ) → 0 < n → n ≤ mostPages → Valid (combed n)
 comb-valid n least most = bare-valid (comb n) (omega (arith, comb-total n)) (omega (arith, comb-total n)) (comb-apart n) (comb-sound n) (λ p z b. comb-bare n (p * pageBytes) z b)
 
--- Two pages are in no run, and every run is looked at.
-comb-first : (p n : ℕ) → firstFit p 2 (comb n) ≡ record { chosen = none; looked = mostLooked n }
-comb-first p zero = refl
-comb-first p (suc zero) = refl
-comb-first p (suc (suc n)) = ap (onward 1) (comb-first _ n) ∙ (λ i. record { chosen = none; looked = (let q : 1 + mostLooked n ≡ mostLooked (suc (suc n)) = omega arith in q) i })
+-- Two pages are in no run, ..
+comb-short : (n : ℕ) → hasRun 2 (comb n) ≡ false
+comb-short zero = refl
+comb-short (suc zero) = refl
+comb-short (suc (suc n)) = comb-short n
+
+-- .. and every run is looked at: every second page is one.
+comb-lines : (p n : ℕ) → length (runLines p (shown (comb n))) ≡ mostLooked n
+comb-lines p zero = refl
+comb-lines p (suc zero) = refl
+comb-lines p (suc (suc n)) = omega (arith, comb-lines (p + 1 + 1) n)
+
+comb-search : (n : ℕ) → claim 2 (comb n) ≡ record { chosen = none; looked = mostLooked n }
+comb-search n =
+    let c = claim-has 2 (comb n) (omega arith) .1 (comb-short n) in
+    let k = state-all 2 (combed n) c .0 ∙ comb-lines 0 n in λ i. record { chosen = c i; looked = k i }
 
 -- Trim has nothing to join.
 comb-joined : (n : ℕ) → joined idleZone 0 (comb n) ≡ comb n
 comb-joined zero = refl
 comb-joined (suc zero) = refl
 comb-joined (suc (suc n)) = ap (λ r. run 1 ∷ direct 1 1 ∷ r) (comb-joined n)
-
-comb-search : (n : ℕ) → claim 2 (comb n) ≡ record { chosen = none; looked = mostLooked n }
-unfolding claim
-comb-search n = comb-first 0 n
 
 -- One search meets its bound, ..
 pub search-met : (n : ℕ) → searched 2 (combed n) .looked ≡ mostLooked n

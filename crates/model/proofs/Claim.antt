@@ -1,25 +1,24 @@
--- The four laws of the search for pages: what it finds is a run that is long enough; where it finds none, none is; it looks at no more
--- runs than half of the pages, rounded up; it does not look inside zones. Nothing else is used of it. Over any kind of zone. Assumes
--- nothing.
+-- The laws of the search for pages: what it finds is a run that is long enough; where it finds none, none is; by the lines of a listing's
+-- runs, which it finds and how many it looks at; these are no more than half of the pages, rounded up; it does not look inside zones. But
+-- where it is computed, and where the code walks, nothing else is used of it. Over any kind of zone. Assumes nothing.
 use Prim.Native.Nat.{ℕ, _+_, _*_, _≤_, _<_}
 use mathlib.Core.Path.{_≡_, refl, sym, _∙_, ap, subst}
 use mathlib.Core.Logic.{_↔_}
-use mathlib.Core.List.{List, [], _∷_, map}
+use mathlib.Core.List.{List, [], _∷_, _++_, map}
 use mathlib.Core.Option.{Option, none, some}
 use mathlib.Core.Bool.{Bool, true, false, cond, _||_}
 use native.Mathlib.Omega.{arith}
 use lib.Dec.{leb}
+use lib.ListN.{length, getD}
 use borrow.Author.Tests.{leb-true, leb-false, lt-ltb, le-ltb}
-use Rattle.lemmas.proofs.Cases.{bool, true-false, some-inj, none-some}
+use Rattle.lemmas.proofs.Cases.{bool, true-false, some-inj, none-some, one-most}
 use Rattle.model.specs.Numbers.{pageBytes, zonePages}
 use Rattle.model.specs.Arena.{Segment, run, direct, zone, pages, bytes, total, retold, locate, Each}
+use Rattle.model.specs.PageMap.{PageMap}
+use Rattle.model.specs.Listing.{runLines}
 use Rattle.model.specs.Valid.{Apart}
 use Rattle.model.specs.Pages.{FreeRun, Search, onward, firstFit, claim, hasRun, mostLooked}
 use Rattle.model.proofs.Arena.{each-locate}
-
-half : (b : Bool) → cond b 1 0 ≤ 1
-half true = omega arith
-half false = omega arith
 
 -- Runs looked at before a search are added.
 module _ {A : Type 0} (l : Search A) where
@@ -96,17 +95,67 @@ module _ {Z : Type 0} where
 
   -- A run that stands before takes the half page that is rounded up.
   looked-most : (p n : ℕ) (b : Bool) (m : List (Segment Z)) → Spread b m → firstFit p n m .looked * 2 + cond b 1 0 ≤ total m + 1
-  looked-most p n b [] h = omega (arith, half b)
+  looked-most p n b [] h = omega (arith, one-most b)
   looked-most p n b (run k ∷ r) h = bool (leb n k)
       (λ t. rw (t, h .0 .0) (omega (arith, h .1 .0)))
       (λ t. rw (t, h .0 .0) (omega (arith, h .1 .0, looked-most (p + k) n true r (h .0 .2, h .1 .1))))
-  looked-most p n b (direct k g ∷ r) h = omega (arith, half b, h .1 .0, looked-most (p + k) n false r (h .0, h .1 .1))
-  looked-most p n b (zone z ∷ r) h = omega (arith, half b, looked-most (p + zonePages) n false r (h .0, h .1 .1))
+  looked-most p n b (direct k g ∷ r) h = omega (arith, one-most b, h .1 .0, looked-most (p + k) n false r (h .0, h .1 .1))
+  looked-most p n b (zone z ∷ r) h = omega (arith, one-most b, looked-most (p + zonePages) n false r (h .0, h .1 .1))
 
   -- Runs do not touch: so no search looks at more of them than half of the pages, rounded up.
   pub claim-bounded : (n : ℕ) (m : List (Segment Z)) → Spread false m → claim n m .looked ≤ mostLooked (total m)
   unfolding claim
   claim-bounded n m h = omega (arith, looked-most 0 n false m h)
+
+-- Lines of a listing's runs (start, pages), of which none tells n pages.
+abbrev pub TooShort : ℕ → List (List ℕ) → Type 0
+TooShort n [] = Unit {0}
+TooShort n (row ∷ r) = (getD row 1 0 < n) × TooShort n r
+
+-- The k-th line, of the run h, is the first that tells n pages.
+pub record FirstLine (n : ℕ) (rows : List (List ℕ)) (h : FreeRun) (k : ℕ) : Type 0 where
+  pub before : List (List ℕ)
+  pub behind : List (List ℕ)
+  pub split : rows ≡ before ++ ((h .page ∷ h .size ∷ []) ∷ behind)
+  pub count : k ≡ length before + 1
+  pub short : TooShort n before
+  pub enough : n ≤ h .size
+
+firstFit-line : (p n : ℕ) (m : PageMap) (h : FreeRun) → firstFit p n m .chosen ≡ some h → FirstLine n (runLines p m) h (firstFit p n m .looked)
+firstFit-line p n [] h e = none-some e
+firstFit-line p n (run k ∷ r) h e = bool (leb n k)
+    (λ t. rw t (subst (λ h. FirstLine n ((p ∷ k ∷ []) ∷ runLines (p + k) r) h 1) (some-inj (rw t at e)) (record { before = []; behind = runLines (p + k) r; split = refl; count = omega arith; short = tt; enough = leb-true n k t })))
+    (λ t. rw t (later t (firstFit-line (p + k) n r h (rw t at e))))
+  where
+    later : leb n k ≡ false → {l : List (List ℕ)} {j : ℕ} → FirstLine n l h j → FirstLine n ((p ∷ k ∷ []) ∷ l) h (1 + j)
+    later t f = record {
+      before = (p ∷ k ∷ []) ∷ f .before;
+      behind = f .behind;
+      split = ap (λ l. (p ∷ k ∷ []) ∷ l) (f .split);
+      count = omega (arith, f .count);
+      short = (leb-false n k t, f .short);
+      enough = f .enough;
+    }
+firstFit-line p n (direct k g ∷ r) h e = firstFit-line (p + k) n r h e
+firstFit-line p n (zone z ∷ r) h e = firstFit-line _ n r h e
+
+firstFit-all : (p n : ℕ) (m : PageMap) → firstFit p n m .chosen ≡ none → (firstFit p n m .looked ≡ length (runLines p m)) × TooShort n (runLines p m)
+firstFit-all p n [] e = (refl, tt)
+firstFit-all p n (run k ∷ r) e = bool (leb n k)
+    (λ t. none-some (sym (rw t at e)))
+    (λ t. let h = firstFit-all (p + k) n r (rw t at e) in rw t (omega (arith, h .0), (leb-false n k t, h .1)))
+firstFit-all p n (direct k g ∷ r) e = firstFit-all (p + k) n r e
+firstFit-all p n (zone z ∷ r) e = firstFit-all _ n r e
+
+-- A run is chosen: its line is the first that tells enough pages, and the count is that line's number.
+pub claim-line : (n : ℕ) (m : PageMap) (h : FreeRun) → claim n m .chosen ≡ some h → FirstLine n (runLines 0 m) h (claim n m .looked)
+unfolding claim
+claim-line n m h e = firstFit-line 0 n m h e
+
+-- None is: no line tells enough, and the count is that of all lines.
+pub claim-all : (n : ℕ) (m : PageMap) → claim n m .chosen ≡ none → (claim n m .looked ≡ length (runLines 0 m)) × TooShort n (runLines 0 m)
+unfolding claim
+claim-all n m e = firstFit-all 0 n m e
 
 module _ {A B : Type 0} (f : A → B) where
   firstFit-retold : (p n : ℕ) (m : List (Segment A)) → firstFit p n (map (retold f) m) ≡ firstFit p n m

@@ -23,4 +23,5 @@ pub mod Aligned
 pub mod Totals
 pub mod NoRoom
 pub mod Looked
+pub mod ReadOff
 pub mod BoundMet

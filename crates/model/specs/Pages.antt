@@ -33,7 +33,8 @@ firstFit p n (run m ∷ r) = cond (leb n m) (record { chosen = some (record { pa
 firstFit p n (direct m g ∷ r) = firstFit (p + m) n r
 firstFit p n (zone z ∷ r) = firstFit (p + zonePages) n r
 
--- The search through the runs. Proofs use its four laws and not its text: `claim-found`, `claim-none`, `claim-bounded`, `claim-retold`.
+-- The search through the runs. Proofs use its laws and not its text: `claim-found`, `claim-none`, `claim-line`, `claim-all`,
+-- `claim-bounded`, `claim-retold`.
 unfoldable pub claim : {Z : Type 0} → ℕ → List (Segment Z) → Search FreeRun
 claim n m = firstFit 0 n m
 

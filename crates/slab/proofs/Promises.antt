@@ -30,6 +30,7 @@ use Rattle.lemmas.proofs.Cases.{some-inj, none-some}
 use Rattle.model.proofs.Disjoint as model
 use Rattle.model.proofs.NoRoom as rules
 use Rattle.model.proofs.Looked as looked
+use Rattle.model.proofs.ReadOff.{ReadOff, read-off}
 use Rattle.model.proofs.BoundMet as met
 use Rattle.model.proofs.NoRoom.{Short}
 use Rattle.history.specs.Demand.{Demand3, LedgerAgrees}
@@ -189,6 +190,14 @@ no-row w s e g n h t u =
 pub request-looks : (w : List ℕ) (s : State) → stateOf w ≡ some s → (g n : ℕ) →
     lookedOf (answerOf w (act (request g n))) ≡ some (cond (groupOk g && sizeOk n) (looksFor (needed n s) s) 0)
 request-looks w s e g n = let h = holding-of w s e in ap lookedOf (served-answer w s (h .valid) (h .begins) (request g n)) ∙ looked.counted s g n
+
+-- .. Where it needs pages, the count can be read off the listings as they are and as trim would leave them: it is the number of the line
+-- that tells the run which is taken, or that of all lines. ..
+pub request-read-off : (w : List ℕ) (s : State) → stateOf w ≡ some s → (g n k : ℕ) → groupOk g ≡ true → sizeOk n ≡ true → needed n s ≡ some k →
+    ReadOff s k (answerOf w (act (request g n)))
+request-read-off w s e g n k t u f =
+    let h = holding-of w s e in
+    subst (ReadOff s k) (sym (served-answer w s (h .valid) (h .begins) (request g n))) (read-off s g n k t u f)
 
 -- .. No other call's answer has a count of runs, refused or not. ..
 pub others-uncounted : (w : List ℕ) (c : Command) → ((g n : ℕ) → c ≡ act (request g n) → ⊥) → lookedOf (answerOf w c) ≡ none

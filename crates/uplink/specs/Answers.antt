@@ -1,5 +1,6 @@
 -- The lines that say the answers (document 01, "The bench program and one whole session"): `ok`, `ok N`, `at N`, `no N`,
--- `GROUP ROOM`; and `?` for a bad line. None says how many runs were looked at. (The listing's text is `listingText` of the rules.) Assumes nothing.
+-- `GROUP ROOM`; and `?` for a bad line. None says how many runs were looked at. (The listing's text is `listingText` of the rules.)
+-- Assumes nothing.
 use Prim.Native.Nat.{ℕ}
 use mathlib.Core.List.{List, [], _∷_}
 use Rattle.model.specs.declared.Answer.{Answer}

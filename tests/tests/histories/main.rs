@@ -5,10 +5,10 @@
 //!     cargo test --offline --locked -p tests --test histories
 //!
 //! Both programs give the same answer to every call, a request's count of runs among it, and the
-//! same listing after every tenth. Their words are the same after every fiftieth call, after every second search where a zone is idle, and
-//! at the end; to compare them after every call would take minutes in the large arenas. At the end
-//! both answer the same to a query of every live offset and of the byte behind it; of a beginning
-//! with any number of blocks, to 100 of them.
+//! same listing after every tenth. Their words are the same after every fiftieth call, after every
+//! second search where a zone is idle, and at the end; to compare them after every call would take
+//! minutes in the large arenas. At the end both answer the same to a query of every live offset and
+//! of the byte behind it; of a beginning with any number of blocks, to 100 of them.
 //!
 //! The tests print what their histories came upon: among it the second searches, by what they are
 //! for and what they come to, and how many runs the requests looked at, both by the arena's pages.
