@@ -1,7 +1,7 @@
 -- `take_apart` meets its contract. Assumes nothing.
 use native.Mathlib.Omega.{arith}
 use mathlib.Core.Path.{_∙_, sym, ap}
-use mathlib.Core.Bool.{false}
+use mathlib.Core.Bool.{true, false}
 use Rattle.capi.specs.Values.{toldOf}
 use Rattle.capi.proofs.take_apart.Statement.{statement}
 use Rattle.capi.proofs.take_apart.Tie as tie
@@ -11,13 +11,15 @@ returns c = c .paired .ensures ∙ sym (ap toldOf (c .before .before .answer .gi
 
 returns-2 : tie.Need-returns-2
 returns-2 c =
-    let v = c .valued .ensures in
+    let a = c .before .before .before .answer2 .given in
     let n = c .before .number .ensures in
-    let a = ap toldOf (c .before .before .before .answer2 .given .1) in cc
+    c .valued .ensures ∙ (λ i. record { refusal = n i; some = true; first = a .0 .1 .0; both = false; second = 0 }) ∙ sym (ap toldOf (a .1))
 
 returns-3 : tie.Need-returns-3
 returns-3 c =
-    c .bare .ensures ∙ (λ i. record { refusal = c .before .number2 .ensures i; some = false; first = 0; both = false; second = 0 }) ∙ sym (ap toldOf (c .before .before .before .answer3 .given .1))
+    let a = c .before .before .before .answer3 .given in
+    let n = c .before .number2 .ensures in
+    c .bare .ensures ∙ (λ i. record { refusal = n i; some = false; first = 0; both = false; second = 0 }) ∙ sym (ap toldOf (a .1))
 
 returns-4 : tie.Need-returns-4
 returns-4 c = c .bare2 .ensures ∙ sym (ap toldOf (c .before .enum-told .given .1))
