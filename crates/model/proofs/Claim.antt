@@ -124,9 +124,12 @@ pub record FirstLine (n : ℕ) (rows : List (List ℕ)) (h : FreeRun) (k : ℕ) 
 firstFit-line : (p n : ℕ) (m : PageMap) (h : FreeRun) → firstFit p n m .chosen ≡ some h → FirstLine n (runLines p m) h (firstFit p n m .looked)
 firstFit-line p n [] h e = none-some e
 firstFit-line p n (run k ∷ r) h e = bool (leb n k)
-    (λ t. rw t (subst (λ h. FirstLine n ((p ∷ k ∷ []) ∷ runLines (p + k) r) h 1) (some-inj (rw t at e)) (record { before = []; behind = runLines (p + k) r; split = refl; count = omega arith; short = tt; enough = leb-true n k t })))
+    (λ t. rw t (subst (λ h. FirstLine n ((p ∷ k ∷ []) ∷ runLines (p + k) r) h 1) (some-inj (rw t at e)) (here t)))
     (λ t. rw t (later t (firstFit-line (p + k) n r h (rw t at e))))
   where
+    here : leb n k ≡ true → {l : List (List ℕ)} → FirstLine n ((p ∷ k ∷ []) ∷ l) (record { page = p; size = k }) 1
+    here t {l} = record { before = []; behind = l; split = refl; count = omega arith; short = tt; enough = leb-true n k t }
+
     later : leb n k ≡ false → {l : List (List ℕ)} {j : ℕ} → FirstLine n l h j → FirstLine n ((p ∷ k ∷ []) ∷ l) h (1 + j)
     later t f = record {
       before = (p ∷ k ∷ []) ∷ f .before;

@@ -42,8 +42,10 @@ state-all n s e =
 -- listing's lines before the second's; where there is none, all lines of both are counted.
 pub data ReadOff (s : State) (k : ℕ) (a : Answer) : Type 0 where
   first : (h : FreeRun) (j : ℕ) → FirstLine k (runsOf s) h j → a ≡ Granted (h .page * pageBytes) j → ReadOff s k a
-  second : TooShort k (runsOf s) → (h : FreeRun) (j : ℕ) → FirstLine k (runsOf (trimmed s)) h j → a ≡ Granted (h .page * pageBytes) (length (runsOf s) + j) → ReadOff s k a
-  neither : TooShort k (runsOf s) → TooShort k (runsOf (trimmed s)) → a ≡ Denied NoRoom (length (runsOf s) + length (runsOf (trimmed s))) → ReadOff s k a
+  second : TooShort k (runsOf s) → (h : FreeRun) (j : ℕ) → FirstLine k (runsOf (trimmed s)) h j
+      → a ≡ Granted (h .page * pageBytes) (length (runsOf s) + j) → ReadOff s k a
+  neither : TooShort k (runsOf s) → TooShort k (runsOf (trimmed s))
+      → a ≡ Denied NoRoom (length (runsOf s) + length (runsOf (trimmed s))) → ReadOff s k a
 
 -- Both kinds of request that need pages go by what the two searches come to.
 module _ (s : State) (k : ℕ) (R : ℕ → Option Source → Outcome State) (missed : (j : ℕ) → (R j none) .answer ≡ Denied NoRoom j)
@@ -51,12 +53,11 @@ module _ (s : State) (k : ℕ) (R : ℕ → Option Source → Outcome State) (mi
   abbrev told : Search Source → Answer
   told l = (R (l .looked) (l .chosen)) .answer
 
-  -- The second search has chosen as told.
-  after : Option FreeRun → Answer
+  -- Behind a search that failed, where the second one has chosen as told.
+  abbrev after : Option FreeRun → Answer
   after o = (R (claim k (s .segments) .looked + claim k (trimmed s .segments) .looked) (Option·map (foundIn (trimmed s)) o)) .answer
 
   again-read : claim k (s .segments) .chosen ≡ none → (h : Option FreeRun) → claim k (trimmed s .segments) .chosen ≡ h → ReadOff s k (told (sought k s))
-  unfolding after
   again-read c none d =
       let one = state-all k s c in
       let two = state-all k (trimmed s) d in
@@ -64,7 +65,8 @@ module _ (s : State) (k : ℕ) (R : ℕ → Option Source → Outcome State) (mi
   again-read c (some h) d =
       let one = state-all k s c in
       let j = claim k (trimmed s .segments) .looked in
-      second (one .1) h j (state-line k (trimmed s) h d) (ap told (sought-second k s c) ∙ ap after d ∙ granted _ _ ∙ ap (λ i. Granted (h .page * pageBytes) (i + j)) (one .0))
+      second (one .1) h j (state-line k (trimmed s) h d)
+      (ap told (sought-second k s c) ∙ ap after d ∙ granted _ _ ∙ ap (λ i. Granted (h .page * pageBytes) (i + j)) (one .0))
 
   pages-read : ReadOff s k (told (sought k s))
   pages-read = go (claim k (s .segments) .chosen) refl
@@ -75,14 +77,19 @@ module _ (s : State) (k : ℕ) (R : ℕ → Option Source → Outcome State) (mi
 
 module _ (s : State) where
   chunk-read : (c g : ℕ) (l q : List ℕ) → s .spare ≡ q → (k : ℕ) → zoneNeeded l q ≡ some k → ReadOff s k ((chunkFrom c g s l) .answer)
-  chunk-read c g [] [] e k n = subst (λ z. ReadOff s k ((fromSpare c g s z) .answer)) (sym e) (subst (λ k. ReadOff s k ((fromSpare c g s []) .answer)) (some-inj n) (pages-read s zonePages (zoneFrom c g s) (λ j. refl) (λ j f. refl)))
+  chunk-read c g [] [] e k n =
+      let eight = pages-read s zonePages (zoneFrom c g s) (λ j. refl) (λ j f. refl) in
+      subst (λ z. ReadOff s k ((fromSpare c g s z) .answer)) (sym e) (subst (λ k. ReadOff s k ((fromSpare c g s []) .answer)) (some-inj n) eight)
   chunk-read c g [] (p ∷ ps) e k n = none-some n
   chunk-read c g (p ∷ ps) q e k n = none-some n
 
   supplied-read : (g n k : ℕ) → needed n s ≡ some k → ReadOff s k ((supplied g n s) .answer)
   supplied-read g n k e = bool (ltb n largeSize)
       (λ t. rw t (chunk-read (classOf n) g (listOf s (classOf n)) (s .spare) refl k (rw t at e)))
-      (λ t. rw t (subst (λ k. ReadOff s k ((wholePages (pagesFor n) g s) .answer)) (some-inj (rw t at e)) (pages-read s (pagesFor n) (directFrom (pagesFor n) g s) (λ j. refl) (λ j f. refl))))
+      (λ t. rw t (subst (λ k. ReadOff s k ((wholePages (pagesFor n) g s) .answer)) (some-inj (rw t at e)) whole))
+    where
+      whole : ReadOff s (pagesFor n) ((wholePages (pagesFor n) g s) .answer)
+      whole = pages-read s (pagesFor n) (directFrom (pagesFor n) g s) (λ j. refl) (λ j f. refl)
 
   pub read-off : (g n k : ℕ) → groupOk g ≡ true → sizeOk n ≡ true → needed n s ≡ some k → ReadOff s k ((allocate g n s) .answer)
   read-off g n k t u e = rw (t, u) (supplied-read g n k e)
