@@ -1,6 +1,7 @@
 -- The laws of the search for pages: what it finds is a run that is long enough; where it finds none, none is; by the lines of a listing's
--- runs, which it finds and how many it looks at; these are no more than half of the pages, rounded up; it does not look inside zones. But
--- where it is computed, and where the code walks, nothing else is used of it. Over any kind of zone. Assumes nothing.
+-- runs, which it finds and how many it looks at; these are no more than half of the pages, rounded up; it does not look inside zones.
+-- Nothing else is used of it, except where it is computed and where the code walks. Over any kind of zone, but for the lines, which a page
+-- map has. Assumes nothing.
 use Prim.Native.Nat.{ℕ, _+_, _*_, _≤_, _<_}
 use mathlib.Core.Path.{_≡_, refl, sym, _∙_, ap, subst}
 use mathlib.Core.Logic.{_↔_}
@@ -8,10 +9,11 @@ use mathlib.Core.List.{List, [], _∷_, _++_, map}
 use mathlib.Core.Option.{Option, none, some}
 use mathlib.Core.Bool.{Bool, true, false, cond, _||_}
 use native.Mathlib.Omega.{arith}
-use lib.Dec.{leb}
+use lib.Dec.{ltb, leb}
 use lib.ListN.{length, getD}
 use borrow.Author.Tests.{leb-true, leb-false, lt-ltb, le-ltb}
-use Rattle.lemmas.proofs.Cases.{bool, true-false, some-inj, none-some, one-most}
+use Rattle.lemmas.specs.Every.{every}
+use Rattle.lemmas.proofs.Cases.{bool, true-false, some-inj, none-some, and-both, one-most}
 use Rattle.model.specs.Numbers.{pageBytes, zonePages}
 use Rattle.model.specs.Arena.{Segment, run, direct, zone, pages, bytes, total, retold, locate, Each}
 use Rattle.model.specs.PageMap.{PageMap}
@@ -109,8 +111,11 @@ module _ {Z : Type 0} where
 
 -- Lines of a listing's runs (start, pages), of which none tells n pages.
 abbrev pub TooShort : ℕ → List (List ℕ) → Type 0
-TooShort n [] = Unit {0}
-TooShort n (row ∷ r) = (getD row 1 0 < n) × TooShort n r
+TooShort n rows = every (λ row. ltb (getD row 1 0) n) rows ≡ true
+
+short-more : (n p k : ℕ) (rows : List (List ℕ)) → leb n k ≡ false → TooShort n rows → TooShort n ((p ∷ k ∷ []) ∷ rows)
+unfolding every
+short-more n p k rows t h = and-both _ _ (lt-ltb k n (leb-false n k t)) h
 
 -- The k-th line, of the run h, is the first that tells n pages.
 pub record FirstLine (n : ℕ) (rows : List (List ℕ)) (h : FreeRun) (k : ℕ) : Type 0 where
@@ -122,13 +127,14 @@ pub record FirstLine (n : ℕ) (rows : List (List ℕ)) (h : FreeRun) (k : ℕ) 
   pub enough : n ≤ h .size
 
 firstFit-line : (p n : ℕ) (m : PageMap) (h : FreeRun) → firstFit p n m .chosen ≡ some h → FirstLine n (runLines p m) h (firstFit p n m .looked)
+unfolding every
 firstFit-line p n [] h e = none-some e
 firstFit-line p n (run k ∷ r) h e = bool (leb n k)
     (λ t. rw t (subst (λ h. FirstLine n ((p ∷ k ∷ []) ∷ runLines (p + k) r) h 1) (some-inj (rw t at e)) (here t)))
     (λ t. rw t (later t (firstFit-line (p + k) n r h (rw t at e))))
   where
     here : leb n k ≡ true → {l : List (List ℕ)} → FirstLine n ((p ∷ k ∷ []) ∷ l) (record { page = p; size = k }) 1
-    here t {l} = record { before = []; behind = l; split = refl; count = omega arith; short = tt; enough = leb-true n k t }
+    here t {l} = record { before = []; behind = l; split = refl; count = omega arith; short = refl; enough = leb-true n k t }
 
     later : leb n k ≡ false → {l : List (List ℕ)} {j : ℕ} → FirstLine n l h j → FirstLine n ((p ∷ k ∷ []) ∷ l) h (1 + j)
     later t f = record {
@@ -136,17 +142,18 @@ firstFit-line p n (run k ∷ r) h e = bool (leb n k)
       behind = f .behind;
       split = ap (λ l. (p ∷ k ∷ []) ∷ l) (f .split);
       count = omega (arith, f .count);
-      short = (leb-false n k t, f .short);
+      short = short-more n p k (f .before) t (f .short);
       enough = f .enough;
     }
 firstFit-line p n (direct k g ∷ r) h e = firstFit-line (p + k) n r h e
 firstFit-line p n (zone z ∷ r) h e = firstFit-line _ n r h e
 
 firstFit-all : (p n : ℕ) (m : PageMap) → firstFit p n m .chosen ≡ none → (firstFit p n m .looked ≡ length (runLines p m)) × TooShort n (runLines p m)
-firstFit-all p n [] e = (refl, tt)
+unfolding every
+firstFit-all p n [] e = (refl, refl)
 firstFit-all p n (run k ∷ r) e = bool (leb n k)
     (λ t. none-some (sym (rw t at e)))
-    (λ t. let h = firstFit-all (p + k) n r (rw t at e) in rw t (omega (arith, h .0), (leb-false n k t, h .1)))
+    (λ t. let h = firstFit-all (p + k) n r (rw t at e) in rw t (omega (arith, h .0), short-more n p k (runLines (p + k) r) t (h .1)))
 firstFit-all p n (direct k g ∷ r) e = firstFit-all (p + k) n r e
 firstFit-all p n (zone z ∷ r) e = firstFit-all _ n r e
 

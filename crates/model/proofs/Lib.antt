@@ -21,6 +21,7 @@ pub mod Validity
 pub mod Disjoint
 pub mod Aligned
 pub mod Totals
+pub mod Supplied
 pub mod NoRoom
 pub mod Looked
 pub mod ReadOff

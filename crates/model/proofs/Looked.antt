@@ -1,24 +1,23 @@
 -- How far a request looks: the count that its answer has, and no other call's; and that one search looks at no more runs than half of the
 -- pages, rounded up, and a request at no more than twice that. Assumes nothing.
 use Prim.Native.Nat.{ℕ, _*_, _≤_, _<_}
-use mathlib.Core.Path.{_≡_, refl, sym, ap, subst}
+use mathlib.Core.Path.{_≡_, refl, sym, _∙_, ap}
 use mathlib.Core.List.{List, [], _∷_}
 use mathlib.Core.Option.{Option, none, some}
 use mathlib.Core.Bool.{Bool, true, false, cond, _&&_}
 use native.Mathlib.Omega.{arith}
-use lib.Dec.{ltb, leb, eqb}
+use lib.Dec.{leb, eqb}
 use lib.ListN.{length}
 use Rattle.lemmas.proofs.Cases.{bool}
-use Rattle.model.specs.Numbers.{zonePages, largeSize, mostPages}
+use Rattle.model.specs.Numbers.{mostPages}
 use Rattle.model.specs.declared.Call.{Call}
 use Rattle.model.specs.declared.Operation.{Operation}
 use Rattle.model.specs.declared.Operation.the-variants.{Allocate, Free, Reset}
 use Rattle.model.specs.declared.Refusal.{Refusal}
 use Rattle.model.specs.declared.Refusal.the-variants.{NoState}
-use Rattle.model.specs.Sizes.{classOf, pagesFor}
 use Rattle.model.specs.Arena.{Segment, run, direct, zone, pages, total, Each}
 use Rattle.model.specs.Zone.{Zone}
-use Rattle.model.specs.State.{State, listOf}
+use Rattle.model.specs.State.{State}
 use Rattle.model.specs.PageMap.{pageMap, idleZone, Block, groupOf, blockAt}
 use Rattle.model.specs.Pages.{FreeRun, claim, mostLooked}
 use Rattle.model.specs.Valid.{Apart, ValidSegment, Valid}
@@ -27,32 +26,26 @@ use Rattle.model.specs.Free.{freeBlock, free}
 use Rattle.model.specs.Listing.{listingText}
 use Rattle.model.specs.Perform.{asked, serve, Metadata, wordsFor, onState, perform}
 use Rattle.model.specs.Calls.{Action, group, trim, query, listing, Command, init, act, lookedOf, toldBy, refusalOf, groupOk, sizeOk}
-use Rattle.model.specs.Allocate.{Source, searched, sought, directFrom, zoneFrom, fromSpare, chunkFrom, supplied, zoneNeeded, needed, looksFor, allocate}
+use Rattle.model.specs.Allocate.{Source, searched, sought, supplied, needed, looksFor, allocate}
 use Rattle.model.proofs.Claim.{claim-bounded}
 use Rattle.model.proofs.Joins.{total-joined}
 use Rattle.model.proofs.Sought.{sought-first, sought-second}
+use Rattle.model.proofs.Supplied.{told, Supply, at-hand, from-runs, supply}
 use Rattle.model.proofs.ValidTrim.{trimmed-valid}
 
 -- The count --------------------------------------------------------------------------------------------------------------
 
 module _ (s : State) where
-  direct-counted : (n g k : ℕ) (o : Option Source) → lookedOf ((directFrom n g s k o) .answer) ≡ some k
-  direct-counted n g k none = refl
-  direct-counted n g k (some f) = refl
-
-  zone-counted : (c g k : ℕ) (o : Option Source) → lookedOf ((zoneFrom c g s k o) .answer) ≡ some k
-  zone-counted c g k none = refl
-  zone-counted c g k (some f) = refl
-
-  chunk-counted : (c g : ℕ) (l q : List ℕ) → s .spare ≡ q → lookedOf ((chunkFrom c g s l) .answer) ≡ some (looksFor (zoneNeeded l q) s)
-  chunk-counted c g [] [] e = subst (λ z. lookedOf ((fromSpare c g s z) .answer) ≡ some (looksFor (zoneNeeded [] []) s)) (sym e) (zone-counted c g (sought zonePages s .looked) (sought zonePages s .chosen))
-  chunk-counted c g [] (p ∷ ps) e = subst (λ z. lookedOf ((fromSpare c g s z) .answer) ≡ some 0) (sym e) refl
-  chunk-counted c g (p ∷ ps) q e = refl
-
   supplied-counted : (g n : ℕ) → lookedOf ((supplied g n s) .answer) ≡ some (looksFor (needed n s) s)
-  supplied-counted g n = bool (ltb n largeSize)
-      (λ t. rw t (chunk-counted (classOf n) g (listOf s (classOf n)) (s .spare) refl))
-      (λ t. rw t (direct-counted (pagesFor n) g (sought (pagesFor n) s .looked) (sought (pagesFor n) s .chosen)))
+  supplied-counted g n = go (supply s g n)
+    where
+      both : (k : ℕ) (o : Option Source) → lookedOf (told k o) ≡ some k
+      both k none = refl
+      both k (some f) = refl
+
+      go : Supply s (needed n s) ((supplied g n s) .answer) → lookedOf ((supplied g n s) .answer) ≡ some (looksFor (needed n s) s)
+      go (at-hand q e a) = ap lookedOf a ∙ ap (λ o. some (looksFor o s)) (sym e)
+      go (from-runs k e pos a) = ap lookedOf a ∙ both (sought k s .looked) (sought k s .chosen) ∙ ap (λ o. some (looksFor o s)) (sym e)
 
   -- Every answer to a request has a count: that of the searches for the pages that it needs; 0 where it needs none, and where its group
   -- or size is not legal.

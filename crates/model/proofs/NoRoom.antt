@@ -1,29 +1,24 @@
 -- Refusal 6, exactly: pages are needed, and after trim no run would have as many. Every other request of a legal group and size is
 -- granted. Assumes nothing.
 use Prim.Native.Nat.{ℕ, _<_}
-use mathlib.Core.Path.{_≡_, refl, sym, _∙_, ap, subst}
+use mathlib.Core.Path.{_≡_, refl, sym, _∙_, ap}
 use mathlib.Core.Logic.{_↔_}
-use mathlib.Core.List.{List, [], _∷_}
 use mathlib.Core.Option.{Option, none, some}
 use mathlib.Core.Bool.{true, false}
-use native.Mathlib.Omega.{arith}
-use lib.Dec.{ltb}
-use borrow.Author.Tests.{ltb-false}
 use Rattle.lemmas.proofs.Cases.{bool, clash, some-inj, none-some}
-use Rattle.model.specs.Numbers.{zonePages, largeSize}
 use Rattle.model.specs.declared.Refusal.the-variants.{NoRoom}
 use Rattle.model.specs.declared.Answer.{Answer}
 use Rattle.model.specs.declared.Answer.the-variants.{Granted, Denied}
-use Rattle.model.specs.Sizes.{classOf, pagesFor}
-use Rattle.model.specs.State.{State, listOf}
+use Rattle.model.specs.State.{State}
 use Rattle.model.specs.PageMap.{occupancy, pageMap}
 use Rattle.model.specs.Pages.{hasRun}
 use Rattle.model.specs.Trim.{trimmed}
-use Rattle.model.specs.Calls.{Outcome, DeniedBy, GrantedAt, groupOk, sizeOk}
-use Rattle.model.specs.Allocate.{Source, sought, directFrom, zoneFrom, chunkFrom, fromSpare, zoneNeeded, needed, supplied, allocate}
+use Rattle.model.specs.Calls.{DeniedBy, GrantedAt, groupOk, sizeOk}
+use Rattle.model.specs.Allocate.{Source, sought, needed, supplied, allocate}
 use Rattle.model.proofs.Answers.{denial-told, grant-told}
 use Rattle.model.proofs.Claim.{has-retold}
 use Rattle.model.proofs.Sought.{sought-none}
+use Rattle.model.proofs.Supplied.{told, Supply, at-hand, from-runs, supply, accepted}
 
 -- A request by a legal group and of a legal size needs k pages, and after trim no run has k.
 pub record Short (s : State) (g n : ℕ) : Type 0 where
@@ -46,49 +41,38 @@ module _ (s : State) where
   map-has : (k : ℕ) → hasRun k (pageMap (trimmed s)) ≡ hasRun k (trimmed s .segments)
   map-has k = has-retold occupancy k (trimmed s .segments)
 
-  -- Both kinds of request that need pages go by what the two searches find.
-  pages-decided : (k : ℕ) → 0 < k → (R : Option Source → Outcome State) (n : ℕ) → (R none) .answer ≡ Denied NoRoom n
-      → ((f : Source) → (q : ℕ) × ((R (some f)) .answer ≡ Granted q n)) → Decided s (some k) ((R (sought k s .chosen)) .answer)
-  pages-decided k pos R n missed found = go (sought k s .chosen) refl
-    where
-      go : (h : Option Source) → sought k s .chosen ≡ h → Decided s (some k) ((R h) .answer)
-      go none c = refused n missed (k, refl, map-has k ∙ sought-none k s pos .0 c)
-      go (some f) c = served (found f .0) n (found f .1) (λ l. none-some (sym (miss l) ∙ c))
-        where
-          miss : Lacks s (some k) → sought k s .chosen ≡ none
-          miss l = sought-none k s pos .1 (sym (map-has k) ∙ ap (λ j. hasRun j (pageMap (trimmed s))) (some-inj (l .1)) ∙ l .2)
-
-  chunk-decided : (c g : ℕ) (l q : List ℕ) → s .spare ≡ q → Decided s (zoneNeeded l q) ((chunkFrom c g s l) .answer)
-  chunk-decided c g [] [] e = subst (λ z. Decided s (some zonePages) ((fromSpare c g s z) .answer)) (sym e) (pages-decided zonePages (omega arith) (zoneFrom c g s _) _ refl (λ f. (_, refl)))
-  chunk-decided c g [] (p ∷ ps) e = subst (λ z. Decided s none ((fromSpare c g s z) .answer)) (sym e) (served _ 0 refl (λ k. none-some (k .1)))
-  chunk-decided c g (p ∷ ps) q e = served _ 0 refl (λ k. none-some (k .1))
-
   decided : (g n : ℕ) → Decided s (needed n s) ((supplied g n s) .answer)
-  decided g n = bool (ltb n largeSize)
-      (λ t. rw t (chunk-decided (classOf n) g (listOf s (classOf n)) (s .spare) refl))
-      (λ t. rw t (pages-decided (pagesFor n) (omega (arith, ltb-false)) (directFrom (pagesFor n) g s _) _ refl (λ f. (_, refl))))
+  decided g n = go (supply s g n)
+    where
+      searched : (k : ℕ) → needed n s ≡ some k → 0 < k → (h : Option Source) → sought k s .chosen ≡ h
+          → (supplied g n s) .answer ≡ told (sought k s .looked) h → Decided s (needed n s) ((supplied g n s) .answer)
+      searched k e pos none c a = refused _ a (k, e, map-has k ∙ sought-none k s pos .0 c)
+      searched k e pos (some f) c a = served _ _ a (λ l. none-some (sym (miss l) ∙ c))
+        where
+          miss : Lacks s (needed n s) → sought k s .chosen ≡ none
+          miss l = sought-none k s pos .1 (sym (map-has k) ∙ ap (λ j. hasRun j (pageMap (trimmed s))) (some-inj (sym e ∙ l .1)) ∙ l .2)
+
+      go : Supply s (needed n s) ((supplied g n s) .answer) → Decided s (needed n s) ((supplied g n s) .answer)
+      go (at-hand q e a) = served q 0 a (λ l. none-some (sym e ∙ l .1))
+      go (from-runs k e pos a) = searched k e pos (sought k s .chosen) refl a
 
   module _ (g n : ℕ) where
-    -- A request of a legal group and size is as it is decided.
-    accepted : groupOk g ≡ true → sizeOk n ≡ true → (allocate g n s) .answer ≡ (supplied g n s) .answer
-    accepted t u = rw (t, u)
-
     lacks-short : groupOk g ≡ true → sizeOk n ≡ true → Lacks s (needed n s) → Short s g n
     lacks-short t u l = record { group = t; size = u; pages = l .0; needs = l .1; none-long = l .2 }
 
     pub no-room : DeniedBy 6 ((allocate g n s) .answer) ↔ Short s g n
     no-room = (
-      λ e. let d = told .0 e in there (d .0) (d .1),
-      λ h. let d = back (decided g n) h in told .1 (d .0, accepted (h .group) (h .size) ∙ d .1),
+      λ e. let d = named .0 e in there (d .0) (d .1),
+      λ h. let d = back (decided g n) h in named .1 (d .0, accepted s g n (h .group) (h .size) ∙ d .1),
     )
       where
-        told : DeniedBy 6 ((allocate g n s) .answer) ↔ ((k : ℕ) × ((allocate g n s) .answer ≡ Denied NoRoom k))
-        told = denial-told NoRoom ((allocate g n s) .answer)
+        named : DeniedBy 6 ((allocate g n s) .answer) ↔ ((k : ℕ) × ((allocate g n s) .answer ≡ Denied NoRoom k))
+        named = denial-told NoRoom ((allocate g n s) .answer)
 
         there : (k : ℕ) → (allocate g n s) .answer ≡ Denied NoRoom k → Short s g n
         there j e = bool (groupOk g)
             (λ t. bool (sizeOk n)
-            (λ u. go t u (decided g n) (sym (accepted t u) ∙ e))
+            (λ u. go t u (decided g n) (sym (accepted s g n t u) ∙ e))
             (λ u. let k = rw (t, u) at e in clash (cc)))
             (λ t. let k = rw t at e in clash (cc))
           where
@@ -105,4 +89,4 @@ module _ (s : State) where
       where
         go : Decided s (needed n s) ((supplied g n s) .answer) → (o : ℕ) × GrantedAt o ((allocate g n s) .answer)
         go (refused k a l) = absurd (h (lacks-short t u l))
-        go (served q k a l) = (q, grant-told q ((allocate g n s) .answer) .1 (k, accepted t u ∙ a))
+        go (served q k a l) = (q, grant-told q ((allocate g n s) .answer) .1 (k, accepted s g n t u ∙ a))
