@@ -20,15 +20,18 @@
  *
  * Answers. Every function returns 0, or the number of the refusal (enum nostrimel_refusal). Which numbers a function can return
  * stands at the function, in the order in which they are tested: the first that applies is returned. A refused call changes no
- * word of the metadata and no byte of the text. Results are written only where the function returns 0, but for one: *looked of
- * nostrimel_allocate is written by each of its calls, refused or not. A refused call writes nothing else through its pointers.
+ * word of the metadata, no byte of the text and no record of the list. Results are written only where the function returns 0, but
+ * for one: *looked of nostrimel_allocate is written by each of its calls, refused or not. A refused call writes nothing else
+ * through its pointers.
  *
  * What the caller keeps. These are conditions of C, which no callee can test:
- *   - meta points to an array of that many words, text to one of capacity bytes. Neither is NULL, even if the number is 0.
+ *   - meta points to an array of that many words, text to one of capacity bytes, list to one of count records. None of them is
+ *     NULL, even if the number is 0.
  *   - A pointer to a result (offset, looked, count, group, room, length) points to one such object and is not NULL.
- *   - What two pointers of one call point to does not overlap: not the metadata with a result or with the text, not two results.
+ *   - What two pointers of one call point to does not overlap: not the metadata with a result, with the text or with the list,
+ *     not two results.
  *   - While a call runs, nobody else writes what it was lent, or reads what it may write. There are no locks: calls on the same
- *     words take turns; only queries and listings may run beside each other.
+ *     words take turns; only queries, listings and holdings may run beside each other.
  * Nothing is asked of what the words hold. Whatever stands in them, every call ends, and reads and writes nothing but what it was
  * lent; words that are no valid state are refused by NOSTRIMEL_NO_STATE. docs/LAYOUT.md says what the words mean.
  *
@@ -38,8 +41,8 @@
  * never read or changed. A word is stored as the processor stores a uint32_t, which on x86-64 is the lowest byte first.
  *
  * What it costs.
- *   - Memory: four bytes a word, which is 4,096 bytes and 2,080 for each page. So the metadata are about half as large as the
- *     arena: 54,016 bytes for 24 pages (98,304 bytes), 536,576 for 256 (1,048,576).
+ *   - Memory: four bytes a word, which is 4,352 bytes and 2,080 for each page. So the metadata are about half as large as the
+ *     arena: 54,272 bytes for 24 pages (98,304 bytes), 536,832 for 256 (1,048,576).
  *   - Time: each call but nostrimel_init reads all of its state's words before it does anything, since any of them may be wrong. On
  *     one machine most calls took one to two microseconds at 24 pages and 8 to 24 at 256; docs/PERFORMANCE.md has the others.
  *   - Stack: NOSTRIMEL_STACK_BYTES are enough for any call.
@@ -69,7 +72,7 @@ extern "C" {
  * Which layout the words have (docs/LAYOUT.md). It grows whenever the words of some state change, so words that were kept are to be
  * lent only to a library with the number of the one that wrote them. #if compares it.
  */
-#define NOSTRIMEL_LAYOUT 1u
+#define NOSTRIMEL_LAYOUT 2u
 
 /* Bytes of a page, the most pages of an arena, and its groups: 1 to NOSTRIMEL_GROUPS. */
 #define NOSTRIMEL_PAGE_BYTES 4096u
@@ -79,8 +82,8 @@ extern "C" {
 /* The largest size that a request may name, in bytes: all of the largest arena. */
 #define NOSTRIMEL_MAX_SIZE 1048576u
 
-/* How many words of metadata an arena of so many pages needs: 13,504 for 24 pages, 134,144 for 256. #if can compute it. */
-#define NOSTRIMEL_WORDS(pages) (1024ul + 520ul * (pages))
+/* How many words of metadata an arena of so many pages needs: 13,568 for 24 pages, 134,208 for 256. #if can compute it. */
+#define NOSTRIMEL_WORDS(pages) (1088ul + 520ul * (pages))
 
 /*
  * Bytes of stack that a call uses at most. That is measured and not proved: in twenty thousand calls of all kinds, on painted stacks,
@@ -92,7 +95,7 @@ extern "C" {
  * listing is refused for want of room; for an arena of 24 pages or fewer 207 are enough. */
 #define NOSTRIMEL_LONGEST_LISTING 2220u
 
-/* Why a call was refused. 9 to 11 are kept for later. */
+/* Why a call was refused. 10 and 11 are kept for later. */
 enum nostrimel_refusal {
     NOSTRIMEL_DONE = 0,         /* not refused */
     NOSTRIMEL_BAD_PAGES = 1,    /* the number of pages is 0 or above 256 */
@@ -103,7 +106,15 @@ enum nostrimel_refusal {
     NOSTRIMEL_NO_ROOM = 6,      /* pages are needed, and no free run would have as many even after a trim */
     NOSTRIMEL_NO_BLOCK = 7,     /* no live block begins at the offset */
     NOSTRIMEL_OTHER_GROUP = 8,  /* the block is another group's */
+    NOSTRIMEL_BAD_LIST = 9,     /* the list is not of 12 records */
     NOSTRIMEL_SHORT_BUFFER = 12 /* the capacity is less than the listing's length */
+};
+
+/* What a group holds. A block counts with its room, as nostrimel_query tells it: 104 bytes for a request of 100. */
+struct nostrimel_holding {
+    uint32_t blocks;   /* its live blocks */
+    uint32_t held;     /* its held bytes: the rooms of its live blocks together */
+    uint32_t greatest; /* the greatest that held has been since nostrimel_init: only a request raises it, nothing lowers it */
 };
 
 /*
@@ -170,6 +181,16 @@ NOSTRIMEL_LOOK_AT uint32_t nostrimel_query(const uint32_t *meta, size_t words, u
  * Refusals: NO_STATE, SHORT_BUFFER.
  */
 NOSTRIMEL_LOOK_AT uint32_t nostrimel_listing(const uint32_t *meta, size_t words, uint8_t *text, size_t capacity, size_t *length);
+
+/*
+ * Fills a list of count records with what each group holds: list[0] is group 1's record, list[NOSTRIMEL_GROUPS - 1] the last
+ * group's. count has to be NOSTRIMEL_GROUPS; a list with fewer or more records is refused, and no record is written then. Changes no
+ * word.
+ * The figures stand in the words, and every call keeps them true; words in which they disagree with the blocks are no valid state.
+ * nostrimel_init sets them all to 0.
+ * Refusals: NO_STATE, BAD_LIST.
+ */
+NOSTRIMEL_LOOK_AT uint32_t nostrimel_holdings(const uint32_t *meta, size_t words, struct nostrimel_holding *list, size_t count);
 
 #ifdef __cplusplus
 }

@@ -4,8 +4,9 @@
 //!     cargo run --release --offline --locked -p benches --bin calls
 //!
 //! A call reads all of its state's words before it does anything, so what the check takes is the
-//! least that it can take; the bar says how much more it may. The check is `nostrimel_check`, and
-//! is measured in the state that the call meets, in the same round.
+//! least that it can take; the bar says how much more it may. The fetching of holdings has a bar of
+//! its own, since it copies 36 words and does nothing else. The check is `nostrimel_check`, and is
+//! measured in the state that the call meets, in the same round.
 //!
 //! Each call is measured by itself. What brings the words to its state and what puts them right
 //! again is outside of the measured part, and after each round the words are again those of the
@@ -21,17 +22,23 @@ mod single;
 use arenas::{arenas, Arena};
 use bars::remark;
 use reference::listing::LONGEST;
+use reference::sizes::{GROUPS, PAGE_BYTES};
 use reference::state::State;
 use resets::{reset_of, returns_of, PAGES, SIZE};
 use searches::{given_back, refused, zones_to_give, Refused};
 use single::{clock, time_of};
+use std::cell::RefCell;
 use std::process::ExitCode;
-use tests::calls::{allocate, free, init, listing, query, reset, trim, Requested};
+use tests::calls::{
+    allocate, free, holdings, init, listing, query, reset, trim, Requested, UNFILLED,
+};
 use tests::check::check;
 use tests::layout::encode;
 
 /// The greatest ratio of a call to the check, for the calls that have a bar.
 const CALL_BAR: f64 = 1.5;
+/// The same for the fetching of holdings.
+const HOLDINGS_BAR: f64 = 1.05;
 /// A reset takes at most one part in so many of what single returns take.
 const RESET_PARTS: f64 = 50.0;
 /// The greatest ratio of a reset of twice the blocks, and of what a request takes beyond the check
@@ -40,7 +47,9 @@ const TWICE_BAR: f64 = 2.5;
 /// The chunks of the reset.
 const CHUNKS: u32 = 100_000;
 
-/// The group that asks. Before a call it holds nothing but what is granted for that call.
+/// The group that asks. Before a call it holds nothing but what is granted for that call, and it has
+/// once held the whole arena: no round raises its greatest figure, so that each can begin with the
+/// same words.
 const GROUP: u32 = 12;
 /// Bytes of a request that takes pages.
 const LARGE: u32 = 8_192;
@@ -63,8 +72,8 @@ struct Measured {
     before: Step,
     step: Step,
     behind: Step,
-    /// Whether the bar is for this call.
-    barred: bool,
+    /// The greatest ratio to the check, if there is a bar.
+    bar: Option<f64>,
     /// The runs that a request looks at, where that is what is measured.
     looked: Option<u32>,
     /// The fastest check and the fastest call.
@@ -115,7 +124,7 @@ fn measured_refused(one: Refused) -> Measured {
         before: step(|_| true),
         step: step(move |words| allocate(words, GROUP, size) == refusal),
         behind: step(|_| true),
-        barred: true,
+        bar: Some(CALL_BAR),
         looked: Some(looked),
         nanoseconds: [f64::INFINITY; 2],
     }
@@ -132,7 +141,7 @@ fn measured_trimming(pages: u32, zones: u32) -> Measured {
         step: step(|words| allocate(words, GROUP, ZONE).outcome == Ok(0)),
         behind: put_right(&words),
         words,
-        barred: false,
+        bar: None,
         looked: None,
         nanoseconds: [f64::INFINITY; 2],
     }
@@ -140,7 +149,12 @@ fn measured_trimming(pages: u32, zones: u32) -> Measured {
 
 /// All that is measured on one arena.
 fn measured(arena: Arena) -> Vec<Measured> {
-    let Arena { name, state, chunk } = arena;
+    let Arena {
+        name,
+        mut state,
+        chunk,
+    } = arena;
+    state.holdings[GROUP as usize - 1].greatest = state.pages * PAGE_BYTES;
     let words = words_of(&state, name);
     let nothing = || step(|_| true);
     let one = |call, before, step, behind| Measured {
@@ -151,12 +165,12 @@ fn measured(arena: Arena) -> Vec<Measured> {
         before,
         step,
         behind,
-        barred: true,
+        bar: Some(CALL_BAR),
         looked: None,
         nanoseconds: [f64::INFINITY; 2],
     };
-    let unbarred = |call, step, behind| Measured {
-        barred: false,
+    let with_bar = |bar, call, step, behind| Measured {
+        bar,
         ..one(call, nothing(), step, behind)
     };
     // Where a block of this size will be each time.
@@ -172,6 +186,8 @@ fn measured(arena: Arena) -> Vec<Measured> {
     let give_and_trim =
         |offset| step(move |words| free(words, GROUP, offset) == Ok(()) && trim(words).is_ok());
     let trimmed = || step(|words| trim(words).is_ok());
+    // The list is there before the call, as a display's is.
+    let list = RefCell::new([UNFILLED; GROUPS as usize]);
     let asked = last_block(&state);
     let pages = state.pages;
     vec![
@@ -201,17 +217,26 @@ fn measured(arena: Arena) -> Vec<Measured> {
             step(|words| trim(words) == Ok(0)),
             nothing(),
         ),
-        unbarred(
+        with_bar(
+            Some(HOLDINGS_BAR),
+            "holdings",
+            step(move |words| holdings(words, &mut *list.borrow_mut()) == Ok(())),
+            nothing(),
+        ),
+        with_bar(
+            None,
             "reset of none",
             step(|words| reset(words, GROUP) == Ok(0)),
             nothing(),
         ),
-        unbarred(
+        with_bar(
+            None,
             "listing",
             step(|words| listing(words, &mut [0; LONGEST]).is_ok()),
             nothing(),
         ),
-        unbarred(
+        with_bar(
+            None,
             "init",
             step(move |words| init(words, pages) == Ok(())),
             put_right(&words),
@@ -254,16 +279,16 @@ impl Measured {
         let Measured {
             pages, arena, call, ..
         } = self;
-        let met = ratio <= CALL_BAR;
-        let said = match (self.barred, self.looked) {
-            (true, None) => remark(met, CALL_BAR),
-            (true, Some(runs)) => format!("{}, {runs} runs looked at", remark(met, CALL_BAR)),
-            (false, _) => String::new(),
+        let met = self.bar.map_or(true, |bar| ratio <= bar);
+        let said = match (self.bar, self.looked) {
+            (Some(bar), None) => remark(met, bar),
+            (Some(bar), Some(runs)) => format!("{}, {runs} runs looked at", remark(met, bar)),
+            (None, _) => String::new(),
         };
         println!(
             "{pages:>5}  {arena:<12}{call:<16}{call_ns:>12.0}{check_ns:>12.0}{ratio:>8.2}  {said}"
         );
-        met || !self.barred
+        met
     }
 }
 

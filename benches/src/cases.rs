@@ -5,17 +5,15 @@ use reference::histories::Xorshift;
 use reference::sizes::{chunk_count, ZONE_PAGES};
 use reference::state::{State, Zone};
 use tests::states::{zones_throughout, Plan};
-use tests::zones::{shuffle, zone_with};
+use tests::zones::{by_turns, shuffle, zone_with};
 
 /// The greatest ratio with nothing but runs and direct blocks.
-const PAGES_BAR: f64 = 1.4;
-/// The greatest ratio with zones of which half of the chunks are live and the others untouched.
-const HALF_LIVE_BAR: f64 = 2.5;
-/// The greatest ratio with full zones.
-const FULL_BAR: f64 = 4.0;
-/// The greatest ratio with zones of which half of the chunks are live and the others returned.
-const HALF_RETURNED_BAR: f64 = 7.0;
-/// The greatest ratio with zones of which every chunk was returned, in whatever order.
+const PAGES_BAR: f64 = 1.5;
+/// The greatest ratio with zones that have live chunks, be they one group's or all groups'. The check
+/// counts each group's chunks there, to hold the groups' figures to them.
+const LIVE_BAR: f64 = 12.0;
+/// The greatest ratio with zones of which every chunk was returned, in whatever order: there is none
+/// to count for a group.
 const RETURNED_BAR: f64 = 10.0;
 /// The smallest arena that has bars: in a smaller one the header is most of the words.
 const BARS_FROM: u32 = 24;
@@ -54,17 +52,14 @@ pub fn cases(pages: u32) -> Vec<Case> {
     if pages >= ZONE_PAGES {
         let zones = |name, zone: Zone, bar| case(name, zones_throughout(pages, &zone), barred(bar));
         cases.extend([
+            zones("zones, half live, half untouched", half_live(), LIVE_BAR),
+            zones("zones, half live, half returned", half_returned(), LIVE_BAR),
+            zones("zones, full, of one group", full(), LIVE_BAR),
             zones(
-                "zones, half live, half untouched",
-                half_live(),
-                HALF_LIVE_BAR,
+                "zones, full, of twelve by turns",
+                by_turns(full()),
+                LIVE_BAR,
             ),
-            zones(
-                "zones, half live, half returned",
-                half_returned(),
-                HALF_RETURNED_BAR,
-            ),
-            zones("zones, full", full(), FULL_BAR),
             zones(
                 "zones, all returned in ascending order",
                 returned(),

@@ -5,7 +5,7 @@ use crate::lines::{parse, render, MAX_LINE, NOT_A_CALL};
 use std::io::{self, ErrorKind, Read, Write};
 
 /// Words of the bench program's books: enough for 24 pages.
-pub const WORDS: usize = 13_504;
+pub const WORDS: usize = 13_568;
 
 /// Bytes asked for in one read.
 const READ_BYTES: usize = 65_536;

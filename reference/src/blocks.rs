@@ -40,7 +40,17 @@ impl State {
     /// Grants a block of a legal size to a legal group and answers its
     /// offset; `None`, and no change, where refusal 6 is due.
     pub(crate) fn take_block(&mut self, group: Group, size: u32) -> Taken<u32> {
-        match need(size) {
+        let need = need(size);
+        let block = self.take_place(group, need);
+        block.map(|offset| {
+            self.note_granted(group, need.room());
+            offset
+        })
+    }
+
+    /// A chunk or pages for a block of the group, by their offset.
+    fn take_place(&mut self, group: Group, need: Need) -> Taken<u32> {
+        match need {
             Need::Chunk { class } => self
                 .take_chunk(class, group)
                 .map(|(zone, chunk)| chunk_offset(zone, &self.zones[&zone], chunk)),
@@ -53,6 +63,7 @@ impl State {
 
     /// Takes a live block back.
     pub(crate) fn give_block(&mut self, block: &Block) {
+        self.note_returned(block.group, block.room);
         match block.place {
             Place::Direct { start } => {
                 self.direct.remove(&start);

@@ -1,7 +1,8 @@
 //! Document 01's "Calls" and "Numbers for no", with the count that document
-//! 02's request b) adds to a request's answer: what each call answers, in the
-//! order in which the refusals are tested.
+//! 02's request b) adds to a request's answer and the call that its request c)
+//! adds: what each call answers, in the order in which the refusals are tested.
 
+use crate::holdings::Holdings;
 use crate::listing;
 use crate::pages::Taken;
 use crate::sizes::{words_needed, GROUPS, MAX_PAGES, MAX_SIZE};
@@ -27,12 +28,14 @@ pub enum Refusal {
     NoBlock,
     /// The block is another group's.
     OtherGroup,
+    /// The lent list is not twelve records long.
+    ListLength,
     /// The lent byte buffer is shorter than the listing.
     ShortBuffer,
 }
 
 impl Refusal {
-    pub const ALL: [Refusal; 9] = [
+    pub const ALL: [Refusal; 10] = [
         Refusal::PageCount,
         Refusal::TooFewWords,
         Refusal::NoLegalState,
@@ -41,10 +44,11 @@ impl Refusal {
         Refusal::NoRun,
         Refusal::NoBlock,
         Refusal::OtherGroup,
+        Refusal::ListLength,
         Refusal::ShortBuffer,
     ];
 
-    /// Document 01's number for it.
+    /// The papers' number for it.
     pub fn number(self) -> u32 {
         match self {
             Refusal::PageCount => 1,
@@ -55,6 +59,7 @@ impl Refusal {
             Refusal::NoRun => 6,
             Refusal::NoBlock => 7,
             Refusal::OtherGroup => 8,
+            Refusal::ListLength => 9,
             Refusal::ShortBuffer => 12,
         }
     }
@@ -70,6 +75,7 @@ pub enum Call {
     Trim,
     Query { offset: u32 },
     Listing { capacity: usize },
+    Holdings { records: usize },
 }
 
 /// What a call answers.
@@ -89,6 +95,8 @@ pub enum Answer {
     Held { group: u32, room: u32 },
     /// The listing's text; the call's own answer is its length.
     Listed(String),
+    /// What the lent list is filled with; the call's own answer is done.
+    Fetched(Holdings),
     /// The refusal of a call that is no request, with nothing changed.
     Refused(Refusal),
 }
@@ -102,7 +110,7 @@ impl Answer {
         }
     }
 
-    /// Document 01's number of the refusal, and 0 for any other answer.
+    /// The number of the refusal, and 0 for any other answer.
     pub fn number(&self) -> u32 {
         self.refusal().map_or(0, Refusal::number)
     }
@@ -244,6 +252,15 @@ impl Allocator {
         Ok(text)
     }
 
+    /// The holdings: what a lent list of this many records is filled with.
+    pub fn holdings(&self, records: usize) -> Result<Holdings, Refusal> {
+        let holdings = self.legal_state()?.holdings;
+        if records != holdings.len() {
+            return Err(Refusal::ListLength);
+        }
+        Ok(holdings)
+    }
+
     /// Serves a call of any kind.
     pub fn serve(&mut self, call: Call) -> Answer {
         let answer = match call {
@@ -256,6 +273,7 @@ impl Allocator {
                 .query(offset)
                 .map(|(group, room)| Answer::Held { group, room }),
             Call::Listing { capacity } => self.listing(capacity).map(Answer::Listed),
+            Call::Holdings { records } => self.holdings(records).map(Answer::Fetched),
         };
         answer.unwrap_or_else(Answer::Refused)
     }

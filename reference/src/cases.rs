@@ -4,15 +4,23 @@
 //! the same ones. cases/README.md says how they are written.
 
 use crate::bench::WORDS;
-use crate::calls::Answer;
-use crate::sizes::words_needed;
+use crate::calls::{Answer, Call};
+use crate::lines::{parse, render};
+use crate::sizes::{words_needed, GROUPS};
 use crate::state::State;
 
+/// What asks for one group's record.
+const RECORD: &str = "holding ";
+
+/// What asks for the holdings in a list of so many records.
+const LIST: &str = "holdings ";
+
 /// The files, by name and text.
-pub const FILES: [(&str, &str); 9] = [
+pub const FILES: [(&str, &str); 10] = [
     ("calls", include_str!("../cases/calls.txt")),
     ("counts", include_str!("../cases/counts.txt")),
     ("edges", include_str!("../cases/edges.txt")),
+    ("holdings", include_str!("../cases/holdings.txt")),
     ("pages", include_str!("../cases/pages.txt")),
     ("refusals", include_str!("../cases/refusals.txt")),
     ("second-search", include_str!("../cases/second-search.txt")),
@@ -31,7 +39,8 @@ pub struct Case {
 
 /// One line of a script with what is answered.
 pub struct Step {
-    /// A line of the bench program, or a look at the state ([`look`]).
+    /// A line of the bench program, the fetching of holdings, or a look at the
+    /// state ([`look`]).
     pub asked: String,
     /// The answer's lines, each ended by LF.
     pub answer: String,
@@ -40,6 +49,31 @@ pub struct Step {
 }
 
 impl Step {
+    /// The call that is made; `None` if the state is looked at.
+    pub fn call(&self) -> Option<Call> {
+        let twelve = GROUPS as usize;
+        if let Some(records) = self.asked.strip_prefix(LIST) {
+            let records = number(records) as usize;
+            return Some(Call::Holdings { records });
+        }
+        match self.asked.starts_with(RECORD) {
+            true => Some(Call::Holdings { records: twelve }),
+            false => parse(self.asked.as_bytes()),
+        }
+    }
+
+    /// What is told of the call's answer: all of it, but of fetched holdings
+    /// the one record that is asked for.
+    pub fn told(&self, answer: &Answer) -> String {
+        match (self.asked.strip_prefix(RECORD), answer) {
+            (Some(group), Answer::Fetched(holdings)) => {
+                let holding = holdings[number(group) as usize - 1];
+                holding.line() + "\n"
+            }
+            _ => render(answer),
+        }
+    }
+
     /// Whether an answer has the count that the case says, where it says one.
     pub fn has_count_of(&self, answer: &Answer) -> bool {
         self.looked.is_none() || answer.looked() == self.looked

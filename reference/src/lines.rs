@@ -65,9 +65,9 @@ pub fn decimal(digits: &[u8]) -> Option<u32> {
 }
 
 /// The line of a call, without its LF: what [`parse`] reads, turned round. A
-/// listing's line doesn't name its capacity.
-pub fn line_of(call: &Call) -> String {
-    match call {
+/// listing's line doesn't name its capacity, and no line asks for the holdings.
+pub fn line_of(call: &Call) -> Option<String> {
+    let line = match call {
         Call::Init { pages } => format!("s {pages}"),
         Call::Allocate { group, size } => format!("q {group} {size}"),
         Call::Free { group, offset } => format!("r {group} {offset}"),
@@ -75,11 +75,14 @@ pub fn line_of(call: &Call) -> String {
         Call::Trim => "t".to_string(),
         Call::Query { offset } => format!("b {offset}"),
         Call::Listing { .. } => "p".to_string(),
-    }
+        Call::Holdings { .. } => return None,
+    };
+    Some(line)
 }
 
 /// What is written for an answer; every line ends with LF. A request's count of
-/// runs is not written.
+/// runs is not written. Holdings are a line for each record; the bench program
+/// never has to write them.
 pub fn render(answer: &Answer) -> String {
     match answer {
         Answer::Granted { offset, .. } => format!("at {offset}\n"),
@@ -87,6 +90,10 @@ pub fn render(answer: &Answer) -> String {
         Answer::Counted(count) => format!("ok {count}\n"),
         Answer::Held { group, room } => format!("{group} {room}\n"),
         Answer::Listed(text) => text.clone(),
+        Answer::Fetched(holdings) => {
+            let lines = holdings.iter().map(|holding| holding.line() + "\n");
+            lines.collect()
+        }
         Answer::Denied { refusal, .. } | Answer::Refused(refusal) => {
             format!("no {}\n", refusal.number())
         }

@@ -16,6 +16,10 @@ pub const GROUPS: u32 = 12;
 pub const MAX_SIZE: u32 = MAX_PAGES * PAGE_BYTES;
 /// From this size up a request takes whole pages.
 pub const DIRECT_FROM: u32 = 8_192;
+/// Words of the books that an arena of any size needs.
+pub const FIXED_WORDS: usize = 1_088;
+/// Words of the books for each page.
+pub const PAGE_WORDS: usize = 520;
 
 /// One row of the size table.
 struct Row {
@@ -51,6 +55,16 @@ pub enum Need {
     Chunk { class: u32 },
     /// A direct block of this many pages.
     Pages { pages: u32 },
+}
+
+impl Need {
+    /// Bytes of the block: the chunk size, or pages × 4,096.
+    pub fn room(self) -> u32 {
+        match self {
+            Need::Chunk { class } => chunk_size(class),
+            Need::Pages { pages } => pages * PAGE_BYTES,
+        }
+    }
 }
 
 /// A chunk or whole pages: a legal size decides alone.
@@ -102,7 +116,7 @@ pub fn chunk_count(class: u32) -> u32 {
 
 /// How many words the books of an arena have to have.
 pub fn words_needed(pages: u32) -> usize {
-    1_024 + 520 * pages as usize
+    FIXED_WORDS + PAGE_WORDS * pages as usize
 }
 
 /// How many steps hold `size` bytes: the size divided and rounded up.

@@ -1,9 +1,11 @@
-//! The abstract state of an arena: free runs, direct blocks, zones and lists.
+//! The abstract state of an arena: free runs, direct blocks, zones and lists,
+//! and what each group holds.
 //!
 //! Nothing here checks a state; [`crate::validity::is_valid`] does. Two legal
 //! states are equal exactly if their values are: blocks and zones are kept by
 //! start page, and lists and chains front first.
 
+use crate::holdings::Holdings;
 use crate::sizes::{chunk_count, chunk_size, CLASSES};
 use std::collections::{BTreeMap, VecDeque};
 
@@ -96,10 +98,13 @@ pub struct State {
     pub lists: Vec<VecDeque<Page>>,
     /// The empty list, as start pages, front first.
     pub empty: VecDeque<Page>,
+    /// What each group holds, group 1 first.
+    pub holdings: Holdings,
 }
 
 impl State {
-    /// The state that a start pictures: one run of all pages.
+    /// The state that a start pictures: one run of all pages, and nobody holds
+    /// anything or has.
     pub fn fresh(pages: u32) -> State {
         State {
             pages,
@@ -108,6 +113,7 @@ impl State {
             zones: BTreeMap::new(),
             lists: no_lists(),
             empty: VecDeque::new(),
+            holdings: Holdings::default(),
         }
     }
 
@@ -119,6 +125,7 @@ impl State {
         zones: BTreeMap<Page, Zone>,
         lists: Vec<VecDeque<Page>>,
         empty: VecDeque<Page>,
+        holdings: Holdings,
     ) -> State {
         State {
             pages,
@@ -127,6 +134,7 @@ impl State {
             zones,
             lists,
             empty,
+            holdings,
         }
     }
 

@@ -1,4 +1,5 @@
-//! Document 01's "A legal state is", clause by clause.
+//! Document 01's "A legal state is", clause by clause, and what document 02's
+//! request c) says of the stored figures.
 //!
 //! Legal is wider than reachable: direct blocks of one page, zones with
 //! k = 0, several idle zones on a class's list and lists in any order pass,
@@ -7,7 +8,7 @@
 //! Every clause can be asked of any state and ends with an answer, whatever
 //! the other clauses would say of it.
 
-use crate::sizes::{chunk_count, CLASSES, GROUPS, MAX_PAGES, ZONE_PAGES};
+use crate::sizes::{chunk_count, CLASSES, GROUPS, MAX_PAGES, PAGE_BYTES, ZONE_PAGES};
 use crate::state::{Group, Page, Run, State, Zone};
 
 /// Whether the state is legal: all clauses together.
@@ -23,6 +24,9 @@ pub fn is_valid(state: &State) -> bool {
         && empty_list_is_legal(state)
         && zones_with_room_are_listed(state)
         && no_zone_stands_twice(state)
+        && live_blocks_are_counted(state)
+        && held_bytes_are_added_up(state)
+        && greatest_figures_are_legal(state)
 }
 
 /// "N from 1 to 256".
@@ -132,6 +136,29 @@ pub fn no_zone_stands_twice(state: &State) -> bool {
     let mut listed: Vec<Page> = lists.flatten().copied().collect();
     listed.sort_unstable();
     listed.windows(2).all(|pair| pair[0] != pair[1])
+}
+
+/// "Figures [that] disagree with their blocks picture no legal state": each
+/// group's live blocks.
+pub fn live_blocks_are_counted(state: &State) -> bool {
+    let sums = state.added_up();
+    let mut groups = state.holdings.iter().zip(sums);
+    groups.all(|(holding, sum)| u64::from(holding.blocks) == sum.blocks)
+}
+
+/// The same of "its held bytes (the rooms of its live blocks)".
+pub fn held_bytes_are_added_up(state: &State) -> bool {
+    let sums = state.added_up();
+    let mut groups = state.holdings.iter().zip(sums);
+    groups.all(|(holding, sum)| u64::from(holding.held) == sum.bytes)
+}
+
+/// "For the greatest figure that means being below the held one or above
+/// N × 4,096."
+pub fn greatest_figures_are_legal(state: &State) -> bool {
+    let arena = u64::from(state.pages) * u64::from(PAGE_BYTES);
+    let mut groups = state.holdings.iter();
+    groups.all(|holding| holding.greatest >= holding.held && u64::from(holding.greatest) <= arena)
 }
 
 /// Whether a chunk is not live. A zone without a class has no chunks.

@@ -44,9 +44,9 @@ fn books_are_long_enough_for_24_pages() {
 #[test]
 fn words_makes_the_books_longer_or_shorter() {
     let cases: [(&str, &[u8]); 4] = [
-        ("134144", b"ok\nok\n"),
-        ("134143", b"no 2\nok\n"),
-        ("1544", b"no 2\nok\n"),
+        ("134208", b"ok\nok\n"),
+        ("134207", b"no 2\nok\n"),
+        ("1608", b"no 2\nok\n"),
         ("0", b"no 2\nno 2\n"),
     ];
     for (words, answers) in cases {

@@ -3,23 +3,27 @@
 
 use reference::calls::{Allocator, Answer, Call};
 use reference::cases::{all, look, Case, FILES};
-use reference::lines::{parse, render};
+use reference::lines::parse;
 use reference::validity::is_valid;
 use std::collections::BTreeSet;
 use std::fs;
 
 /// Whether nothing may have changed with this answer.
 fn is_without_effect(answer: &Answer) -> bool {
-    answer.refusal().is_some() || matches!(answer, Answer::Held { .. } | Answer::Listed(_))
+    let only_tells = matches!(
+        answer,
+        Answer::Held { .. } | Answer::Listed(_) | Answer::Fetched(_)
+    );
+    answer.refusal().is_some() || only_tells
 }
 
-/// Checks every answer and every count, that refusals, asks and listings change
-/// nothing, and that each state is legal.
+/// Checks every answer and every count, that refusals, asks, listings and
+/// fetched holdings change nothing, and that each state is legal.
 fn follow(case: &Case) {
     let mut allocator = Allocator::zeroed(case.words);
     for step in &case.steps {
         let before = allocator.clone();
-        let answer = match parse(step.asked.as_bytes()) {
+        let answer = match step.call() {
             Some(call) => {
                 let answer = allocator.serve(call);
                 if is_without_effect(&answer) {
@@ -27,7 +31,7 @@ fn follow(case: &Case) {
                 }
                 let counted = step.has_count_of(&answer);
                 assert!(counted, "{}: {}: {:?}", case.name, step.asked, answer);
-                Some(render(&answer))
+                Some(step.told(&answer))
             }
             None => allocator.state().and_then(|state| look(state, &step.asked)),
         };

@@ -167,7 +167,7 @@ fn any_state(pages: u32, random: &mut Xorshift) -> State {
             .last()
             .map_or(false, |run| run.start + run.pages == start);
     }
-    state
+    state.recounted()
 }
 
 /// A zone of class 63, on its class's list, with a live chunk or without.
@@ -212,7 +212,7 @@ fn by_turns(pages: u32) -> State {
         let block = DirectBlock { pages: 1, group: 1 };
         state.direct.insert(start, block);
     }
-    state
+    state.recounted()
 }
 
 #[test]

@@ -190,8 +190,10 @@ fn calls_and_their_lines() {
     ];
     for (line, call) in calls {
         assert_eq!(parse(line.as_bytes()), Some(call));
-        assert_eq!(line_of(&call), line);
+        assert_eq!(line_of(&call).as_deref(), Some(line));
     }
+    // No line asks for the holdings.
+    assert_eq!(line_of(&Call::Holdings { records: 12 }), None);
 }
 
 #[test]

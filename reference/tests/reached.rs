@@ -84,7 +84,7 @@ fn every_state_that_calls_reach_is_legal_and_blocks_are_apart() {
 }
 
 #[test]
-fn all_blocks_returned_and_tidied_leave_the_fresh_state() {
+fn all_blocks_returned_and_tidied_leave_the_fresh_state_but_for_the_greatest_figures() {
     for seed in 0..20 {
         let mut allocator = started(64);
         let mut history = History::new(seed);
@@ -97,7 +97,12 @@ fn all_blocks_returned_and_tidied_leave_the_fresh_state() {
         let returned: u32 = (1..=12).map(|group| allocator.reset(group).unwrap()).sum();
         assert_eq!(returned, live);
         allocator.trim().unwrap();
-        assert_eq!(allocator.state(), Some(&State::fresh(64)));
+        let mut left = state(&allocator).clone();
+        for holding in &mut left.holdings {
+            assert!(holding.greatest > 0 || live == 0, "{holding:?}");
+            holding.greatest = 0;
+        }
+        assert_eq!(left, State::fresh(64));
     }
 }
 

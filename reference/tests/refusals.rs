@@ -1,5 +1,6 @@
 //! Refusals that cases/ cannot have: on books that picture no legal state for
-//! several reasons, of a listing's buffer, and those of histories.
+//! several reasons, of a listing's buffer and of a list of records of every
+//! length, and those of histories.
 
 mod common;
 
@@ -19,16 +20,19 @@ fn full() -> Allocator {
     allocator
 }
 
-/// Books that picture no legal state: zeros, a state that isn't legal, and a
+/// Books that picture no legal state: zeros, states that aren't legal, and a
 /// legal state that needs one word more.
 fn unusable() -> Vec<Allocator> {
     let mut overlapping = State::fresh(24);
     let block = DirectBlock { pages: 2, group: 1 };
     overlapping.direct.insert(0, block);
+    let mut miscounted = State::fresh(24);
+    miscounted.holdings[0].blocks = 1;
     vec![
-        Allocator::zeroed(13_504),
-        Allocator::picturing(13_504, overlapping),
-        Allocator::picturing(13_503, State::fresh(24)),
+        Allocator::zeroed(13_568),
+        Allocator::picturing(13_568, overlapping.recounted()),
+        Allocator::picturing(13_568, miscounted),
+        Allocator::picturing(13_567, State::fresh(24)),
     ]
 }
 
@@ -74,6 +78,8 @@ fn without_a_legal_state_every_call_but_start_is_refused_by_3() {
         Call::Query { offset: 0 },
         Call::Listing { capacity: 0 },
         Call::Listing { capacity: 9_999 },
+        Call::Holdings { records: 0 },
+        Call::Holdings { records: 12 },
     ];
     for mut allocator in unusable() {
         for call in calls {
@@ -84,7 +90,7 @@ fn without_a_legal_state_every_call_but_start_is_refused_by_3() {
 
 #[test]
 fn a_legal_state_on_just_enough_words_is_served() {
-    let mut allocator = Allocator::picturing(13_504, State::fresh(24));
+    let mut allocator = Allocator::picturing(13_568, State::fresh(24));
     assert_eq!(allocator.allocate(1, 1).outcome, Ok(0));
 }
 
@@ -100,7 +106,17 @@ fn listing_tests_12() {
 }
 
 #[test]
-fn every_refusal_has_document_01s_number() {
+fn holdings_test_9() {
+    for records in (0..12).chain([13, 24, usize::MAX]) {
+        assert_refused(&mut full(), Call::Holdings { records }, 9);
+    }
+    let holdings = full().holdings(12).expect("a record for each group");
+    let held = holdings.map(|holding| holding.held);
+    assert_eq!(held, [104, 104, 65_536, 0, 0, 0, 0, 0, 0, 0, 0, 0]);
+}
+
+#[test]
+fn every_refusal_has_its_number() {
     let numbers = [
         (Refusal::PageCount, 1),
         (Refusal::TooFewWords, 2),
@@ -110,6 +126,7 @@ fn every_refusal_has_document_01s_number() {
         (Refusal::NoRun, 6),
         (Refusal::NoBlock, 7),
         (Refusal::OtherGroup, 8),
+        (Refusal::ListLength, 9),
         (Refusal::ShortBuffer, 12),
     ];
     for (refusal, number) in numbers {
@@ -154,7 +171,7 @@ fn the_longest_listing() {
             };
             state.direct.insert(start, block);
         }
-        let allocator = Allocator::picturing(words_needed(pages), state);
+        let allocator = Allocator::picturing(words_needed(pages), state.recounted());
         assert_eq!(text(&allocator).len(), length);
     }
     assert_eq!(reference::listing::LONGEST, 2_220);

@@ -32,8 +32,8 @@ fn chunk_sizes_of_the_64_classes() {
 
 #[test]
 fn words_needed_at_both_ends() {
-    assert_eq!(words_needed(1), 1_544);
-    assert_eq!(words_needed(24), 13_504);
-    assert_eq!(words_needed(256), 134_144);
+    assert_eq!(words_needed(1), 1_608);
+    assert_eq!(words_needed(24), 13_568);
+    assert_eq!(words_needed(256), 134_208);
     assert_eq!(MAX_SIZE, 1_048_576);
 }

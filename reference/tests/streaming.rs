@@ -143,7 +143,7 @@ fn a_failed_read_ends_the_run_after_the_answers_so_far() {
 
 #[test]
 fn more_words_serve_larger_arenas() {
-    for (words, answer) in [(134_143, "no 2\n"), (134_144, "ok\n")] {
+    for (words, answer) in [(134_207, "no 2\n"), (134_208, "ok\n")] {
         let mut output = Vec::new();
         run(words, &mut &b"s 256\n"[..], &mut output).unwrap();
         assert_eq!(output, answer.as_bytes());

@@ -1,13 +1,16 @@
 /*
  * The header by itself: its numbers where the preprocessor and a declaration need them, each function by a pointer of the type that is
- * written out here, and what a request writes: its count always, its offset only where it is granted. It is compiled as C99 and as C++17,
- * with warnings about conversions and casts too. With UNLOOKED_AT it leaves a result unlooked at, and must not compile where warnings are
- * errors.
+ * written out here, the record of what a group holds by its members, what a request writes: its count always, its offset only where it is
+ * granted; and what the fetching of holdings writes: twelve records, or none. It is compiled as C99 and as C++17, with warnings about
+ * conversions and casts too. With UNLOOKED_AT it leaves a result unlooked at, and must not compile where warnings are errors.
  */
 #include <nostrimel.h>
 
-#if NOSTRIMEL_WORDS(1) != 1544 || NOSTRIMEL_WORDS(24) != 13504 || NOSTRIMEL_WORDS(NOSTRIMEL_MAX_PAGES) != 134144
+#if NOSTRIMEL_WORDS(1) != 1608 || NOSTRIMEL_WORDS(24) != 13568 || NOSTRIMEL_WORDS(NOSTRIMEL_MAX_PAGES) != 134208
 #error "NOSTRIMEL_WORDS"
+#endif
+#if NOSTRIMEL_GROUPS != 12
+#error "NOSTRIMEL_GROUPS"
 #endif
 #if NOSTRIMEL_LAYOUT < 1 || NOSTRIMEL_STACK_BYTES < 1 || NOSTRIMEL_MAX_SIZE != NOSTRIMEL_MAX_PAGES * NOSTRIMEL_PAGE_BYTES
 #error "another number"
@@ -22,6 +25,7 @@ static uint32_t (*const reset)(uint32_t *, size_t, uint32_t, uint32_t *) = nostr
 static uint32_t (*const trim)(uint32_t *, size_t, uint32_t *) = nostrimel_trim;
 static uint32_t (*const query)(const uint32_t *, size_t, uint32_t, uint32_t *, uint32_t *) = nostrimel_query;
 static uint32_t (*const listing)(const uint32_t *, size_t, uint8_t *, size_t, size_t *) = nostrimel_listing;
+static uint32_t (*const holdings)(const uint32_t *, size_t, struct nostrimel_holding *, size_t) = nostrimel_holdings;
 
 /* A request: its number, its offset or what stood there before, and its count, in place of which something else stood before. */
 static int is_answered(size_t words, uint32_t group, uint32_t size, uint32_t number, uint32_t at, uint32_t runs)
@@ -46,24 +50,74 @@ static int requests(size_t words)
            is_answered(words, 1, 12288, NOSTRIMEL_DONE, 40960, 2);
 }
 
+/* A record of three figures, with nothing between and behind them: its members stand as those of an array do. */
+static int is_three_words(void)
+{
+    return sizeof(struct nostrimel_holding) == 3 * sizeof(uint32_t) && offsetof(struct nostrimel_holding, blocks) == 0 &&
+           offsetof(struct nostrimel_holding, held) == sizeof(uint32_t) &&
+           offsetof(struct nostrimel_holding, greatest) == 2 * sizeof(uint32_t);
+}
+
+static int is_record(const struct nostrimel_holding *record, uint32_t blocks, uint32_t held, uint32_t greatest)
+{
+    return record->blocks == blocks && record->held == held && record->greatest == greatest;
+}
+
+/* Holdings fetched from the words that the requests left: group 1 holds 104 + 104 + 12,288 bytes, and has held no more. */
+static int fetches(size_t words)
+{
+    enum { AROUND = NOSTRIMEL_GROUPS + 2 };
+    const uint32_t unwritten = 0xa5a5a5a5u;
+    struct nostrimel_holding around[AROUND];
+    struct nostrimel_holding *const list = around + 1;
+    size_t i, count;
+
+    for (i = 0; i < AROUND; i++) {
+        around[i].blocks = around[i].held = around[i].greatest = unwritten;
+    }
+    for (count = 0; count <= NOSTRIMEL_GROUPS + 1; count++) {
+        if ((count != NOSTRIMEL_GROUPS && holdings(meta, words, list, count) != NOSTRIMEL_BAD_LIST) ||
+            holdings(meta, words - 1, list, count) != NOSTRIMEL_NO_STATE) {
+            return 0;
+        }
+    }
+    for (i = 0; i < AROUND; i++) {
+        if (!is_record(&around[i], unwritten, unwritten, unwritten)) {
+            return 0;
+        }
+    }
+    if (holdings(meta, words, list, NOSTRIMEL_GROUPS) != NOSTRIMEL_DONE || !is_record(list, 3, 12496, 12496)) {
+        return 0;
+    }
+    for (i = 1; i < NOSTRIMEL_GROUPS; i++) {
+        if (!is_record(list + i, 0, 0, 0)) {
+            return 0;
+        }
+    }
+    return is_record(around, unwritten, unwritten, unwritten) && is_record(list + NOSTRIMEL_GROUPS, unwritten, unwritten, unwritten);
+}
+
 int main(void)
 {
     const uint32_t pages = 24;
     const size_t words = NOSTRIMEL_WORDS(pages);
     uint8_t text[NOSTRIMEL_LONGEST_LISTING];
+    struct nostrimel_holding list[NOSTRIMEL_GROUPS];
     uint32_t offset, looked, group, room, count;
     size_t length;
 
 #ifdef UNLOOKED_AT
     nostrimel_init(meta, words, pages);
 #endif
-    /* Requests; then each function once, and the last answer is that of words of one page too few. */
-    return !(sizeof meta / sizeof meta[0] == words && requests(words) && init(meta, words, pages) == NOSTRIMEL_DONE &&
+    /* Requests and holdings; then each function once, and the last answer is that of words of one page too few. */
+    return !(sizeof meta / sizeof meta[0] == words && is_three_words() && requests(words) && fetches(words) &&
+             init(meta, words, pages) == NOSTRIMEL_DONE &&
              allocate(meta, words, 12, 100, &offset, &looked) == NOSTRIMEL_DONE && offset == 0 && looked == 1 &&
              query(meta, words, offset, &group, &room) == NOSTRIMEL_DONE && group == 12 && room == 104 &&
              listing(meta, words, text, sizeof text, &length) == NOSTRIMEL_DONE && length == 36 &&
              give_back(meta, words, 12, offset) == NOSTRIMEL_DONE &&
              reset(meta, words, 12, &count) == NOSTRIMEL_DONE && count == 0 &&
+             holdings(meta, words, list, NOSTRIMEL_GROUPS) == NOSTRIMEL_DONE && is_record(&list[11], 0, 0, 104) &&
              trim(meta, words, &count) == NOSTRIMEL_DONE && count == 1 &&
              trim(meta, NOSTRIMEL_WORDS(pages - 1), &count) == NOSTRIMEL_NO_STATE);
 }

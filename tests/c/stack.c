@@ -15,12 +15,13 @@
 
 enum { STACK = 65536, WORDS = NOSTRIMEL_WORDS(NOSTRIMEL_MAX_PAGES), PAINT = 0xa5 };
 
-enum call { INIT, ALLOCATE, FREE, RESET, TRIM, QUERY, LISTING, CALLS };
+enum call { INIT, ALLOCATE, FREE, RESET, TRIM, QUERY, LISTING, HOLDINGS, CALLS };
 
-static const char *const names[CALLS] = {"init", "allocate", "free", "reset", "trim", "query", "listing"};
+static const char *const names[CALLS] = {"init", "allocate", "free", "reset", "trim", "query", "listing", "holdings"};
 
 static uint32_t meta[WORDS];
 static uint8_t text[NOSTRIMEL_LONGEST_LISTING];
+static struct nostrimel_holding list[NOSTRIMEL_GROUPS + 1];
 static unsigned char stack[STACK];
 static ucontext_t here, there;
 
@@ -44,6 +45,7 @@ static void make(void)
     case TRIM: answer = nostrimel_trim(meta, WORDS, &count); break;
     case QUERY: answer = nostrimel_query(meta, WORDS, first, &group, &room); break;
     case LISTING: answer = nostrimel_listing(meta, WORDS, text, sizeof text, &length); break;
+    case HOLDINGS: answer = nostrimel_holdings(meta, WORDS, list, first); break;
     case CALLS: break;
     }
 }
@@ -110,15 +112,16 @@ static void history(uint32_t pages, unsigned turns)
     while (turns-- > 0) {
         unsigned at = draw(KEPT);
 
-        switch (draw(12)) {
+        switch (draw(13)) {
         case 0: call(RESET, draw(14), 0); break;
         case 1: call(TRIM, 0, 0); break;
         case 2: call(LISTING, 0, 0); break;
-        case 3:
-        case 4: call(QUERY, offsets[at] + draw(2), 0); break;
-        case 5:
+        case 3: call(HOLDINGS, NOSTRIMEL_GROUPS - 1 + draw(3), 0); break;
+        case 4:
+        case 5: call(QUERY, offsets[at] + draw(2), 0); break;
         case 6:
-        case 7: call(FREE, owners[at] + draw(2), offsets[at]); break;
+        case 7:
+        case 8: call(FREE, owners[at] + draw(2), offsets[at]); break;
         default:
             owners[at] = draw(14);
             if (call(ALLOCATE, owners[at], any_size()) == NOSTRIMEL_DONE) {
@@ -140,6 +143,7 @@ static void crowds(void)
         while (turns++ < 600 && call(ALLOCATE, NOSTRIMEL_GROUPS, size) == NOSTRIMEL_DONE) {
         }
         call(LISTING, 0, 0);
+        call(HOLDINGS, NOSTRIMEL_GROUPS, 0);
         call(RESET, NOSTRIMEL_GROUPS, 0);
         call(TRIM, 0, 0);
         call(LISTING, 0, 0);

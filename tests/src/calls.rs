@@ -1,10 +1,11 @@
 //! The allocator's calls, through C. include/nostrimel.h says what each of them does.
 //!
 //! What only this file can see is looked at here: that a refused call writes no result but for a
-//! request's count, that a request writes that always, and a listing no byte behind its text. Who
-//! lends the words looks at those.
+//! request's count, that a request writes that always, a listing no byte behind its text, and the
+//! fetching of holdings no record beside the list. Who lends the words looks at those.
 
 use reference::calls::{Answer, Call, Refusal};
+use reference::holdings::{Holding, Holdings};
 
 extern "C" {
     fn nostrimel_init(meta: *mut u32, words: usize, pages: u32) -> u32;
@@ -33,6 +34,16 @@ extern "C" {
         capacity: usize,
         length: *mut usize,
     ) -> u32;
+    fn nostrimel_holdings(meta: *const u32, words: usize, list: *mut Record, count: usize) -> u32;
+}
+
+/// What a group holds, as it lies in C's memory: `struct nostrimel_holding`.
+#[repr(C)]
+#[derive(Clone, Copy, Debug, PartialEq, Eq)]
+pub struct Record {
+    pub blocks: u32,
+    pub held: u32,
+    pub greatest: u32,
 }
 
 /// Document 01's number of a refusal.
@@ -46,6 +57,16 @@ const BLANK: u8 = 0xa5;
 
 /// Bytes behind the ones lent for a listing.
 const BEHIND: usize = 16;
+
+/// What stands in a list of records before the call; no record is so.
+pub const UNFILLED: Record = Record {
+    blocks: UNWRITTEN,
+    held: UNWRITTEN,
+    greatest: UNWRITTEN,
+};
+
+/// Records before the ones lent for the holdings, and as many behind them.
+const BESIDE: usize = 3;
 
 pub fn init(words: &mut [u32], pages: u32) -> Result<(), Number> {
     // SAFETY: pointer and count are those of one slice, which nothing else reaches meanwhile.
@@ -141,6 +162,58 @@ pub fn listed(words: &mut [u32], capacity: usize) -> Result<String, Number> {
     Ok(String::from_utf8(text).expect("a listing is ASCII"))
 }
 
+/// Fills the list with what each group holds.
+pub fn holdings(words: &mut [u32], list: &mut [Record]) -> Result<(), Number> {
+    holdings_at(words.as_mut_ptr(), words.len(), list)
+}
+
+/// The same of words that need not be writable.
+pub fn holdings_of(words: &[u32], list: &mut [Record]) -> Result<(), Number> {
+    holdings_at(words.as_ptr(), words.len(), list)
+}
+
+fn holdings_at(meta: *const u32, words: usize, list: &mut [Record]) -> Result<(), Number> {
+    // SAFETY: as in `listing_at`.
+    let number = unsafe { nostrimel_holdings(meta, words, list.as_mut_ptr(), list.len()) };
+    done(number)
+}
+
+/// What a list of so many records is filled with; of a refused call all records stay, and those
+/// beside the list always do.
+pub fn fetched(words: &mut [u32], records: usize) -> Result<Holdings, Number> {
+    let mut list = vec![UNFILLED; BESIDE + records + BESIDE];
+    let (before, rest) = list.split_at_mut(BESIDE);
+    let (lent, behind) = rest.split_at_mut(records);
+    let answer = holdings(words, lent);
+    let refused: &[Record] = match answer {
+        Ok(()) => &[],
+        Err(_) => lent,
+    };
+    let mut kept = before.iter().chain(&*behind).chain(refused);
+    let all_stay = kept.all(|record| *record == UNFILLED);
+    assert!(all_stay, "records were written");
+    answer?;
+    let holdings = lent.iter().map(|record| Holding::from(*record));
+    let holdings: Vec<Holding> = holdings.collect();
+    let twelve = holdings.try_into();
+    Ok(twelve.expect("a list that is not of twelve records was filled"))
+}
+
+impl From<Record> for Holding {
+    fn from(record: Record) -> Holding {
+        let Record {
+            blocks,
+            held,
+            greatest,
+        } = record;
+        Holding {
+            blocks,
+            held,
+            greatest,
+        }
+    }
+}
+
 /// A call of any kind.
 pub fn serve(words: &mut [u32], call: Call) -> Answer {
     let answer = match call {
@@ -153,6 +226,7 @@ pub fn serve(words: &mut [u32], call: Call) -> Answer {
             query(words, offset).map(|(group, room)| Answer::Held { group, room })
         }
         Call::Listing { capacity } => listed(words, capacity).map(Answer::Listed),
+        Call::Holdings { records } => fetched(words, records).map(Answer::Fetched),
     };
     answer.unwrap_or_else(|number| Answer::Refused(refusal(number)))
 }

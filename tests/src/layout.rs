@@ -2,11 +2,15 @@
 //!
 //! | words | hold |
 //! |---|---|
-//! | 0, 1 | the magic number, N |
-//! | 2–3 | the empty list, front first: start page + 1 |
-//! | 4–35 | the class lists in class order, each front first: 1 + 256 × class + page |
-//! | 36–1,023 | zeros |
-//! | 1,024 + 520 × p | what starts at page p |
+//! | 0–11 | each group's live blocks, group 1 first |
+//! | 12–23 | each group's held bytes |
+//! | 24–35 | each group's greatest held bytes since the start |
+//! | 36–63 | zeros |
+//! | 64, 65 | the magic number, N |
+//! | 66–67 | the empty list, front first: start page + 1 |
+//! | 68–99 | the class lists in class order, each front first: 1 + 256 × class + page |
+//! | 100–1,087 | zeros |
+//! | 1,088 + 520 × p | what starts at page p |
 //!
 //! A free run is 1 and its pages; a direct block 2, its pages and its group. A zone has 64 words
 //! and then 4,096 slots. The words are 3, the class, k and the chain's length. The lower half of a
@@ -27,16 +31,28 @@ pub use encode::encode;
 use reference::state::Page;
 use std::ops::Range;
 
-/// Word 0.
+/// The places of the groups' live blocks.
+pub const BLOCKS: Range<usize> = 0..12;
+/// The places of the groups' held bytes.
+pub const HELD: Range<usize> = 12..24;
+/// The places of the groups' greatest held bytes.
+pub const GREATEST: Range<usize> = 24..36;
+/// The words of the groups' figures, with the zeros behind them.
+pub const FIGURE_WORDS: usize = 64;
+/// The place of the magic number.
+pub const MAGIC_AT: usize = 64;
+/// The magic number.
 pub const MAGIC: u32 = 1_313_821_524;
+/// The place of N.
+pub const PAGES_AT: usize = 65;
+/// The places of the empty list.
+pub const EMPTY_LIST: Range<usize> = 66..68;
+/// The places of all class lists together.
+pub const CLASS_LISTS: Range<usize> = 68..100;
 /// Words before those of the pages.
-pub const HEADER_WORDS: usize = 1_024;
+pub const FIXED_WORDS: usize = 1_088;
 /// Words of one page.
 pub const PAGE_WORDS: usize = 520;
-/// The places of the empty list.
-pub const EMPTY_LIST: Range<usize> = 2..4;
-/// The places of all class lists together.
-pub const CLASS_LISTS: Range<usize> = 4..36;
 /// An entry of a class's list is one more than the page and this many times the class.
 pub const CLASS_STRIDE: u32 = 256;
 /// The first word of a free run.
@@ -58,7 +74,7 @@ pub const ENTRY_SHIFT: u32 = 16;
 
 /// How many words the encoding of an arena has.
 pub fn used_words(pages: u32) -> usize {
-    HEADER_WORDS + PAGE_WORDS * pages as usize
+    FIXED_WORDS + PAGE_WORDS * pages as usize
 }
 
 /// The first word of what starts at a page.

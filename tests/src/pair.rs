@@ -8,6 +8,7 @@ use crate::calls::{self, Number, Requested};
 use crate::layout::{decode, encode, used_words};
 use reference::calls::{Allocator, Answer, Call};
 use reference::histories::Xorshift;
+use reference::holdings::Holdings;
 use reference::listing::LONGEST;
 use reference::state::State;
 
@@ -158,6 +159,14 @@ impl Pair {
         self.listing(LONGEST).expect("a listing")
     }
 
+    /// What a list of so many records is filled with.
+    pub fn holdings(&mut self, records: usize) -> Result<Holdings, Number> {
+        match self.served(Call::Holdings { records })? {
+            Answer::Fetched(holdings) => Ok(holdings),
+            other => panic!("{other:?}"),
+        }
+    }
+
     fn counted(&mut self, call: Call) -> Result<u32, Number> {
         match self.served(call)? {
             Answer::Counted(count) => Ok(count),
@@ -181,7 +190,7 @@ impl Pair {
     }
 }
 
-/// So many words, the same for the same seed. The first is never that of an encoding.
+/// So many words, the same for the same seed. All are odd, so none of them is the magic number.
 pub fn noise(count: usize, seed: u64) -> Vec<u32> {
     let mut random = Xorshift::new(seed);
     (0..count).map(|_| random.draw() as u32 | 1).collect()

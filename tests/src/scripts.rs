@@ -52,7 +52,7 @@ impl Script {
     }
 
     fn call(&mut self, call: Call) {
-        self.lines(line_of(&call).as_bytes());
+        self.lines(&bytes_of(&call));
     }
 
     /// Lines that are calls or not, the last of them without its LF, which is added.
@@ -98,7 +98,7 @@ pub fn script(profile: Profile, seed: u64, lines: u32) -> Vec<u8> {
             },
             _ => script.history.next_call(),
         };
-        let line = line_of(&call).into_bytes();
+        let line = bytes_of(&call);
         let line = match script.random.below(8) {
             0 => damaged(line, &mut script.random),
             _ => line,
@@ -115,6 +115,12 @@ pub fn script(profile: Profile, seed: u64, lines: u32) -> Vec<u8> {
         script.bytes.pop();
     }
     script.bytes
+}
+
+/// The line of a call, without its LF.
+fn bytes_of(call: &Call) -> Vec<u8> {
+    let line = line_of(call).expect("a history's calls have lines");
+    line.into_bytes()
 }
 
 /// The line with something about it changed, mostly so that it is no call.

@@ -4,7 +4,8 @@
 use crate::zones::{any_class, any_group, any_zone, shuffle};
 use reference::calls::Allocator;
 use reference::histories::{History, Xorshift};
-use reference::sizes::{words_needed, ZONE_PAGES};
+use reference::holdings::Holdings;
+use reference::sizes::{words_needed, PAGE_BYTES, ZONE_PAGES};
 use reference::state::{no_lists, DirectBlock, Page, Run, State, Zone};
 use std::collections::{BTreeMap, VecDeque};
 
@@ -27,13 +28,22 @@ pub fn reached(pages: u32, calls: u32, seed: u64) -> State {
 }
 
 /// A state drawn by the conditions alone: direct blocks of one page, zones with k = 0, several
-/// zones without a live chunk on a list, and lists in any order are all likely.
+/// zones without a live chunk on a list, lists in any order, and greatest figures that are anything
+/// from the held bytes to those of the arena are all likely.
 pub fn odd(pages: u32, seed: u64) -> State {
     let mut random = Xorshift::new(seed);
     let mut state = Plan::draw(pages, &mut random).assemble();
     let lists = state.lists.iter_mut().chain(Some(&mut state.empty));
     for list in lists {
         shuffle(list.make_contiguous(), &mut random);
+    }
+    let arena = pages * PAGE_BYTES;
+    for holding in &mut state.holdings {
+        holding.greatest += match random.below(4) {
+            0 => 0,
+            1 => arena - holding.held,
+            _ => random.below(arena - holding.held + 1),
+        };
     }
     state
 }
@@ -90,7 +100,7 @@ impl Plan {
         self.zone(zone)
     }
 
-    /// The state, with each class's list in ascending order.
+    /// The state, with each class's list in ascending order. Nobody has held more than now.
     pub fn assemble(self) -> State {
         let mut lists = no_lists();
         for (start, zone) in &self.zones {
@@ -105,7 +115,8 @@ impl Plan {
             zones,
             empty,
         } = self;
-        State::from_parts(pages, runs, direct, zones, lists, empty)
+        let holdings = Holdings::default();
+        State::from_parts(pages, runs, direct, zones, lists, empty, holdings).recounted()
     }
 
     /// The page at which the next of so many pages starts.

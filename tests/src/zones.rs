@@ -55,6 +55,15 @@ pub fn zone_with(class: u32, is_live: &[bool]) -> Zone {
     zone
 }
 
+/// The zone with its live chunks given to all groups in turn, group 1 first.
+pub fn by_turns(mut zone: Zone) -> Zone {
+    let groups = (1..=GROUPS as Group).cycle();
+    for (owner, group) in zone.owners.iter_mut().flatten().zip(groups) {
+        *owner = group;
+    }
+    zone
+}
+
 /// Puts values in any order, each as likely as another.
 pub fn shuffle<T>(values: &mut [T], random: &mut Xorshift) {
     for last in (1..values.len()).rev() {

@@ -7,28 +7,30 @@
 use reference::calls::{Answer, Call};
 use reference::histories::Xorshift;
 use reference::listing::LONGEST;
-use tests::layout::{used_words, MAGIC};
+use tests::layout::{used_words, MAGIC, MAGIC_AT, PAGES_AT};
 use tests::pair::{noise, Pair};
 
 /// Around each number of words that an encoding's part has, and those of a few arenas.
 fn lengths() -> Vec<usize> {
     let around = [
-        1, 2, 4, 36, 1_024, 1_544, 2_064, 13_504, 17_664, 133_624, 134_144,
+        1, 36, 64, 66, 68, 100, 1_088, 1_608, 2_128, 13_568, 17_728, 133_688, 134_208,
     ];
     let mut lengths: Vec<usize> = around
         .into_iter()
         .flat_map(|middle| [middle - 1, middle, middle + 1])
         .collect();
-    lengths.push(134_144 + 10_000);
+    lengths.push(134_208 + 10_000);
     lengths.sort_unstable();
     lengths.dedup();
     lengths
 }
 
-/// These words with a right beginning for so many pages.
+/// These words with the magic number and so many pages, as far as there are words enough.
 fn begun(mut words: Vec<u32>, pages: u32) -> Vec<u32> {
-    for (word, value) in words.iter_mut().zip([MAGIC, pages]) {
-        *word = value;
+    for (at, value) in [(MAGIC_AT, MAGIC), (PAGES_AT, pages)] {
+        if let Some(word) = words.get_mut(at) {
+            *word = value;
+        }
     }
     words
 }
@@ -39,6 +41,7 @@ fn calls(random: &mut Xorshift) -> Vec<Call> {
     let offset = random.pick(&[0, 8, 4_096, 32_768, 1_048_575, u32::MAX]);
     let size = random.pick(&[0, 1, 8_191, 8_192, 1_048_576, 1_048_577]);
     let capacity = random.pick(&[0, 1, 29, LONGEST]);
+    let records = random.pick(&[0, 1, 11, 13, 24]);
     vec![
         Call::Allocate {
             group: 1,
@@ -55,6 +58,8 @@ fn calls(random: &mut Xorshift) -> Vec<Call> {
         Call::Trim,
         Call::Query { offset },
         Call::Listing { capacity },
+        Call::Holdings { records: 12 },
+        Call::Holdings { records },
     ]
 }
 
@@ -107,9 +112,9 @@ fn random_words() {
     }
 }
 
-/// The first two words are right, and nothing else is.
+/// The magic number and N are right, and nothing else is.
 #[test]
-fn random_words_behind_a_right_beginning() {
+fn random_words_around_a_right_beginning() {
     let mut random = Xorshift::new(4);
     for length in lengths() {
         for pages in [0, 1, 2, 24, 32, 255, 256, 257, u32::MAX] {
@@ -122,7 +127,7 @@ fn random_words_behind_a_right_beginning() {
 /// Small numbers, which are likely to mean something where they stand: 3 starts a zone, 1 to 12 are
 /// groups, 13 to 15 returned chunks.
 #[test]
-fn random_small_words_behind_a_right_beginning() {
+fn random_small_words_around_a_right_beginning() {
     let mut random = Xorshift::new(5);
     for length in lengths() {
         for pages in [1, 8, 24, 32, 255, 256] {
@@ -134,7 +139,7 @@ fn random_small_words_behind_a_right_beginning() {
 
 /// All zero but for the beginning: no segment stands in the pages.
 #[test]
-fn zeros_behind_a_right_beginning() {
+fn zeros_around_a_right_beginning() {
     let mut random = Xorshift::new(6);
     for length in lengths() {
         for pages in 0..=257 {

@@ -27,7 +27,7 @@ fn words_after_the_calls() -> Vec<u32> {
 
 #[test]
 fn the_table_holds_every_word_that_is_not_zero() {
-    let told: Vec<(usize, u32)> = block("word     0  1")
+    let told: Vec<(usize, u32)> = block("word     3 ")
         .into_iter()
         .map(|line| {
             let mut fields = line.split_whitespace().skip(1);

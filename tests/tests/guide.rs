@@ -1,9 +1,10 @@
 //! docs/GUIDE.md and docs/TEACHER.md: their calls are made in the order in which they stand there, on the second program and
-//! on the bench program, and their answers, drawings, counts of runs and tables of sizes are the ones that come. What the guide
-//! says of counts, the example in C prints.
+//! on the bench program, and their answers, drawings, counts of runs, holdings and tables of sizes are the ones that come. What the
+//! guide says of counts and of holdings, the examples in C print; and what it shows of C, they have.
 
 use reference::bench::{Bench, WORDS};
 use reference::calls::Call;
+use reference::holdings::Holding;
 use reference::lines::{parse, render};
 use reference::sizes::{chunk_count, chunk_size, need, Need, PAGE_BYTES, ZONE_PAGES};
 use reference::state::{Page, State};
@@ -13,12 +14,17 @@ use tests::program::answers;
 const GUIDE: &str = include_str!("../../docs/GUIDE.md");
 const TEACHER: &str = include_str!("../../docs/TEACHER.md");
 const TIMING: &str = include_str!("../../examples/timing.out");
+const HOLDINGS: &str = include_str!("../../examples/holdings.out");
+const HOLDINGS_IN_C: &str = include_str!("../../examples/holdings.c");
 
 /// What stands before a line that is typed.
 const TYPED: &str = "> ";
 
 /// What stands above requests with their counts.
 const COUNTS: &str = "group  bytes  answer    runs looked at";
+
+/// What stands above the groups with what they hold.
+const RECORDS: &str = "group  blocks  held bytes  greatest";
 
 /// A fenced block: what is said behind its fence, and its lines.
 struct Block {
@@ -41,13 +47,13 @@ fn blocks(document: &'static str) -> Vec<Block> {
 #[test]
 fn every_answer_and_every_drawing_of_the_guide() {
     let (sessions, drawings) = hold(GUIDE);
-    assert!(sessions >= 28 && drawings >= 26, "{sessions}, {drawings}");
+    assert!(sessions >= 32 && drawings >= 30, "{sessions}, {drawings}");
 }
 
 #[test]
 fn every_answer_and_every_drawing_for_the_teacher() {
     let (sessions, drawings) = hold(TEACHER);
-    assert!(sessions >= 9 && drawings >= 3, "{sessions}, {drawings}");
+    assert!(sessions >= 11 && drawings >= 5, "{sessions}, {drawings}");
 }
 
 /// Every block of a document is what comes; how many sessions and drawings there were. A session is the bench program's, on from where
@@ -75,6 +81,8 @@ fn hold(document: &'static str) -> (usize, usize) {
                 drawings += 1;
                 format!("{COUNTS}\n{}", requests.join("\n"))
             }
+            // Held to the example by a test of its own.
+            ("c", _) => continue,
             (kind, of) => {
                 drawings += 1;
                 let state = bench.allocator().state().expect("a start was made");
@@ -82,6 +90,7 @@ fn hold(document: &'static str) -> (usize, usize) {
                     "arena" => arena(state),
                     "zone" => zone(state, of.parse().expect("a page")),
                     "lists" => lists(state),
+                    "holdings" => holdings(state, of.parse().expect("a number of groups")),
                     _ => panic!("a block of no kind: {kind:?}"),
                 }
             }
@@ -137,6 +146,40 @@ fn the_example_in_c_prints_the_counts_of_the_guide() {
     let printed = lines.filter(|line| *line == COUNTS || line.starts_with(' '));
     assert_eq!(told, printed.collect::<Vec<&str>>());
     assert!(told.len() >= 12, "{} lines", told.len());
+}
+
+/// The same tables in the same order; the example's have all groups, and those that the guide leaves out have zeros.
+#[test]
+fn the_example_in_c_prints_the_holdings_of_the_guide() {
+    let lines: Vec<&str> = HOLDINGS.lines().collect();
+    let mut tables = lines.split(|line| *line == RECORDS).skip(1);
+    let mut told = 0;
+    for block in blocks(GUIDE) {
+        if !block.kind.starts_with("holdings") {
+            continue;
+        }
+        let rows = tables.next().expect("a table for each of the guide's");
+        let (shown, others) = rows[..12].split_at(block.lines.len() - 1);
+        assert_eq!(block.lines[0], RECORDS);
+        assert_eq!(block.lines[1..], *shown);
+        assert!(others.iter().all(|row| row.ends_with(NOTHING)));
+        told += 1;
+    }
+    assert!(told >= 3, "{told} tables");
+}
+
+/// What the guide shows of C stands in the example, line by line.
+#[test]
+fn the_example_in_c_has_what_the_guide_shows() {
+    let shown = blocks(GUIDE)
+        .into_iter()
+        .filter(|block| block.kind == "c")
+        .map(|block| block.lines.join("\n"));
+    let shown: Vec<String> = shown.collect();
+    assert!(!shown.is_empty());
+    for part in shown {
+        assert!(HOLDINGS_IN_C.contains(&part), "not in the example:\n{part}");
+    }
 }
 
 #[test]
@@ -287,6 +330,25 @@ fn zone(state: &State, start: Page) -> String {
         "zone at page {start}: class {class}, {chunks} chunks of {room} bytes, k = {k}\n\
          chunk{numbers}{rest}\n     {owners}{untouched}\nchain: {chain}"
     )
+}
+
+/// The row of a group that holds nothing and never has, but for its number.
+const NOTHING: &str = "       0           0         0";
+
+/// What the first so many groups hold; the others are to hold nothing, and never to have.
+fn holdings(state: &State, groups: usize) -> String {
+    let row = |(group, holding): (usize, &Holding)| {
+        let Holding {
+            blocks,
+            held,
+            greatest,
+        } = holding;
+        format!("\n{:>5}{blocks:>8}{held:>12}{greatest:>10}", group + 1)
+    };
+    let rows: Vec<String> = state.holdings.iter().enumerate().map(row).collect();
+    let (shown, others) = rows.split_at(groups);
+    assert!(others.iter().all(|row| row.ends_with(NOTHING)));
+    format!("{RECORDS}{}", shown.concat())
 }
 
 /// The lists that have a zone, and the empty list.

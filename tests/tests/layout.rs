@@ -133,11 +133,11 @@ fn a_damaged_word_makes_no_state_or_the_state_of_those_words() {
     assert!(none > 100_000 && some > 10_000, "{none} and {some}");
 }
 
-/// Words that are zero but for these.
+/// Words that are zero but for the magic number, N, and these.
 fn words_with(pages: u32, written: &[(usize, u32)]) -> Vec<u32> {
     let mut words = vec![0; used_words(pages)];
-    words[0] = MAGIC;
-    words[1] = pages;
+    words[64] = MAGIC;
+    words[65] = pages;
     for &(at, word) in written {
         words[at] = word;
     }
@@ -149,42 +149,86 @@ fn words_with(pages: u32, written: &[(usize, u32)]) -> Vec<u32> {
 fn encodings_written_by_hand() {
     assert_eq!(
         encode(&State::fresh(1)),
-        words_with(1, &[(1_024, 1), (1_025, 1)])
+        words_with(1, &[(1_088, 1), (1_089, 1)])
     );
     assert_eq!(
         encode(&State::fresh(256)),
-        words_with(256, &[(1_024, 1), (1_025, 256)])
+        words_with(256, &[(1_088, 1), (1_089, 256)])
     );
 
     // A block of pages 0 and 1, a free page, a block of page 3.
     let state = Plan::new().direct(2, 12).run(1).direct(1, 7).assemble();
-    let block = [(1_024, 2), (1_025, 2), (1_026, 12)];
-    let rest = [(2_064, 1), (2_065, 1), (2_584, 2), (2_585, 1), (2_586, 7)];
-    assert_eq!(encode(&state), words_with(4, &[&block[..], &rest].concat()));
+    let figures = [
+        (6, 1),
+        (11, 1),
+        (18, 4_096),
+        (23, 8_192),
+        (30, 4_096),
+        (35, 8_192),
+    ];
+    let block = [(1_088, 2), (1_089, 2), (1_090, 12)];
+    let rest = [(2_128, 1), (2_129, 1), (2_648, 2), (2_649, 1), (2_650, 7)];
+    let written = [&figures[..], &block, &rest].concat();
+    assert_eq!(encode(&state), words_with(4, &written));
+    assert_eq!(decode(&words_with(4, &written)), Some(state));
 
     // Three zones: at page 0 chunks 0 and 2 returned in this order and chunk 1 live; at page 8 one
     // as set-up leaves it, on the empty list; at page 16 a full one.
-    let state = Plan::new()
+    let mut state = Plan::new()
         .zone(zone_with(63, &[false, true, false]))
         .empty_zone(Zone::set_up(0))
         .zone(zone_with(63, &[true; 4]))
         .assemble();
-    let header = [(2, 9), (4, 1 + 256 * 63)];
+    // Group 1 holds five chunks and has held seven; group 2 has once held the whole arena.
+    state.holdings[0].greatest = 57_344;
+    state.holdings[1].greatest = 98_304;
+    let figures = [(0, 5), (12, 40_960), (24, 57_344), (25, 98_304)];
+    let header = [(66, 9), (68, 1 + 256 * 63)];
     // Chunk 0 is at position 0 of the chain and chunk 2 at position 1.
-    let first = [(1_024, 3), (1_025, 63), (1_026, 3), (1_027, 2)];
-    let slots = [(1_088, 13), (1_089, 1 + 65_536 * 2), (1_090, 13 + 1)];
-    let second = [(5_184, 3)];
-    let third = [(9_344, 3), (9_345, 63), (9_346, 4)];
-    let live = [(9_408, 1), (9_409, 1), (9_410, 1), (9_411, 1)];
-    let written = [&header[..], &first, &slots, &second, &third, &live].concat();
+    let first = [(1_088, 3), (1_089, 63), (1_090, 3), (1_091, 2)];
+    let slots = [(1_152, 13), (1_153, 1 + 65_536 * 2), (1_154, 13 + 1)];
+    let second = [(5_248, 3)];
+    let third = [(9_408, 3), (9_409, 63), (9_410, 4)];
+    let live = [(9_472, 1), (9_473, 1), (9_474, 1), (9_475, 1)];
+    let written = [
+        &figures[..],
+        &header,
+        &first,
+        &slots,
+        &second,
+        &third,
+        &live,
+    ]
+    .concat();
     assert_eq!(encode(&state), words_with(24, &written));
     assert_eq!(decode(&words_with(24, &written)), Some(state));
+}
+
+/// A figure that disagrees, and one behind them that is not zero.
+#[test]
+fn figures_that_disagree_are_no_state() {
+    let state = Plan::new().direct(2, 12).run(1).assemble();
+    let words = encode(&state);
+    assert_eq!(decode(&words), Some(state));
+    for (at, legal) in [(11, 1..=1), (23, 8_192..=8_192), (35, 8_192..=12_288)] {
+        for value in (0..20_000).chain([u32::MAX]) {
+            let mut changed = words.clone();
+            changed[at] = value;
+            let found = decode(&changed);
+            assert_eq!(found.is_some(), legal.contains(&value), "{at}: {value}");
+        }
+    }
+    for at in 36..64 {
+        let mut changed = words.clone();
+        changed[at] = 1;
+        assert_eq!(decode(&changed), None, "{at}");
+    }
 }
 
 /// What a state is odd in, by name.
 type Oddity = (&'static str, fn(&State) -> bool);
 
-const ODDITIES: [Oddity; 7] = [
+const ODDITIES: [Oddity; 9] = [
     ("a direct block of one page", |state| {
         state.direct.values().any(|block| block.pages == 1)
     }),
@@ -202,6 +246,14 @@ const ODDITIES: [Oddity; 7] = [
         let idle = |start: &&u32| state.zones[*start].is_idle();
         let mut lists = state.lists.iter();
         lists.any(|list| list.iter().filter(idle).count() > 1)
+    }),
+    ("a group that has held more", |state| {
+        let mut holdings = state.holdings.iter();
+        holdings.any(|holding| holding.greatest > holding.held)
+    }),
+    ("a group that has held the whole arena", |state| {
+        let mut holdings = state.holdings.iter();
+        holdings.any(|holding| holding.greatest == state.pages * 4_096)
     }),
     ("a list that descends", |state| {
         let mut lists = state.lists.iter();

@@ -16,7 +16,7 @@ const SCRIPTS: [&str; 4] = [
 ];
 
 /// Each layout's number, and the sum of the words that it has.
-const LAYOUTS: [(u32, u64); 1] = [(1, 0x81e3_29ed_bdc4_4bd3)];
+const LAYOUTS: [(u32, u64); 2] = [(1, 0x81e3_29ed_bdc4_4bd3), (2, 0x35b2_5339_3f48_702b)];
 
 /// The number that the header names.
 fn number() -> u32 {

@@ -11,7 +11,7 @@ use Rattle.model.specs.Numbers.{pageBytes, largeSize, mostBytes, mostPages}
 use Rattle.model.specs.declared.Answer.{Answer}
 use Rattle.model.specs.declared.Answer.the-variants.{Granted, Denied}
 use Rattle.model.specs.declared.Refusal.the-variants.{BadGroup, BadSize, NoRoom}
-use Rattle.model.specs.Sizes.{classOf, pagesFor}
+use Rattle.model.specs.Sizes.{classOf, room, pagesFor, roomFor}
 use Rattle.model.specs.Arena.{direct}
 use Rattle.model.specs.State.{State, listOf}
 use Rattle.model.specs.Calls.{Outcome, denies, groupOk, sizeOk}
@@ -49,6 +49,13 @@ module _ (s : State) (g n : ℕ) where
 
   pub large : largeSize ≤ n → wholePages (pagesFor n) g s ≡ supplied g n s
   large h = rw (le-ltb n largeSize h)
+
+-- The room of a request.
+pub small-room : (n : ℕ) → n < largeSize → room (classOf n) ≡ roomFor n
+small-room n h = rw (lt-ltb n largeSize h)
+
+pub large-room : (n : ℕ) → largeSize ≤ n → pagesFor n * pageBytes ≡ roomFor n
+large-room n h = rw (le-ltb n largeSize h)
 
 -- Whole pages.
 module _ {w : List ℕ} {n need : ℕ} (h : Good w n) (pos : 0 < need) (g : ℕ) where

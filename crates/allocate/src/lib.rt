@@ -4,6 +4,7 @@ ghost use mathlib.Core.Path.{_≡_};
 ghost use Prim.Native.Nat.{_≤_, _<_};
 ghost use Rattle.model.specs.State.{listOf};
 ghost use Rattle.model.specs.declared.Answer.the-variants.{Granted};
+ghost use Rattle.model.specs.Sizes.{roomFor};
 ghost use Rattle.model.specs.Calls.{sizeOk};
 ghost use Rattle.model.specs.Pages.{claim};
 ghost use Rattle.model.specs.Allocate.{sought, wholePages, chunkFrom, supplied, allocate as allocated};
@@ -177,6 +178,17 @@ fn supply(words: &mut [u32], n: usize, group: u32, size: u32) -> Answer
     }
     let need = (size + (PAGE_BYTES - 1)) / PAGE_BYTES;
     supply_pages(words, n, group, need as usize)
+}
+
+// The bytes that a request of this size is given.
+pub fn room_for(size: u32) -> u32
+    requires { ⌜ (0 < size) × (size ≤ mostBytes) ⌝ }
+    ensures { λ r. ⌜ r ≡ roomFor size ⌝ }
+{
+    if size < LARGE_SIZE {
+        return zone::sizes::room(zone::sizes::class_of_size(size));
+    }
+    (size + (PAGE_BYTES - 1)) / PAGE_BYTES * PAGE_BYTES
 }
 
 // Whether the size may be asked for.

@@ -8,9 +8,8 @@ use native.Mathlib.Omega.{arith}
 use lib.ListN.{length}
 use Rattle.model.specs.State.{State}
 use Rattle.model.specs.Calls.{act, listing, isRefused}
-use Rattle.metadata.specs.Decoding.{stateOf}
 use Rattle.uplink.specs.declared.Line.{Line}
-use Rattle.slab.specs.Calls.{answerOf}
+use Rattle.slab.specs.Calls.{stateOf, answerOf}
 use Rattle.slab.proofs.Promises as slab
 use Rattle.slab.proofs.Promises.{longest-few}
 use Rattle.desk.specs.Session.{wordsAfterAll}

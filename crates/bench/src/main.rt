@@ -5,7 +5,7 @@ ghost use mathlib.Core.Bool.{false};
 ghost use Prim.Native.Nat.{_≤_};
 ghost use lib.ListN.{length};
 ghost use Rattle.lemmas.specs.Zeros.{zeros};
-ghost use Rattle.metadata.specs.Decoding.{isState};
+ghost use Rattle.account.specs.Decoding.{isAccount};
 ghost use Rattle.uplink.specs.Fragments.{Sound, held};
 ghost use Rattle.bench.specs.Fragments.{ServedAll};
 ghost use Rattle.bench.specs.Numbers.{benchWords, replyRoom};
@@ -15,7 +15,7 @@ use libc::STDOUT_FILENO;
 use uplink::Reader;
 
 // The words of the program, enough for 24 pages, and the room for one reply (specs/Numbers.antt).
-const WORDS: usize = 13504;
+const WORDS: usize = 13568;
 
 const REPLY: usize = 207;
 
@@ -29,7 +29,7 @@ struct Served {
 fn fresh_words() -> [u32; WORDS]
     ensures { λ r. ⌜ benchWords ≡ length r ⌝ }
     ensures { λ r. ⌜ r ≡ zeros benchWords ⌝ }
-    ensures { λ r. ⌜ isState r ≡ false ⌝ }
+    ensures { λ r. ⌜ isAccount r ≡ false ⌝ }
 {
     [0; WORDS]
 }

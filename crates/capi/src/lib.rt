@@ -1,4 +1,4 @@
-// The library for C. Each function answers 0 or document 01's number of the refusal, and writes the answer's values, if it has any,
+// The library for C. Each function answers 0 or the papers' number of the refusal, and writes the answer's values, if it has any,
 // through the pointers lent for them. include/nostrimel.h says what a caller must keep.
 ghost use mathlib.Core.Path.{_≡_};
 ghost use mathlib.Core.Bool.{true, false, cond};
@@ -7,10 +7,11 @@ ghost use lib.ListN.{length};
 ghost use Rattle.model.specs.Calls as rules;
 ghost use Rattle.model.specs.Calls.{reading, lookedOf};
 ghost use Rattle.model.specs.declared.Operation.the-variants as operation;
-ghost use Rattle.slab.specs.Calls.{answerOf, metaAfter, textAfter};
+ghost use Rattle.slab.specs.Calls.{answerOf, metaAfter, textAfter, listAfter};
 ghost use Rattle.capi.specs.Values.{firstOr, secondOr, toldOf};
 use model::Answer;
 use model::Call;
+use model::Holding;
 use model::Operation;
 
 // An answer as C is told it: the refusal's number, 0 for none, and the first and the second value, where there are such.
@@ -227,4 +228,13 @@ pub extern "C" fn nostrimel_listing(meta: &mut [u32], text: &mut [u8], used: &mu
     ensures { λ _. ⌜ now (used .exit) ≡ firstOr (now (used .entry)) (reading (answerOf (now (meta .entry)) (rules.act (rules.listing (length (now (text .entry)))))) .values) ⌝ }
 {
     tell_length(slab::listing(meta, text), used)
+}
+
+// The list is a slice of structs, which the borrow checker does not cover: the proof is by hand.
+#[no_mangle]
+pub extern "C" fn nostrimel_holdings(meta: &[u32], list: &mut [Holding]) -> u32
+    ensures { λ r. ⌜ r ≡ reading (answerOf (now (meta .entry)) (rules.act (rules.holdings (length (now (list .entry)))))) .refusal ⌝ }
+    ensures { λ _. ⌜ now (list .exit) ≡ listAfter (now (meta .entry)) (now (list .entry)) ⌝ }
+{
+    refusal_of(slab::holdings(meta, list))
 }

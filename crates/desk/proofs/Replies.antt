@@ -4,6 +4,7 @@ use Prim.Native.Nat.{ℕ, _+_, _≤_}
 use mathlib.Core.Path.{_≡_, refl, sym, ap, _∙_, subst}
 use mathlib.Core.Bool.{Bool, true, false, cond}
 use mathlib.Core.List.{List, _++_}
+use mathlib.Core.Option.{Option, Option·map}
 use native.Mathlib.Omega.{arith}
 use lib.Dec.{leb}
 use lib.ListN.{length, drop}
@@ -16,17 +17,18 @@ use Rattle.model.specs.declared.Answer.{Answer}
 use Rattle.model.specs.declared.Answer.the-variants.{Refused, Counted}
 use Rattle.model.specs.State.{State}
 use Rattle.model.specs.PageMap.{pageMap}
+use Rattle.model.specs.Holdings.{Account}
 use Rattle.model.specs.Ascii.{ascii}
 use Rattle.model.specs.Calls.{Command, init, act, group, trim, query, listing, isRefused, answers, provided}
 use Rattle.model.specs.Listing.{listingText}
-use Rattle.model.specs.Perform.{onState}
+use Rattle.model.specs.Perform.{onAccount}
 use Rattle.text.specs.Writing.{Wrote}
 use Rattle.listing.proofs.Into.{sets-front}
 use Rattle.uplink.specs.declared.Line.{Line}
 use Rattle.uplink.specs.declared.Line.the-variants.{Init, Group, Trim, Query, Listing, Bad}
 use Rattle.uplink.specs.Answers.{answerText, badText, answerRoom}
 use Rattle.slab.specs.Calls.{viewOf, answerOf, metaAfter, listedOf, textAfter}
-use Rattle.slab.proofs.Words.{by-state}
+use Rattle.slab.proofs.Words.{by-account}
 use Rattle.slab.proofs.Promises.{listing-unchanged}
 use Rattle.desk.specs.Replies.{listingOf, replyTo, wordsAfter, Replied}
 
@@ -106,9 +108,10 @@ listing-listed : (w b : List ℕ) → Listed b (answerOf w (act (listing (length
 unfolding answerOf textAfter replyTo
 listing-listed w b =
     let n = length b in
-    by-state (λ x. Listed b ((onState (viewOf w) (listing n) x) .answer) (listedOf x b) (cond (isRefused ((onState (viewOf w) (listing n) x) .answer)) (answerText ((onState (viewOf w) (listing n) x) .answer)) (listingOf x))) w
+    let said : Option Account → Answer = λ y. (onAccount (viewOf w) (listing n) y) .answer in
+    by-account (λ y. Listed b (said y) (listedOf y b) (cond (isRefused (said y)) (answerText (said y)) (listingOf (Option·map (λ a. a .state) y)))) w
     (λ _. refused refl refl refl)
-    (λ s _ _. listed-by b s (listingText (pageMap s)) (leb (length (listingText (pageMap s))) n) refl)
+    (λ x _ _. let t = listingText (pageMap (x .state)) in listed-by b (x .state) t (leb (length t) n) refl)
 
 module _ (w b : List ℕ) {a : Answer} {v : List ℕ} (h : (a ≡ answerOf w (act (listing (length b)))) × (v ≡ textAfter w b)) where
   called-listed : Listed b a v (replyTo w (length b) Listing)

@@ -12,14 +12,13 @@ use Rattle.model.specs.State.{State}
 use Rattle.model.specs.PageMap.{pageMap}
 use Rattle.model.specs.Calls.{Command, isRefused, init, act, group, trim, query, listing}
 use Rattle.model.specs.Listing.{listingText}
-use Rattle.metadata.specs.Decoding.{stateOf}
 use Rattle.uplink.specs.declared.Line.{Line}
 use Rattle.uplink.specs.declared.Line.the-variants.{Init, Group, Trim, Query, Listing, Bad}
 use Rattle.uplink.specs.declared.Got.{Got}
 use Rattle.uplink.specs.declared.Got.the-variants.{Whole, More}
 use Rattle.uplink.specs.Answers.{answerText, badText, answerRoom}
 use Rattle.uplink.specs.Fragments.{Held, Sound, held, stepFrom}
-use Rattle.slab.specs.Calls.{answerOf, metaAfter}
+use Rattle.slab.specs.Calls.{stateOf, answerOf, metaAfter}
 use Rattle.desk.specs.declared.Turn.{Turn}
 
 -- ---- one line

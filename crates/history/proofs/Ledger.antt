@@ -11,6 +11,7 @@ use lib.ListN.{length}
 use borrow.Author.Tests.{eqb-true, eqb-false, eq-eqb, ne-eqb}
 use Rattle.lemmas.specs.Keep.{keep}
 use Rattle.lemmas.proofs.Cases.{bool, some-inj, none-some}
+use Rattle.model.specs.Numbers.{mostGroup}
 use Rattle.model.specs.declared.Operation.{Operation}
 use Rattle.model.specs.declared.Operation.the-variants.{Allocate, Free, Reset}
 use Rattle.model.specs.Sizes.{roomFor}
@@ -18,7 +19,7 @@ use Rattle.model.specs.Arena.{total}
 use Rattle.model.specs.State.{State}
 use Rattle.model.specs.PageMap.{PageMap, pageMap, Block, groupOf, roomOf, blockAt}
 use Rattle.model.specs.Valid.{Valid}
-use Rattle.model.specs.Calls.{Action, group, trim, query, listing, Outcome, grantOf, groupOk}
+use Rattle.model.specs.Calls.{Action, group, trim, query, listing, holdings, Outcome, grantOf, groupOk}
 use Rattle.model.specs.Free.{freeBlock, free, reset}
 use Rattle.model.specs.Trim.{trimmed}
 use Rattle.model.specs.Listing.{listingText}
@@ -231,3 +232,4 @@ module _ (n : ℕ) (s : State) (l : List Entry) (v : Valid s) (agree : (o : ℕ)
   after-action trim = after-trim
   after-action (query o) = unchanged nothing s refl refl
   after-action (listing k) = bool (leb (length (listingText (pageMap s))) k) (λ t. rw t (unchanged nothing s refl refl)) (λ t. rw t (unchanged nothing s refl refl))
+  after-action (holdings k) = bool (eqb k mostGroup) (λ t. rw t (unchanged nothing s refl refl)) (λ t. rw t (unchanged nothing s refl refl))

@@ -3,6 +3,7 @@ pub mod Neat
 pub mod Sequence
 pub mod Ledger
 pub mod Growth
+pub mod Summed
 pub mod Theorem
 pub mod Model
 pub mod Second

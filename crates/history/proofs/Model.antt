@@ -34,7 +34,7 @@ abbrev ask : ℕ → Operation → Command
 ask = asks Metadata self leaves says
 
 pub at-split : History Metadata self leaves says
-at-split = afterAll Metadata self leaves says (begun Metadata self leaves says (record { words = 13504; state = none }) 24) (ask 1 (Allocate 100) ∷ [])
+at-split = afterAll Metadata self leaves says (begun Metadata self leaves says (record { words = 13568; account = none }) 24) (ask 1 (Allocate 100) ∷ [])
 
 pub at-end : History Metadata self leaves says
 at-end = afterAll Metadata self leaves says at-split (ask 2 (Allocate 9000) ∷ ask 3 (Allocate 8000) ∷ init 300 ∷ ask 4 (Free zoneBytes) ∷ ask 2 (Free zoneBytes) ∷ act (query 0) ∷ ask 3 Reset ∷ act trim ∷ [])

@@ -14,21 +14,21 @@ use Rattle.model.specs.declared.Operation.{Operation}
 use Rattle.model.specs.declared.Operation.the-variants.{Allocate, Free, Reset}
 use Rattle.model.specs.declared.Answer.{Answer}
 use Rattle.model.specs.Sizes.{pagesFor}
-use Rattle.model.specs.State.{State}
 use Rattle.model.specs.PageMap.{PageMap, pageMap, chunk, blockAt}
+use Rattle.model.specs.Holdings.{Account}
 use Rattle.model.specs.Calls.{group, trim, Command, init, act, isRefused, DeniedBy, GrantedAt, groupOk, sizeOk}
 use Rattle.model.specs.Perform.{Metadata}
 use Rattle.history.specs.Ledger.{Held, begins, effect, applied, Agrees}
 use Rattle.history.specs.Rows.{Row}
 
 -- The page map of the state that words encode.
-abbrev pub mapOf : Option State → Option PageMap
+abbrev pub mapOf : Option Account → Option PageMap
 mapOf none = none
-mapOf (some s) = some (pageMap s)
+mapOf (some a) = some (pageMap (a .state))
 
 module _ (B : Type 0) (view : B → Metadata) (next : B → Command → B) (says : B → Command → Answer) where
   abbrev pub mapAt : B → Option PageMap
-  mapAt b = mapOf ((view b) .state)
+  mapAt b = mapOf ((view b) .account)
 
   -- Lists of calls ----------------------------------------------------------------------------------------------------------
 

@@ -13,7 +13,7 @@ use Rattle.model.specs.declared.Operation.the-variants.{Allocate, Free, Reset}
 use Rattle.model.specs.declared.Answer.{Answer}
 use Rattle.model.specs.Sizes.{roomFor}
 use Rattle.model.specs.PageMap.{PageMap, Block, groupOf, roomOf, blockAt}
-use Rattle.model.specs.Calls.{Action, group, trim, query, listing, Command, init, act, isRefused, grantOf}
+use Rattle.model.specs.Calls.{Action, group, trim, query, listing, holdings, Command, init, act, isRefused, grantOf}
 
 -- A live block: the number of the call that was granted it, its offset, its group and its room. The number tells a block from
 -- another that is granted later at the same offset.
@@ -53,6 +53,7 @@ ofAction (group c) a = ofOperation (c .group) (c .operation) a
 ofAction trim a = nothing
 ofAction (query o) a = nothing
 ofAction (listing n) a = nothing
+ofAction (holdings n) a = nothing
 
 abbrev pub effect : Command → Answer → Effect
 effect (init n) a = unlessRefused a begins

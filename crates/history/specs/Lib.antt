@@ -1,3 +1,4 @@
 pub mod Ledger
 pub mod Rows
 pub mod Demand
+pub mod Holdings

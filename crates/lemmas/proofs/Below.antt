@@ -1,6 +1,6 @@
 -- Laws of tests and sums over the numbers below a bound. Assumes nothing.
 use Prim.Native.Nat.{ℕ, zero, suc, _+_, _*_, _≤_, _<_}
-use mathlib.Core.Path.{_≡_, refl, ap, _∙_}
+use mathlib.Core.Path.{_≡_, refl, sym, ap, _∙_}
 use mathlib.Core.Bool.{Bool, true, cond, _&&_}
 use mathlib.Core.List.{List, [], _∷_}
 use native.Mathlib.Nat.{add-zero, add-suc, not-suc-le-zero}
@@ -118,6 +118,28 @@ sum-one c v (suc n) h =
     by-eqb (λ t. cond t v 0 + sumBelow (λ i. cond (eqb i c) v 0) n ≡ v) n c
     (λ e. let a = sum-out c v n (omega arith) in omega arith)
     (λ e. let a = sum-one c v n (omega arith) in omega arith)
+
+-- A function's multiple.
+pub sum-scale : (f : ℕ → ℕ) (e n : ℕ) → sumBelow (λ i. f i * e) n ≡ sumBelow f n * e
+unfolding sumBelow
+sum-scale f e zero = omega arith
+sum-scale f e (suc n) = let a = sum-scale f e n in omega arith
+
+-- A function that is as φ says at the multiples of r, and 0 between them.
+pub sum-stride : (f φ : ℕ → ℕ) (r k : ℕ) → 0 < r → ((j i : ℕ) → i < r → f (j * r + i) ≡ cond (eqb i 0) (φ j) 0) → sumBelow f (k * r) ≡ sumBelow φ k
+unfolding sumBelow
+sum-stride f φ r zero p h = ap (sumBelow f) (let e : zero * r ≡ 0 = omega arith in e)
+sum-stride f φ r (suc k) p h =
+    let last : sumBelow (λ i. f (k * r + i)) r ≡ φ k = sum-eq (λ i. f (k * r + i)) (λ i. cond (eqb i 0) (φ k) 0) r (h k) ∙ sum-one 0 (φ k) r p in
+    ap (sumBelow f) (let e : suc k * r ≡ k * r + r = omega arith in e) ∙ sum-split f (k * r) r ∙ omega (arith, last, sum-stride f φ r k p h)
+
+-- Two functions that differ at one number.
+pub sum-changed : (f g : ℕ → ℕ) (n o : ℕ) → o < n → ((i : ℕ) → (i ≡ o → ⊥) → f i ≡ g i) → sumBelow f n + g o ≡ sumBelow g n + f o
+unfolding sumBelow
+sum-changed f g zero o h k = absurd (not-suc-le-zero h)
+sum-changed f g (suc n) o h k = by-eq o n
+    (λ e. let a = sum-eq f g n (λ i l. k i (λ q. omega arith)) in let u = ap f e in let v = ap g e in omega arith)
+    (λ e. let a = sum-changed f g n o (omega arith) k in let b = k n (λ q. e (sym q)) in omega arith)
 
 -- ---- the indices of a list
 

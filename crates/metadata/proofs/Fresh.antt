@@ -15,7 +15,7 @@ use Rattle.pages.specs.Encoding.{segmentsEncoding}
 use Rattle.metadata.specs.Encoding.{encode}
 
 -- Words h, of a words, and g in the place of all that stood behind them.
-put-behind : (a : ℕ) (w h g : List ℕ) → length h ≡ a → putMid a (length (h ++ drop a w) - a) (h ++ drop a w) g ≡ h ++ g
+pub put-behind : (a : ℕ) (w h g : List ℕ) → length h ≡ a → putMid a (length (h ++ drop a w) - a) (h ++ drop a w) g ≡ h ++ g
 put-behind a w h g l = (λ i. take-at h (drop a w) a l i ++ (g ++ none i)) ∙ ap (λ r. h ++ r) (append-nil g)
   where
     none : drop (length (h ++ drop a w) - a) (drop a (h ++ drop a w)) ≡ []

@@ -14,7 +14,8 @@ use Rattle.model.specs.declared.Refusal.the-variants.{NoState, BadGroup,
 use Rattle.model.specs.declared.Answer.{Answer}
 use Rattle.model.specs.declared.Answer.the-variants.{Granted, Denied, Refused, Done, Counted, Block}
 use Rattle.model.specs.Sizes.{step, rounded, classOf, room, chunksOf, chunks, pagesFor}
-use Rattle.model.specs.State.{State, listOf}
+use Rattle.model.specs.State.{listOf}
+use Rattle.model.specs.Holdings.{Account}
 use Rattle.model.specs.PageMap.{pageMap}
 use Rattle.model.specs.Pages.{claim}
 use Rattle.model.specs.Allocate.{sought}
@@ -22,7 +23,7 @@ use Rattle.model.specs.Calls.{group, trim, query, Command, init, act}
 use Rattle.model.specs.Ascii.{ascii}
 use Rattle.model.specs.Text.{digits, decimal, line, lines}
 use Rattle.model.specs.Listing.{section, listingText}
-use Rattle.model.specs.Perform.{Metadata, wordsFor, perform}
+use Rattle.model.specs.Perform.{Metadata, allWords, perform}
 use Rattle.lemmas.specs.Keep.{keep}
 use Rattle.lemmas.specs.Times.{remove}
 
@@ -91,13 +92,13 @@ pub replies : Metadata → List Command → List Answer
 replies m [] = []
 replies m (c ∷ l) = (perform m c) .answer ∷ replies ((perform m c) .after) l
 
--- The bench program's words when it begins: 13,504, holding no state.
+-- The bench program's words when it begins: 13,568, holding no state.
 pub blank : Metadata
-blank = record { words = 13504; state = none }
+blank = record { words = 13568; account = none }
 
-pub text : Option State → List ℕ
+pub text : Option Account → List ℕ
 text none = []
-text (some s) = listingText (pageMap s)
+text (some a) = listingText (pageMap (a .state))
 
 pub morning : List Command
 morning = s 24 ∷ q 1 100 ∷ q 2 100 ∷ q 3 9000 ∷ q 1 8191 ∷ r 2 0 ∷ r 1 0 ∷ q 2 97 ∷ []
@@ -111,11 +112,11 @@ pub session-answers : replies blank (morning ++ (b 104 ∷ afternoon)) ≡
 unfolding replies blank morning afternoon step rounded classOf room chunks claim sought remove keep
 session-answers = refl
 
-pub first-listing : text ((leaves blank morning) .state) ≡ ascii "runs 1\n19 5\ndirect 1\n8 3 3\nzones 2\n0 12 2\n11 63 1\n"
+pub first-listing : text ((leaves blank morning) .account) ≡ ascii "runs 1\n19 5\ndirect 1\n8 3 3\nzones 2\n0 12 2\n11 63 1\n"
 unfolding leaves blank morning text step rounded classOf room chunks claim sought remove keep listingText section ascii line lines decimal digits
 first-listing = refl
 
-pub second-listing : text ((leaves blank (morning ++ afternoon)) .state) ≡ ascii "runs 1\n23 1\ndirect 3\n8 3 3\n11 6 4\n17 6 4\nzones 1\n0 12 2\n"
+pub second-listing : text ((leaves blank (morning ++ afternoon)) .account) ≡ ascii "runs 1\n23 1\ndirect 3\n8 3 3\n11 6 4\n17 6 4\nzones 1\n0 12 2\n"
 unfolding leaves blank morning afternoon text step rounded classOf room chunks claim sought remove keep listingText section ascii line lines decimal digits
 second-listing = refl
 
@@ -131,15 +132,15 @@ returns zero o = []
 returns (suc n) o = r 1 o ∷ returns n (o + 8192)
 
 -- The lists: of class 63, and the empty list.
-pub listsOf : Option State → List ℕ × List ℕ
+pub listsOf : Option Account → List ℕ × List ℕ
 listsOf none = ([], [])
-listsOf (some a) = (listOf a 63, a .spare)
+listsOf (some a) = (listOf (a .state) 63, a .state .spare)
 
 pub nine : List Command
 nine = s 24 ∷ (requests 9 ++ returns 9 0)
 
 -- All nine returned leave two zones on the empty list and one on its class's list, and no free page; ..
-pub nine-lists : (listsOf ((leaves blank nine) .state) ≡ (16 ∷ [], 8 ∷ 0 ∷ [])) × (text ((leaves blank nine) .state) ≡ ascii "runs 0\ndirect 0\nzones 3\n0 63 0\n8 63 0\n16 63 0\n")
+pub nine-lists : (listsOf ((leaves blank nine) .account) ≡ (16 ∷ [], 8 ∷ 0 ∷ [])) × (text ((leaves blank nine) .account) ≡ ascii "runs 0\ndirect 0\nzones 3\n0 63 0\n8 63 0\n16 63 0\n")
 unfolding leaves blank nine requests returns listsOf text step rounded classOf room chunks claim sought remove keep listingText section ascii line lines decimal digits
 nine-lists = (refl, refl)
 
@@ -152,7 +153,7 @@ nine-answers = refl
 pub thirteen : List Command
 thirteen = s 32 ∷ (requests 13 ++ returns 12 0)
 
-pub thirteen-listing : text ((leaves (record { words = wordsFor 32; state = none }) thirteen) .state) ≡ ascii "runs 1\n16 8\ndirect 0\nzones 3\n0 63 0\n8 63 0\n24 63 1\n"
+pub thirteen-listing : text ((leaves (record { words = allWords 32; account = none }) thirteen) .account) ≡ ascii "runs 1\n16 8\ndirect 0\nzones 3\n0 63 0\n8 63 0\n24 63 1\n"
 unfolding leaves thirteen requests returns text step rounded classOf room chunks claim sought remove keep listingText section ascii line lines decimal digits
 thirteen-listing = refl
 
@@ -169,14 +170,14 @@ pub three : List Command
 three = s 24 ∷ q 1 8191 ∷ q 2 100 ∷ q 3 200 ∷ r 1 0 ∷ r 3 65536 ∷ []
 
 pub second-search : (replies blank (three ++ (r 2 32768 ∷ q 4 300 ∷ t ∷ [])) ≡ Done ∷ Granted 0 1 ∷ Granted 32768 1 ∷ Granted 65536 1 ∷ Done ∷ Done ∷ Done ∷ Granted 0 1 ∷ Counted 0 ∷ [])
-    × (text ((leaves blank (three ++ (r 2 32768 ∷ q 4 300 ∷ []))) .state) ≡ ascii "runs 1\n8 16\ndirect 0\nzones 1\n0 25 1\n")
+    × (text ((leaves blank (three ++ (r 2 32768 ∷ q 4 300 ∷ []))) .account) ≡ ascii "runs 1\n8 16\ndirect 0\nzones 1\n0 25 1\n")
     × (replies (leaves blank three) (q 4 36864 ∷ t ∷ []) ≡ Denied NoRoom 2 ∷ Counted 2 ∷ [])
 unfolding leaves replies blank three text step rounded classOf room chunks claim sought remove keep listingText section ascii line lines decimal digits
 second-search = (refl, refl, refl)
 
 -- Two runs are long enough: the first is taken. Pages that come back join with the runs on both sides.
 pub first-run-taken : (replies blank (s 24 ∷ q 1 8192 ∷ q 2 8192 ∷ q 3 8192 ∷ r 1 0 ∷ q 4 8192 ∷ []) ≡ Done ∷ Granted 0 1 ∷ Granted 8192 1 ∷ Granted 16384 1 ∷ Done ∷ Granted 0 1 ∷ [])
-    × (text ((leaves blank (s 24 ∷ q 1 8192 ∷ q 2 8192 ∷ q 3 8192 ∷ q 4 8192 ∷ r 1 0 ∷ r 3 16384 ∷ r 2 8192 ∷ [])) .state) ≡ ascii "runs 2\n0 6\n8 16\ndirect 1\n6 2 4\nzones 0\n")
+    × (text ((leaves blank (s 24 ∷ q 1 8192 ∷ q 2 8192 ∷ q 3 8192 ∷ q 4 8192 ∷ r 1 0 ∷ r 3 16384 ∷ r 2 8192 ∷ [])) .account) ≡ ascii "runs 2\n0 6\n8 16\ndirect 1\n6 2 4\nzones 0\n")
 unfolding leaves replies blank text step rounded classOf room chunks claim sought remove keep listingText section ascii line lines decimal digits
 first-run-taken = (refl, refl)
 
@@ -202,7 +203,7 @@ pub between : List Command
 between = s 24 ∷ q 1 8192 ∷ q 1 100 ∷ q 1 8192 ∷ q 2 8192 ∷ r 1 0 ∷ r 1 8192 ∷ r 1 40960 ∷ []
 
 pub both-counted : (replies (leaves blank between) (q 3 53248 ∷ q 3 45056 ∷ []) ≡ Denied NoRoom 5 ∷ Granted 0 4 ∷ [])
-    × (text ((leaves blank between) .state) ≡ ascii "runs 3\n0 2\n10 2\n14 10\ndirect 1\n12 2 2\nzones 1\n2 12 0\n")
+    × (text ((leaves blank between) .account) ≡ ascii "runs 3\n0 2\n10 2\n14 10\ndirect 1\n12 2 2\nzones 1\n2 12 0\n")
 unfolding leaves replies blank between text step rounded classOf room chunks claim sought remove keep listingText section ascii line lines decimal digits
 both-counted = (refl, refl)
 

@@ -11,7 +11,7 @@ use lib.Dec.{ltb, leb}
 use lib.ListN.{getD}
 use borrow.Author.Tests.{ltb-true, ltb-false, leb-true, ne-eqb}
 use Rattle.lemmas.proofs.Cases.{bool, and-left, and-right}
-use Rattle.model.specs.Numbers.{mostGroup, classCount, pageBytes, zonePages}
+use Rattle.model.specs.Numbers.{mostGroup, classCount, pageBytes, zonePages, mostBytes}
 use Rattle.model.specs.declared.Refusal.{Refusal}
 use Rattle.model.specs.declared.Refusal.the-variants.{BadGroup, BadSize, NoRoom}
 use Rattle.model.specs.declared.Answer.the-variants.{Granted, Denied}
@@ -48,6 +48,9 @@ group-most g t = leb-true g mostGroup (and-right (leb 1 g) _ t)
 
 pub size-least : (n : ℕ) → sizeOk n ≡ true → 0 < n
 size-least n t = leb-true 1 n (and-left (leb 1 n) _ t)
+
+pub size-most : (n : ℕ) → sizeOk n ≡ true → n ≤ mostBytes
+size-most n t = leb-true n mostBytes (and-right (leb 1 n) _ t)
 
 -- A zone just set up holds one block, its chunk 0.
 new-first : (c g : ℕ) → c < classCount → 0 < g → blockIn 0 (zone (occupancy (newZone c g))) ≡ some (chunk c 0 g)

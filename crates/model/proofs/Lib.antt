@@ -24,5 +24,9 @@ pub mod Totals
 pub mod Supplied
 pub mod NoRoom
 pub mod Looked
+pub mod Held
+pub mod Sums
+pub mod Figures
+pub mod Accounts
 pub mod ReadOff
 pub mod BoundMet

@@ -9,7 +9,7 @@ use native.Mathlib.Omega.{arith}
 use lib.Dec.{leb, eqb}
 use lib.ListN.{length}
 use Rattle.lemmas.proofs.Cases.{bool}
-use Rattle.model.specs.Numbers.{mostPages}
+use Rattle.model.specs.Numbers.{mostGroup, mostPages}
 use Rattle.model.specs.declared.Call.{Call}
 use Rattle.model.specs.declared.Operation.{Operation}
 use Rattle.model.specs.declared.Operation.the-variants.{Allocate, Free, Reset}
@@ -18,14 +18,15 @@ use Rattle.model.specs.declared.Refusal.the-variants.{NoState}
 use Rattle.model.specs.Arena.{Segment, run, direct, zone, pages, total, Each}
 use Rattle.model.specs.Zone.{Zone}
 use Rattle.model.specs.State.{State}
+use Rattle.model.specs.Holdings.{Account}
 use Rattle.model.specs.PageMap.{pageMap, idleZone, Block, groupOf, blockAt}
 use Rattle.model.specs.Pages.{FreeRun, claim, mostLooked}
 use Rattle.model.specs.Valid.{Apart, ValidSegment, Valid}
 use Rattle.model.specs.Trim.{trimmed, described}
 use Rattle.model.specs.Free.{freeBlock, free}
 use Rattle.model.specs.Listing.{listingText}
-use Rattle.model.specs.Perform.{asked, serve, Metadata, wordsFor, onState, perform}
-use Rattle.model.specs.Calls.{Action, group, trim, query, listing, Command, init, act, lookedOf, toldBy, refusalOf, groupOk, sizeOk}
+use Rattle.model.specs.Perform.{asked, serve, Metadata, allWords, onAccount, perform}
+use Rattle.model.specs.Calls.{Action, group, trim, query, listing, holdings, Command, init, act, lookedOf, toldBy, refusalOf, groupOk, sizeOk}
 use Rattle.model.specs.Allocate.{Source, searched, sought, supplied, needed, looksFor, allocate}
 use Rattle.model.proofs.Claim.{claim-bounded}
 use Rattle.model.proofs.Joins.{total-joined}
@@ -82,6 +83,7 @@ module _ (s : State) where
   serve-uncounted trim f = refl
   serve-uncounted (query o) f = query-uncounted (blockAt (pageMap s) o)
   serve-uncounted (listing n) f = bool (leb (length (listingText (pageMap s))) n) (λ t. rw t) (λ t. rw t)
+  serve-uncounted (holdings n) f = bool (eqb n mostGroup) (λ t. rw t) (λ t. rw t)
 
 refusal-uncounted : (a : Action) (k : Refusal) → NoRequest (act a) → lookedOf (refusalOf a k) ≡ none
 refusal-uncounted (group c) k f = go (c .operation) refl
@@ -93,14 +95,15 @@ refusal-uncounted (group c) k f = go (c .operation) refl
 refusal-uncounted trim k f = refl
 refusal-uncounted (query o) k f = refl
 refusal-uncounted (listing n) k f = refl
+refusal-uncounted (holdings n) k f = refl
 
 pub uncounted : (m : Metadata) (c : Command) → NoRequest c → lookedOf ((perform m c) .answer) ≡ none
-uncounted m (init n) f = bool (leb 1 n && leb n mostPages) (λ t. bool (leb (wordsFor n) (m .words)) (λ u. rw (t, u)) (λ u. rw (t, u))) (λ t. rw t)
-uncounted m (act a) f = go (m .state)
+uncounted m (init n) f = bool (leb 1 n && leb n mostPages) (λ t. bool (leb (allWords n) (m .words)) (λ u. rw (t, u)) (λ u. rw (t, u))) (λ t. rw t)
+uncounted m (act a) f = go (m .account)
   where
-    go : (x : Option State) → lookedOf ((onState m a x) .answer) ≡ none
+    go : (x : Option Account) → lookedOf ((onAccount m a x) .answer) ≡ none
     go none = refusal-uncounted a NoState f
-    go (some s) = serve-uncounted s a f
+    go (some b) = serve-uncounted (b .state) a f
 
 -- The bounds -------------------------------------------------------------------------------------------------------------
 

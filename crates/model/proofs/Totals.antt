@@ -6,6 +6,7 @@ use mathlib.Core.Bool.{Bool, true, false}
 use native.Mathlib.Omega.{arith}
 use lib.Dec.{leb, eqb}
 use lib.ListN.{length}
+use Rattle.model.specs.Numbers.{mostGroup}
 use Rattle.model.specs.declared.Operation.{Operation}
 use Rattle.model.specs.declared.Operation.the-variants.{Allocate, Free, Reset}
 use Rattle.model.specs.declared.Answer.{Answer}
@@ -13,7 +14,7 @@ use Rattle.model.specs.Arena.{total}
 use Rattle.model.specs.State.{State}
 use Rattle.model.specs.PageMap.{occupancy, pageMap, idleZone, Block, groupOf, blockAt}
 use Rattle.model.specs.Valid.{Valid}
-use Rattle.model.specs.Calls.{Action, group, trim, query, listing, Outcome, provided, groupOk}
+use Rattle.model.specs.Calls.{Action, group, trim, query, listing, holdings, Outcome, provided, groupOk}
 use Rattle.model.specs.Allocate.{allocate}
 use Rattle.model.specs.Free.{freed, freeBlock, free, freedAll, offsetsOf}
 use Rattle.model.specs.Listing.{listingText}
@@ -60,3 +61,4 @@ serve-total s h (group c) = asked-total s h (c .group) (c .operation)
 serve-total s h trim = total-joined idleZone 0 (s .segments) ∙ omega arith
 serve-total s h (query o) = refl
 serve-total s h (listing n) = guarded (leb (length (listingText (pageMap s))) n) _ s _ refl
+serve-total s h (holdings n) = guarded (eqb n mostGroup) _ s _ refl

@@ -9,7 +9,7 @@ use lib.Dec.{ltb, leb, eqb}
 use lib.ListN.{length, getD, replicate, length-replicate, getD-replicate, List·getD-eq-default}
 use borrow.Author.Tests.{ltb-true, ltb-false, leb-true}
 use Rattle.lemmas.proofs.Cases.{bool, true-false, and-left, and-right, clash}
-use Rattle.model.specs.Numbers.{classCount, mostPages, pageBytes}
+use Rattle.model.specs.Numbers.{mostGroup, classCount, mostPages, pageBytes}
 use Rattle.model.specs.declared.Answer.{Answer}
 use Rattle.model.specs.declared.Operation.{Operation}
 use Rattle.model.specs.declared.Operation.the-variants.{Allocate, Free, Reset}
@@ -18,11 +18,11 @@ use Rattle.model.specs.Zone.{Zone}
 use Rattle.model.specs.State.{State, freshState, ZoneAt}
 use Rattle.model.specs.PageMap.{pageMap, Block, groupOf, blockAt}
 use Rattle.model.specs.Valid.{Apart, ValidSegment, Valid}
-use Rattle.model.specs.Calls.{Action, group, trim, query, listing, Command, init, act, Outcome, isRefused, provided, groupOk}
+use Rattle.model.specs.Calls.{Action, group, trim, query, listing, holdings, Outcome, isRefused, provided, groupOk}
 use Rattle.model.specs.Allocate.{allocate}
 use Rattle.model.specs.Free.{freeBlock, free}
 use Rattle.model.specs.Listing.{listingText, listInto}
-use Rattle.model.specs.Perform.{asked, serve, Metadata, wordsFor, initialise, onState, perform}
+use Rattle.model.specs.Perform.{asked, fetch, serve}
 use Rattle.model.proofs.Joins.{cut-zone}
 use Rattle.model.proofs.Allocated.{Allocated, gives, denies, allocated}
 use Rattle.model.proofs.ValidAllocate.{allocate-valid}
@@ -61,6 +61,9 @@ fresh-valid n least most = bare-valid _ (omega arith) (omega arith) (refl, least
 listing-same : (n : ℕ) (s : State) → (listInto n s) .after ≡ s
 listing-same n s = bool (leb (length (listingText (pageMap s))) n) (λ t. rw t) (λ t. rw t)
 
+fetch-same : (n : ℕ) (s : State) → (fetch n s) .after ≡ s
+fetch-same n s = bool (eqb n mostGroup) (λ t. rw t) (λ t. rw t)
+
 asked-valid : (s : State) → Valid s → (g : ℕ) (q : Operation) → Valid ((asked g q s) .after)
 asked-valid s h g (Allocate n) = allocate-valid s h g n
 asked-valid s h g (Free o) = free-valid s h g o
@@ -71,32 +74,15 @@ serve-valid s h (group c) = asked-valid s h (c .group) (c .operation)
 serve-valid s h trim = trimmed-valid s h
 serve-valid s h (query o) = h
 serve-valid s h (listing n) = rw (listing-same n s) h
-
--- A call on lent words: whatever they held before, a state that they hold after is valid if the state before was.
-abbrev pub Holds : Option State → Type 0
-Holds none = Unit {0}
-Holds (some s) = Valid s
-
-init-valid : (m : Metadata) (n : ℕ) → Holds (m .state) → Holds ((initialise m n) .after .state)
-init-valid m n h = bool (leb 1 n && leb n mostPages)
-    (λ t. rw t (bool (leb (wordsFor n) (m .words)) (λ u. rw u (fresh-valid n (leb-true 1 n (and-left (leb 1 n) _ t)) (leb-true n mostPages (and-right (leb 1 n) _ t)))) (λ u. rw u h)))
-    (λ t. rw t h)
-
-pub perform-valid : (m : Metadata) (c : Command) → Holds (m .state) → Holds ((perform m c) .after .state)
-perform-valid m (init n) h = init-valid m n h
-perform-valid m (act a) h = go (m .state) refl h
-  where
-    go : (x : Option State) → m .state ≡ x → Holds x → Holds ((onState m a x) .after .state)
-    go none e k = rw e k
-    go (some s) e k = serve-valid s k a
+serve-valid s h (holdings n) = rw (fetch-same n s) h
 
 -- Refusals --------------------------------------------------------------------------------------------------------------
 
 -- What a refused outcome leaves.
-abbrev Leaves : {S : Type 0} → S → Outcome S → Type 0
+abbrev pub Leaves : {S : Type 0} → S → Outcome S → Type 0
 Leaves s r = isRefused (r .answer) ≡ true → r .after ≡ s
 
-guarded : {S : Type 0} (b : Bool) (k : Answer) (s : S) (r : Outcome S) → Leaves s r → Leaves s (provided b k s r)
+pub guarded : {S : Type 0} (b : Bool) (k : Answer) (s : S) (r : Outcome S) → Leaves s r → Leaves s (provided b k s r)
 guarded true k s r h = h
 guarded false k s r h = λ _. refl
 
@@ -124,12 +110,4 @@ serve-leaves s h (group c) = asked-leaves s h (c .group) (c .operation)
 serve-leaves s h trim = λ t. true-false t refl
 serve-leaves s h (query o) = λ _. refl
 serve-leaves s h (listing n) = λ _. listing-same n s
-
--- A refused call leaves the lent words' number and state.
-pub perform-leaves : (m : Metadata) (c : Command) → Holds (m .state) → isRefused ((perform m c) .answer) ≡ true → (perform m c) .after ≡ m
-perform-leaves m (init n) h = guarded (leb 1 n && leb n mostPages) _ m _ (guarded (leb (wordsFor n) (m .words)) _ m _ (λ t. true-false t refl))
-perform-leaves m (act a) h = go (m .state) refl h
-  where
-    go : (x : Option State) → m .state ≡ x → Holds x → Leaves m (onState m a x)
-    go none e k = λ _. refl
-    go (some s) e k = λ t. λ i. record { words = m .words; state = (ap some (serve-leaves s k a t) ∙ sym e) i }
+serve-leaves s h (holdings n) = λ _. fetch-same n s

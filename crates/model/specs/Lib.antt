@@ -4,6 +4,7 @@ pub mod Arena
 pub mod Zone
 pub mod State
 pub mod PageMap
+pub mod Holdings
 pub mod Valid
 pub mod Pages
 pub mod Calls

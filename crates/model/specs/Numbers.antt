@@ -34,7 +34,10 @@ mostPages = 256
 abbrev pub mostSpare : ℕ
 mostSpare = 2
 
--- The words in front of those of the pages, and the words of a page.
+-- The words of the groups' figures, the words of the header behind them, and the words of a page.
+abbrev pub figureWords : ℕ
+figureWords = 64
+
 abbrev pub headerWords : ℕ
 headerWords = 1024
 

@@ -1,19 +1,20 @@
 -- Valid states (document 01: a legal state is ..), clause by clause. Valid is not the same as reachable: a direct block of one
 -- page, a zone that was set up and never granted, or several idle zones on one list are valid, though no call makes them.
 -- Assumes nothing.
-use Prim.Native.Nat.{ℕ, zero, suc, _≤_, _<_}
+use Prim.Native.Nat.{ℕ, zero, suc, _*_, _≤_, _<_}
 use mathlib.Core.Path.{_≡_}
 use mathlib.Core.Logic.{_⊎_}
 use mathlib.Core.List.{List, [], _∷_, List·Memᴰ}
 use mathlib.Core.Bool.{Bool, true, false}
 use lib.ListN.{length, getD}
 use Rattle.lemmas.specs.Times.{times, Distinct}
-use Rattle.model.specs.Numbers.{mostGroup, classCount, mostPages, mostSpare}
+use Rattle.model.specs.Numbers.{pageBytes, mostGroup, classCount, mostPages, mostSpare}
 use Rattle.model.specs.Sizes.{chunks}
 use Rattle.model.specs.Arena.{Segment, run, direct, zone, total, Each}
 use Rattle.model.specs.Zone.{Zone, touched, full}
 use Rattle.model.specs.State.{State, listOf, ZoneAt}
-use Rattle.model.specs.PageMap.{idleZone}
+use Rattle.model.specs.PageMap.{pageMap, idleZone}
+use Rattle.model.specs.Holdings.{heldOf, Account}
 
 -- Free runs have pages, and no two of them touch. (b: a run stands just before.)
 abbrev pub Apart : {Z : Type 0} → Bool → List (Segment Z) → Type 0
@@ -73,3 +74,14 @@ pub record Valid (s : State) : Type 0 where
   pub once : (c : ℕ) → Distinct (listOf s c)
   pub once-spare : Distinct (s .spare)
   pub not-both : (c p : ℕ) → List·Memᴰ p (listOf s c) → List·Memᴰ p (s .spare) → ⊥
+
+-- A valid account (document 02, c). What a group holds is told by the state, so that nothing is left to say of it here.
+pub record ValidAccount (a : Account) : Type 0 where
+  -- the state is valid
+  pub state : Valid (a .state)
+  -- there is a greatest figure for each group, ..
+  pub groups : length (a .greatest) ≡ mostGroup
+  -- .. not below what the group holds, ..
+  pub least : (i : ℕ) → i < mostGroup → heldOf (suc i) (pageMap (a .state)) ≤ getD (a .greatest) i 0
+  -- .. and not above N × 4,096
+  pub most : (i : ℕ) → i < mostGroup → getD (a .greatest) i 0 ≤ total (a .state .segments) * pageBytes

@@ -2,7 +2,7 @@
 // number, a request's refusal. The rules themselves are definitions, in specs/.
 ghost use mathlib.Core.Path.{_≡_};
 ghost use Rattle.model.specs.declared.Answer.the-variants.{Denied};
-ghost use Rattle.model.specs.Calls.{groupOk, number as numberOf};
+ghost use Rattle.model.specs.Calls.{groupOk, isRefused, number as numberOf};
 
 pub mod numbers;
 
@@ -21,7 +21,7 @@ pub struct Call {
     pub operation: Operation,
 }
 
-// Why a call is refused. `number` gives document 01's number of each.
+// Why a call is refused. `number` gives the papers' number of each.
 pub enum Refusal {
     BadPages,
     FewWords,
@@ -31,6 +31,7 @@ pub enum Refusal {
     NoRoom,
     NoBlock,
     OtherGroup,
+    BadList,
     ShortBuffer,
 }
 
@@ -45,7 +46,15 @@ pub enum Answer {
     Block(u32, u32),
 }
 
-// Document 01's number of a refusal.
+// What a group holds: its live blocks, their rooms' bytes, and the most bytes that it has held since the start.
+#[repr(C)]
+pub struct Holding {
+    pub blocks: u32,
+    pub held: u32,
+    pub greatest: u32,
+}
+
+// The papers' number of a refusal.
 pub fn number(refusal: Refusal) -> u32
     ensures { λ r. ⌜ r ≡ numberOf refusal ⌝ }
 {
@@ -58,7 +67,22 @@ pub fn number(refusal: Refusal) -> u32
         Refusal::NoRoom => 6,
         Refusal::NoBlock => 7,
         Refusal::OtherGroup => 8,
+        Refusal::BadList => 9,
         Refusal::ShortBuffer => 12,
+    }
+}
+
+// Whether an answer is a refusal.
+pub fn is_refused(answer: Answer) -> bool
+    ensures { λ r. ⌜ r ≡ isRefused answer ⌝ }
+{
+    match answer {
+        Answer::Granted { offset, looked } => false,
+        Answer::Denied { refusal, looked } => true,
+        Answer::Refused(refusal) => true,
+        Answer::Done => false,
+        Answer::Counted(count) => false,
+        Answer::Block(group, room) => false,
     }
 }
 

@@ -24,7 +24,9 @@ pub const MOST_PAGES: u32 = 256;
 // The empty list holds so many zones at most.
 pub const MOST_SPARE: u32 = 2;
 
-// The words in front of those of the pages, and the words of a page.
+// The words of the groups' figures, the words of the header behind them, and the words of a page.
+pub const FIGURE_WORDS: usize = 64;
+
 pub const HEADER_WORDS: usize = 1024;
 
 pub const PAGE_WORDS: usize = 520;

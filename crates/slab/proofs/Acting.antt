@@ -1,39 +1,48 @@
 -- The calls on words that pass the check: the words of the state are lent to the function that serves the call, and come back as those
--- of the state that the rules leave. Assumes nothing.
-use Prim.Native.Nat.{ℕ, _-_, _*_, _≤_}
-use mathlib.Core.Path.{_≡_, sym, ap, _∙_, subst}
-use mathlib.Core.List.{List, _++_}
-use mathlib.Core.Option.{none, some}
+-- of the state that the rules leave; then the figures of the group are stepped. Assumes nothing.
+use Prim.Native.Nat.{ℕ, _+_, _-_, _*_, _≤_}
+use mathlib.Core.Path.{_≡_, refl, sym, ap, _∙_, subst}
+use mathlib.Core.List.{List, _++_, append-assoc}
+use mathlib.Core.Option.{none, some, Option·map}
 use mathlib.Core.Bool.{Bool, true, false}
 use native.Mathlib.Omega.{arith}
-use lib.ListN.{length, take, drop}
-use lib.Seq.{length-take-le}
-use Rattle.lemmas.specs.Parts.{mid}
+use lib.ListN.{length, take, drop, length-append}
+use lib.Seq.{take-at, drop-at, drop-drop}
+use Rattle.lemmas.specs.Parts.{mid, putMid}
 use Rattle.lemmas.proofs.Cases.{bool}
-use Rattle.model.specs.Numbers.{mostPages, headerWords, pageWords}
+use Rattle.lemmas.proofs.Parts.{mid-at, put-at}
+use Rattle.model.specs.Numbers.{mostPages, figureWords, headerWords, pageWords}
 use Rattle.model.specs.declared.Refusal.the-variants.{NoState}
 use Rattle.model.specs.declared.Call.{Call}
 use Rattle.model.specs.declared.Operation.{Operation}
 use Rattle.model.specs.declared.Answer.{Answer}
 use Rattle.model.specs.Arena.{total}
-use Rattle.model.specs.Valid.{Valid}
-use Rattle.model.specs.PageMap.{shown, pageMap}
+use Rattle.model.specs.Holdings.{Account, holdingOf}
+use Rattle.model.specs.Valid.{ValidAccount}
+use Rattle.model.specs.PageMap.{shown, pageMap, blockAt}
+use Rattle.model.specs.Trim.{described, queryAt}
 use Rattle.model.specs.Calls.{Action, group, listing, act, isRefused, refusalOf}
 use Rattle.model.proofs.Answers.{refusal-refused}
+use Rattle.model.proofs.Accounts.{serve-same}
 use Rattle.model.specs.Listing.{listingText}
-use Rattle.model.specs.Perform.{serve, wordsFor}
+use Rattle.model.specs.Perform.{serve, wordsFor, allWords}
 use Rattle.header.specs.Encoding.{pagesIn}
 use Rattle.pages.specs.Decoding.{segmentsOf, Holds}
 use Rattle.listing.specs.Into.{listAnswer, listedInto}
 use Rattle.listing.proofs.Into.{list-answer}
+use Rattle.figures.specs.Encoding.{figuresEncoding}
+use Rattle.figures.proofs.Encoded.{length-figures}
 use Rattle.metadata.specs.Encoding.{encode}
-use Rattle.metadata.specs.Decoding.{headerPart, pagesPart, decode, isState, stateOf}
-use Rattle.metadata.proofs.States.{state-valid, state-begins, state-read, state-pages, encode-long, stateOf-some, stateOf-none}
+use Rattle.metadata.specs.Decoding.{headerPart, pagesPart, decode, isState}
+use Rattle.metadata.proofs.States.{state-read, state-pages, encode-long}
+use Rattle.account.specs.Encoding.{accountEncoding}
+use Rattle.account.specs.Decoding.{statePart, accountIn, isAccount, accountOf}
+use Rattle.account.proofs.Accounts.{passed, account-valid, account-begins, account-long, accountOf-some, accountOf-none}
 use Rattle.steps.specs.Lent.{Good}
 use Rattle.steps.proofs.Kept.{good-of, good-decoded}
-use Rattle.slab.specs.Calls.{answerOf, metaAfter, listedOf, textAfter}
-use Rattle.slab.specs.Arena.{pagesOf, Arena}
-use Rattle.slab.proofs.Words.{front-fits, refused-same, unserved-answer, served-long, served-answer, served-words}
+use Rattle.slab.specs.Calls.{stateOf, answerOf, metaAfter, listedOf, textAfter}
+use Rattle.slab.specs.Arena.{pagesOf, Arena, roomTold}
+use Rattle.slab.proofs.Words.{front-fits, front-same, following, refused-same, unserved-answer, served-long, served-answer, served-words}
 
 -- A test that cannot come out so proves any.
 pub never-true : {b : Bool} → false ≡ true → b ≡ true
@@ -45,103 +54,173 @@ never-false e = cc
 -- The arena's pages, as the check tells them ----------------------------------------------------------------------------------------
 
 module _ (w : List ℕ) where
-  state-is : isState w ≡ true → stateOf w ≡ some (decode w)
-  state-is t = stateOf-some w (decode w) (state-valid w t) (state-begins w t)
+  account-is : isAccount w ≡ true → accountOf w ≡ some (accountIn w)
+  account-is t = accountOf-some w (accountIn w) (account-valid w t) (account-begins w t)
 
-  pub pages-none : isState w ≡ false → 0 ≡ pagesOf (stateOf w)
-  pages-none t = ap (λ x. pagesOf x) (sym (stateOf-none w t))
+  pub pages-none : isAccount w ≡ false → 0 ≡ pagesOf (stateOf w)
+  pages-none t = ap (λ y. pagesOf (Option·map (λ a. a .state) y)) (sym (accountOf-none w t))
 
-  pub pages-some : isState w ≡ true → (n : ℕ) → n ≡ total (decode w .segments) → n ≡ pagesOf (stateOf w)
-  pages-some t n e = e ∙ ap (λ x. pagesOf x) (sym (state-is t))
+  pub pages-some : isAccount w ≡ true → (n : ℕ) → n ≡ total (accountIn w .state .segments) → n ≡ pagesOf (stateOf w)
+  pages-some t n e = e ∙ ap (λ y. pagesOf (Option·map (λ a. a .state) y)) (sym (account-is t))
 
   module _ (n : ℕ) (is : n ≡ pagesOf (stateOf w)) where
-    -- No pages: the words encode no state, and the call is refused.
-    no-state : n ≡ 0 → stateOf w ≡ none
-    no-state z = bool (isState w)
-        (λ t. absurd (omega (arith, is, ap (λ x. pagesOf x) (state-is t), state-valid w t .least)))
-        (λ t. stateOf-none w t)
+    -- No pages: the words encode no account, and the call is refused.
+    no-account : n ≡ 0 → accountOf w ≡ none
+    no-account z = bool (isAccount w)
+        (λ t. absurd (omega (arith, is, pages-some t (total (accountIn w .state .segments)) refl, account-valid w t .state .least)))
+        (λ t. accountOf-none w t)
 
     pub refused-answer : n ≡ 0 → (a : Action) → refusalOf a NoState ≡ answerOf w (act a)
-    refused-answer z a = sym (unserved-answer w (no-state z) a)
+    refused-answer z a = sym (unserved-answer w (no-account z) a)
 
     pub refused-words : n ≡ 0 → (a : Action) → w ≡ metaAfter w (act a)
     refused-words z a = sym (refused-same w (act a) (ap (λ r. isRefused r) (sym (refused-answer z a)) ∙ refusal-refused a NoState))
 
     pub refused-text : n ≡ 0 → (b : List ℕ) → b ≡ textAfter w b
     unfolding textAfter
-    refused-text z b = ap (λ x. listedOf x b) (sym (no-state z))
+    refused-text z b = ap (λ y. listedOf y b) (sym (no-account z))
 
-    -- Some pages: they begin with those of a valid state.
+    -- Some pages: they begin with those of a valid account.
     pub arena-of : (n ≡ 0 → ⊥) → Arena w n
-    arena-of p = bool (isState w)
-        (λ t. record { state = t; pages = is ∙ ap (λ x. pagesOf x) (state-is t) })
+    arena-of p = bool (isAccount w)
+        (λ t. record { account = t; pages = is ∙ sym (pages-some t (total (accountIn w .state .segments)) refl) })
         (λ t. absurd (p (is ∙ sym (pages-none t))))
 
 -- The words lent --------------------------------------------------------------------------------------------------------------------
 
 module _ {w : List ℕ} {n : ℕ} (h : Arena w n) where
-  valid : Valid (decode w)
-  valid = state-valid w (h .state)
+  abbrev x : Account
+  x = accountIn w
 
-  arena-long : length (encode (decode w)) ≡ wordsFor n
-  arena-long = encode-long (decode w) valid ∙ ap (λ k. wordsFor k) (sym (h .pages))
+  pub arena-valid : ValidAccount (accountIn w)
+  arena-valid = account-valid w (h .account)
+
+  arena-long : length (accountEncoding x) ≡ allWords n
+  arena-long = account-long x arena-valid ∙ ap (λ k. allWords k) (sym (h .pages))
+
+  state-long : length (encode (x .state)) ≡ wordsFor n
+  state-long = encode-long (x .state) (arena-valid .state) ∙ ap (λ k. wordsFor k) (sym (h .pages))
 
   pub arena-few : n ≤ mostPages
-  arena-few = omega (arith, h .pages, valid .most)
+  arena-few = omega (arith, h .pages, arena-valid .state .most)
 
-  module _ (e : ℕ) (at : e ≡ wordsFor n) where
+  F-long : length (figuresEncoding (holdingOf x)) ≡ figureWords
+  F-long = length-figures (holdingOf x)
+
+  module _ (e : ℕ) (at : e ≡ allWords n) where
     -- They are there.
     pub arena-inside : e ≤ length w
-    arena-inside = omega (arith, at, arena-long, front-fits (encode (decode w)) w (state-begins w (h .state)))
+    arena-inside = omega (arith, at, arena-long, front-fits (accountEncoding x) w (account-begins w (h .account)))
 
-    pub arena-part : e ≡ length (take e w)
-    arena-part = sym (length-take-le e w arena-inside)
+    -- The words in their parts: the figures, the state's, and those behind.
+    abbrev rest : List ℕ
+    rest = drop (e - figureWords) (drop figureWords w)
 
-    front-is : take e w ≡ encode (decode w)
-    front-is = ap (λ k. take k w) (at ∙ sym arena-long) ∙ state-begins w (h .state)
+    whole : w ≡ figuresEncoding (holdingOf x) ++ (encode (x .state) ++ drop e w)
+    unfolding accountEncoding
+    whole =
+        sym (front-same (accountEncoding x) w (account-begins w (h .account)))
+        ∙ ap (λ k. accountEncoding x ++ drop k w) (arena-long ∙ sym at)
+        ∙ append-assoc (figuresEncoding (holdingOf x)) (encode (x .state)) (drop e w)
 
-    pub arena-good : Good (take e w) n
-    arena-good = good-of (take e w) (decode w) n valid front-is (h .pages)
+    part-long : length (encode (x .state)) ≡ e - figureWords
+    part-long = omega (arith, at, state-long)
 
-    arena-decoded : decode (take e w) ≡ decode w
-    arena-decoded = good-decoded (take e w) (decode w) valid front-is
+    pub figures-lent : take figureWords w ≡ figuresEncoding (holdingOf x)
+    figures-lent = ap (take figureWords) whole ∙ take-at (figuresEncoding (holdingOf x)) (encode (x .state) ++ drop e w) figureWords F-long
 
-    -- A lower function answers what the rules answer on the words lent, and leaves there the words of the state that they leave: so
-    -- the call does on all words.
-    pub arena-answer : (a : Action) (r : Answer) → r ≡ (serve (decode (take e w)) a) .answer → r ≡ answerOf w (act a)
-    arena-answer a r q = q ∙ ap (λ s. (serve s a) .answer) arena-decoded ∙ sym (served-answer w (decode w) valid (state-begins w (h .state)) a)
+    lent-is : mid figureWords (e - figureWords) w ≡ encode (x .state)
+    lent-is = ap (mid figureWords (e - figureWords)) whole ∙ mid-at (figuresEncoding (holdingOf x)) (encode (x .state)) (drop e w) figureWords (e - figureWords) F-long part-long
 
-    arena-words : (a : Action) (v : List ℕ) → v ≡ encode ((serve (decode (take e w)) a) .after) → v ++ drop e w ≡ metaAfter w (act a)
-    arena-words a v q =
-        let s = (serve (decode w) a) .after in
-        let k : e ≡ length (encode s) = at ∙ sym arena-long ∙ sym (served-long (decode w) valid a) in
-        ap (λ l. l ++ drop e w) (q ∙ ap (λ t. encode ((serve t a) .after)) arena-decoded)
-        ∙ ap (λ j. encode s ++ drop j w) k
-        ∙ sym (served-words w (decode w) valid (state-begins w (h .state)) a)
+    pub arena-good : Good (mid figureWords (e - figureWords) w) n
+    arena-good = good-of (mid figureWords (e - figureWords) w) (x .state) n (arena-valid .state) lent-is (h .pages)
 
-    -- Both, the words first: a call that answers and leaves other words is refused for its words.
-    pub arena-served : (a : Action) (r : Answer) (v : List ℕ) → v ≡ encode ((serve (decode (take e w)) a) .after) → r ≡ (serve (decode (take e w)) a) .answer →
-        (r ≡ answerOf w (act a)) × (v ++ drop e w ≡ metaAfter w (act a))
-    arena-served a r v q p = (arena-answer a r p, arena-words a v q)
+    pub arena-decoded : decode (mid figureWords (e - figureWords) w) ≡ x .state
+    arena-decoded = good-decoded (mid figureWords (e - figureWords) w) (x .state) (arena-valid .state) lent-is
+
+    -- A lower function answers what the rules answer on the words lent, ..
+    pub arena-answer : (a : Action) (r : Answer) → r ≡ (serve (decode (mid figureWords (e - figureWords) w)) a) .answer → r ≡ answerOf w (act a)
+    arena-answer a r q = q ∙ ap (λ s. (serve s a) .answer) arena-decoded ∙ sym (served-answer w x arena-valid (account-begins w (h .account)) a)
+
+    -- The room of the block at an offset, as the query tells it.
+    pub told-room : (o : ℕ) (r : Answer) → r ≡ (queryAt o (decode (mid figureWords (e - figureWords) w))) .answer → roomTold r ≡ roomTold (described (blockAt (pageMap (accountIn w .state)) o))
+    told-room o r q = ap roomTold (q ∙ ap (λ s. (queryAt o s) .answer) arena-decoded)
+
+    -- It is a refusal there just if it is one here.
+    pub arena-done : (a : Action) (r : Answer) → r ≡ (serve (decode (mid figureWords (e - figureWords) w)) a) .answer → (b : Bool) → b ≡ isRefused r → b ≡ false →
+        isRefused ((serve (accountIn w .state) a) .answer) ≡ false
+    arena-done a r q b p f = ap (λ s. isRefused ((serve s a) .answer)) (sym arena-decoded) ∙ ap isRefused (sym q) ∙ sym p ∙ f
+
+    pub arena-not : (a : Action) (r : Answer) → r ≡ (serve (decode (mid figureWords (e - figureWords) w)) a) .answer → (b : Bool) → b ≡ isRefused r → b ≡ true →
+        isRefused ((serve (decode (mid figureWords (e - figureWords) w)) a) .answer) ≡ true
+    arena-not a r q b p f = ap isRefused (sym q) ∙ sym p ∙ f
+
+    -- .. and leaves there the words of the state that they leave. Where the figures are then those of the account that follows, all words
+    -- are those of that account, and the later ones as they were.
+    module _ (a : Action) (v : List ℕ) (q : v ≡ encode ((serve (decode (mid figureWords (e - figureWords) w)) a) .after)) where
+      left : v ≡ encode (following x a .state)
+      left = q ∙ ap (λ s. encode ((serve s a) .after)) arena-decoded
+
+      put-is : putMid figureWords (e - figureWords) w v ≡ figuresEncoding (holdingOf x) ++ (v ++ drop e w)
+      put-is = ap (λ l. putMid figureWords (e - figureWords) l v) whole ∙ put-at (figuresEncoding (holdingOf x)) (encode (x .state)) (drop e w) v figureWords (e - figureWords) F-long part-long
+
+      all-words : (f : List ℕ) → f ≡ figuresEncoding (holdingOf (following x a)) → f ++ (v ++ drop e w) ≡ metaAfter w (act a)
+      unfolding accountEncoding
+      all-words f g =
+          (λ i. g i ++ (left i ++ drop e w))
+          ∙ sym (append-assoc (figuresEncoding (holdingOf (following x a))) (encode (following x a .state)) (drop e w))
+          ∙ ap (λ k. accountEncoding (following x a) ++ drop k w) (at ∙ sym arena-long ∙ sym (served-long x arena-valid a))
+          ∙ sym (served-words w x arena-valid (account-begins w (h .account)) a)
+
+      -- The figures are lent for a step, ..
+      pub figures-there : take figureWords (putMid figureWords (e - figureWords) w v) ≡ figuresEncoding (holdingOf x)
+      figures-there = ap (take figureWords) put-is ∙ take-at (figuresEncoding (holdingOf x)) (v ++ drop e w) figureWords F-long
+
+      pub long-there : figureWords ≤ length (putMid figureWords (e - figureWords) w v)
+      long-there = omega (arith, ap length put-is, length-append (figuresEncoding (holdingOf x)) (v ++ drop e w), F-long)
+
+      -- .. and come back as those of the account that follows; or they stay.
+      pub arena-stepped : (f : List ℕ) → f ≡ figuresEncoding (holdingOf (following x a)) → f ++ drop figureWords (putMid figureWords (e - figureWords) w v) ≡ metaAfter w (act a)
+      arena-stepped f g = ap (λ l. f ++ l) (ap (drop figureWords) put-is ∙ drop-at (figuresEncoding (holdingOf x)) (v ++ drop e w) figureWords F-long) ∙ all-words f g
+
+      pub arena-still : figuresEncoding (holdingOf x) ≡ figuresEncoding (holdingOf (following x a)) → putMid figureWords (e - figureWords) w v ≡ metaAfter w (act a)
+      arena-still g = put-is ∙ all-words (figuresEncoding (holdingOf x)) g
+
+      -- A refusal leaves the figures.
+      pub arena-refused : isRefused ((serve (decode (mid figureWords (e - figureWords) w)) a) .answer) ≡ true → putMid figureWords (e - figureWords) w v ≡ metaAfter w (act a)
+      arena-refused t = arena-still (ap (λ y. figuresEncoding (holdingOf y)) (sym (serve-same x arena-valid a (ap (λ s. isRefused ((serve s a) .answer)) (sym arena-decoded) ∙ t))))
 
     -- The pages' words, for the listing.
-    part-is : mid headerWords (e - headerWords) w ≡ pagesPart w
-    part-is = ap (λ k. mid headerWords k w) (let q : e - headerWords ≡ pageWords * pagesIn (headerPart w) = omega (arith, at, h .pages, state-pages w (h .state)) in q)
+    abbrev fixed : ℕ
+    fixed = figureWords + headerWords
 
-    pub arena-holds : Holds (mid headerWords (e - headerWords) w) n
-    arena-holds = subst (λ l. Holds l n) (sym part-is) (subst (Holds (pagesPart w)) (sym (h .pages ∙ state-pages w (h .state))) (state-read w (h .state) .segments))
+    state-ok : isState (statePart w) ≡ true
+    state-ok = passed w (h .account) .0
 
-    map-is : listingText (shown (segmentsOf (mid headerWords (e - headerWords) w))) ≡ listingText (pageMap (decode w))
-    unfolding decode
+    pages-told : n ≡ pagesIn (headerPart (statePart w))
+    unfolding accountIn
+    pages-told = h .pages ∙ state-pages (statePart w) state-ok
+
+    part-is : mid fixed (e - fixed) w ≡ pagesPart (statePart w)
+    part-is =
+        ap (take (e - fixed)) (sym (drop-drop headerWords figureWords w))
+        ∙ ap (λ k. take k (drop headerWords (drop figureWords w))) (let q : e - fixed ≡ pageWords * pagesIn (headerPart (statePart w)) = omega (arith, at, pages-told) in q)
+
+    pub arena-holds : Holds (mid (figureWords + headerWords) (e - (figureWords + headerWords)) w) n
+    arena-holds = subst (λ l. Holds l n) (sym part-is) (subst (Holds (pagesPart (statePart w))) (sym pages-told) (state-read (statePart w) state-ok .segments))
+
+    map-is : listingText (shown (segmentsOf (mid fixed (e - fixed) w))) ≡ listingText (pageMap (x .state))
+    unfolding decode accountIn
     map-is = ap (λ l. listingText (shown (segmentsOf l))) part-is
 
-    pub arena-listing : (b : List ℕ) (r : Answer) → r ≡ listAnswer (length b) (listingText (shown (segmentsOf (mid headerWords (e - headerWords) w)))) → r ≡ answerOf w (act (listing (length b)))
+    pub arena-listing : (b : List ℕ) (r : Answer) → r ≡ listAnswer (length b) (listingText (shown (segmentsOf (mid (figureWords + headerWords) (e - (figureWords + headerWords)) w)))) →
+        r ≡ answerOf w (act (listing (length b)))
     arena-listing b r q =
-        q ∙ ap (λ t. listAnswer (length b) t) map-is ∙ list-answer (length b) (decode w) ∙ sym (served-answer w (decode w) valid (state-begins w (h .state)) (listing (length b)))
+        q ∙ ap (λ t. listAnswer (length b) t) map-is ∙ list-answer (length b) (x .state) ∙ sym (served-answer w x arena-valid (account-begins w (h .account)) (listing (length b)))
 
-    pub arena-text : (b v : List ℕ) → v ≡ listedInto b (listingText (shown (segmentsOf (mid headerWords (e - headerWords) w)))) → v ≡ textAfter w b
+    pub arena-text : (b v : List ℕ) → v ≡ listedInto b (listingText (shown (segmentsOf (mid (figureWords + headerWords) (e - (figureWords + headerWords)) w)))) → v ≡ textAfter w b
     unfolding textAfter
-    arena-text b v q = q ∙ ap (λ t. listedInto b t) map-is ∙ ap (λ x. listedOf x b) (sym (state-is w (h .state)))
+    arena-text b v q = q ∙ ap (λ t. listedInto b t) map-is ∙ ap (λ y. listedOf y b) (sym (account-is w (h .account)))
 
 -- A group's call, told by its group and what it asks.
 pub same-call : (w : List ℕ) (c : Call) (q : Operation) → c .operation ≡ q → (r : Answer) (v : List ℕ) →

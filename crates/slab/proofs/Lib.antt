@@ -1,5 +1,11 @@
 pub mod Words
 pub mod Promises
 pub mod Acting
+pub mod Booking
+pub mod Granting
+pub mod Returning
+pub mod Resetting
 pub mod Fresh
 pub mod Front
+pub mod Fetching
+pub mod Clauses

@@ -5,28 +5,32 @@ use Prim.Native.Nat.{ℕ, _+_, _*_, _%_, _≤_, _<_}
 use mathlib.Core.Path.{_≡_, refl, sym, ap, _∙_, subst}
 use mathlib.Core.Logic.{_⊎_, inl, inr, _↔_}
 use mathlib.Core.List.{List, _++_}
-use mathlib.Core.Option.{Option, none, some}
+use mathlib.Core.Option.{Option, none, some, Option·map}
 use native.Mathlib.Omega.{arith}
 use lib.ListN.{length, take, drop}
 use lib.Seq.{take-all}
-use Rattle.model.specs.Numbers.{pageBytes, largeSize, mostPages}
+use Rattle.model.specs.Numbers.{pageBytes, mostGroup, largeSize, mostPages}
 use Rattle.model.specs.declared.Refusal.the-variants.{NoState, NoRoom, ShortBuffer}
+use Rattle.model.specs.declared.Holding.{Holding}
 use Rattle.model.specs.declared.Answer.the-variants.{Denied, Done, Counted}
 use mathlib.Core.Bool.{true, false, cond, _&&_}
 use Rattle.model.specs.declared.Operation.the-variants.{Allocate}
-use borrow.Author.Tests.{le-leb}
+use lib.Dec.{eqb}
+use borrow.Author.Tests.{le-leb, eq-eqb, ne-eqb}
 use Rattle.model.specs.Sizes.{pagesFor}
 use Rattle.model.specs.Arena.{total}
-use Rattle.model.specs.State.{State, freshState}
+use Rattle.model.specs.State.{State}
+use Rattle.model.specs.Holdings.{Account, accounted, freshAccount, holdingsOf}
 use Rattle.model.specs.PageMap.{pageMap, Block, roomOf, blockAt}
-use Rattle.model.specs.Valid.{Valid}
-use Rattle.model.specs.Calls.{Action, trim, query, listing, Command, init, act, reading, isRefused, lookedOf, RefusedBy, DeniedBy, GrantedAt, refusalOf, group, groupOk, sizeOk}
+use Rattle.model.specs.Valid.{ValidAccount}
+use Rattle.model.specs.Calls.{Action, trim, query, listing, holdings, Command, init, act, reading, isRefused, lookedOf, RefusedBy, DeniedBy, GrantedAt, refusalOf, group, groupOk, sizeOk}
 use Rattle.model.specs.Pages.{mostLooked}
 use Rattle.model.specs.Allocate.{searched, needed, looksFor}
 use Rattle.model.specs.Trim.{trimmed}
-use Rattle.model.specs.Perform.{serve, wordsFor, onState}
+use Rattle.model.specs.Perform.{serve, allWords, onAccount}
 use Rattle.model.specs.Listing.{listingText}
-use Rattle.lemmas.proofs.Cases.{some-inj, none-some}
+use Rattle.lemmas.proofs.Cases.{bool, some-inj, none-some}
+use Rattle.model.proofs.Accounts.{accounted-valid, fresh-account}
 use Rattle.model.proofs.Disjoint as model
 use Rattle.model.proofs.NoRoom as rules
 use Rattle.model.proofs.Looked as looked
@@ -34,19 +38,20 @@ use Rattle.model.proofs.ReadOff.{ReadOff, read-off}
 use Rattle.model.proofs.BoundMet as met
 use Rattle.model.proofs.NoRoom.{Short}
 use Rattle.history.specs.Demand.{Demand3, LedgerAgrees}
+use Rattle.history.specs.Holdings.{HoldingsTold}
 use Rattle.history.specs.Rows.{Row}
 use Rattle.model.proofs.Answers.{refused-number, refusal-refused, refusal-told, denial-told, grant-told}
-use Rattle.history.proofs.Theorem.{demand-3, ledger-agrees}
+use Rattle.history.proofs.Theorem.{demand-3, ledger-agrees, holdings-told}
 use Rattle.history.proofs.Second as second
-use Rattle.metadata.specs.Encoding.{encode, BeginsWith}
-use Rattle.metadata.specs.Decoding.{stateOf}
-use Rattle.metadata.proofs.States.{stateOf-some}
+use Rattle.account.specs.Encoding.{accountEncoding, BeginsWith}
+use Rattle.account.specs.Decoding.{accountOf}
+use Rattle.account.proofs.Accounts.{accountOf-some}
 use Rattle.slab.specs.Arena.{pagesOf}
-use Rattle.slab.specs.Calls.{viewOf, written, answerOf, metaAfter, listedOf, textAfter, extent}
-use Rattle.slab.proofs.Words.{holding-of, by-state, written-later, view-after, after-is, same-length, refused-same}
-use Rattle.slab.proofs.Words.{query-same, listing-same, unserved-answer, served-long, served-answer, served-words, holding-long}
+use Rattle.slab.specs.Calls.{viewOf, stateOf, written, answerOf, metaAfter, listedOf, textAfter, heldIn, fetchedIf, listAfter, extent}
+use Rattle.slab.proofs.Words.{following, holding-of, by-account, standing, by-state, written-later, view-after, after-is, same-length, refused-same}
+use Rattle.slab.proofs.Words.{query-same, listing-same, unserved-answer, served-long, served-answer, served-words, holdings-same}
 use Rattle.slab.proofs.Fresh.{no-pages, many-pages, short-answer, fresh-done, fresh-words}
-use Rattle.slab.proofs.Front.{front-state, front-alone}
+use Rattle.slab.proofs.Front.{front-account, front-alone}
 use Rattle.model.proofs.Aligned as aligned
 use Rattle.model.proofs.Aligned.{Aligned}
 use Rattle.metadata.proofs.States.{all-writable}
@@ -57,16 +62,22 @@ use Rattle.listing.proofs.Lengths as lengths
 pub refused-unchanged : (w : List ℕ) (c : Command) → 0 < (reading (answerOf w c)) .refusal → metaAfter w c ≡ w
 refused-unchanged w c r = refused-same w c (refused-number (answerOf w c) .1 r)
 
--- Nor do query and listing, whatever they answer.
+-- Nor do query, listing and holdings, whatever they answer.
 pub query-unchanged : (w : List ℕ) (o : ℕ) → metaAfter w (act (query o)) ≡ w
 query-unchanged w o = query-same w o
 
 pub listing-unchanged : (w : List ℕ) (n : ℕ) → metaAfter w (act (listing n)) ≡ w
 listing-unchanged w n = listing-same w n
 
+pub holdings-unchanged : (w : List ℕ) (n : ℕ) → metaAfter w (act (holdings n)) ≡ w
+holdings-unchanged w n = holdings-same w n
+
 -- Demand 1: words behind those of the arena are as they were after every call, ..
-pub later-unchanged : (w : List ℕ) (c : Command) (s : State) → stateOf (metaAfter w c) ≡ some s → (k : ℕ) → wordsFor (total (s .segments)) ≤ k → drop k (metaAfter w c) ≡ drop k w
-later-unchanged w c s e k h = ap (drop k) (after-is w c ∙ ap (λ x. written w x) e) ∙ written-later w s (holding-of (metaAfter w c) s e .valid) k h
+pub later-unchanged : (w : List ℕ) (c : Command) (s : State) → stateOf (metaAfter w c) ≡ some s → (k : ℕ) → allWords (total (s .segments)) ≤ k → drop k (metaAfter w c) ≡ drop k w
+later-unchanged w c s e k h =
+    let t = standing (metaAfter w c) s e in
+    let v = holding-of (metaAfter w c) (t .account) (t .encoded) .valid in
+    ap (drop k) (after-is w c ∙ ap (λ y. written w y) (t .encoded)) ∙ written-later w (t .account) v k (omega (arith, ap (λ r. total (r .segments)) (t .state)))
 
 -- .. there are as many words as before, ..
 pub length-unchanged : (w : List ℕ) (c : Command) → length (metaAfter w c) ≡ length w
@@ -80,7 +91,11 @@ later-unread w c k h = front-alone w c k h
 
 pub later-unread-text : (w b : List ℕ) (k : ℕ) → extent w (act (listing (length b))) ≤ k → textAfter w b ≡ textAfter (take k w) b
 unfolding textAfter
-later-unread-text w b k h = ap (λ x. listedOf x b) (sym (front-state w k h))
+later-unread-text w b k h = ap (λ x. listedOf x b) (sym (front-account w k h))
+
+pub later-unread-list : (w : List ℕ) (l : List Holding) (k : ℕ) → extent w (act (holdings (length l))) ≤ k → listAfter w l ≡ listAfter (take k w) l
+unfolding listAfter
+later-unread-list w l k h = ap (λ y. heldIn y l) (sym (front-account w k h))
 
 -- An init reads no word at all: it is refused by 1 for a number of pages that no arena has, by 2 if there are fewer words than the
 -- arena needs, and else sets them up, whatever they held.
@@ -88,28 +103,29 @@ pub init-bad-pages : (w : List ℕ) (n : ℕ) → (n ≡ 0) ⊎ (mostPages < n) 
 init-bad-pages w n (inl z) = ap reading (sym (no-pages w n z .0))
 init-bad-pages w n (inr h) = ap reading (sym (many-pages w n h .0))
 
-pub init-few-words : (w : List ℕ) (n : ℕ) → 1 ≤ n → n ≤ mostPages → length w < wordsFor n → RefusedBy 2 (answerOf w (init n))
-init-few-words w n a b h = ap reading (sym (short-answer w n (λ z. omega arith) b (wordsFor n) refl h))
+pub init-few-words : (w : List ℕ) (n : ℕ) → 1 ≤ n → n ≤ mostPages → length w < allWords n → RefusedBy 2 (answerOf w (init n))
+init-few-words w n a b h = ap reading (sym (short-answer w n (λ z. omega arith) b (allWords n) refl h))
 
-pub init-fresh : (w : List ℕ) (n : ℕ) → 1 ≤ n → n ≤ mostPages → wordsFor n ≤ length w →
-    (answerOf w (init n) ≡ Done) × (metaAfter w (init n) ≡ encode (freshState n) ++ drop (wordsFor n) w)
+pub init-fresh : (w : List ℕ) (n : ℕ) → 1 ≤ n → n ≤ mostPages → allWords n ≤ length w →
+    (answerOf w (init n) ≡ Done) × (metaAfter w (init n) ≡ accountEncoding (freshAccount n) ++ drop (allWords n) w)
 init-fresh w n a b h =
     let there : (n ≡ 0 → ⊥) = λ z. omega arith in
-    let f = fresh-done w n there b (wordsFor n) refl h in
-    (sym (f .0), sym (f .1) ∙ ap (λ k. encode (freshState n) ++ drop k w) (fresh-words w n there b (wordsFor n) refl))
+    let f = fresh-done w n there b (allWords n) refl h in
+    (sym (f .0), sym (f .1) ∙ ap (λ k. accountEncoding (freshAccount n) ++ drop k w) (fresh-words w n there b (allWords n) refl))
 
--- Any other call is refused by 3 on words that begin with no valid state's, a request with the count 0 (`refusalOf`), ..
-pub no-state-refused : (w : List ℕ) → ((s : State) → Valid s → BeginsWith w s → ⊥) → (a : Action) →
+-- Any other call is refused by 3 on words that begin with no valid account's, a request with the count 0 (`refusalOf`), ..
+pub no-state-refused : (w : List ℕ) → ((x : Account) → ValidAccount x → BeginsWith w x → ⊥) → (a : Action) →
     (answerOf w (act a) ≡ refusalOf a NoState) × (metaAfter w (act a) ≡ w)
 no-state-refused w f a = (no, refused-same w (act a) (ap isRefused no ∙ refusal-refused a NoState))
   where
     no : answerOf w (act a) ≡ refusalOf a NoState
-    no = unserved-answer w (by-state (λ x. x ≡ none) w (λ _. refl) (λ s _ h. absurd (f s (h .valid) (h .begins)))) a
+    no = unserved-answer w (by-account (λ y. y ≡ none) w (λ _. refl) (λ x _ h. absurd (f x (h .valid) (h .begins)))) a
 
--- .. and served on words that do: the answer is that of the rules on that state, and the words are those of the state that they leave.
-pub state-served : (w : List ℕ) (s : State) → Valid s → BeginsWith w s → (a : Action) →
-    (answerOf w (act a) ≡ (serve s a) .answer) × (metaAfter w (act a) ≡ encode ((serve s a) .after) ++ drop (length (encode s)) w)
-state-served w s v b a = (served-answer w s v b a, served-words w s v b a ∙ ap (λ k. encode ((serve s a) .after) ++ drop k w) (served-long s v a))
+-- .. and served on words that do: the answer is that of the rules on that account's state, and the words are those of the account that
+-- follows with the state that they leave.
+pub state-served : (w : List ℕ) (x : Account) → ValidAccount x → BeginsWith w x → (a : Action) →
+    (answerOf w (act a) ≡ (serve (x .state) a) .answer) × (metaAfter w (act a) ≡ accountEncoding (accounted x ((serve (x .state) a) .after)) ++ drop (length (accountEncoding x)) w)
+state-served w x v b a = (served-answer w x v b a, served-words w x v b a ∙ ap (λ k. accountEncoding (following x a) ++ drop k w) (served-long x v a))
 
 -- Demand 3, for any list of calls on lent words: see specs/Demand.antt of the crate history.
 pub words-demand-3 : Demand3 (List ℕ) viewOf metaAfter answerOf
@@ -121,14 +137,42 @@ pub words-ledger-agrees : LedgerAgrees (List ℕ) viewOf metaAfter answerOf
 unfolding answerOf
 words-ledger-agrees = ledger-agrees (List ℕ) viewOf metaAfter answerOf view-after (λ w c. refl)
 
+-- What each group holds (document 02, c). Of words that encode an account the list of twelve is filled with the account's records, ..
+fetched-answer : (w : List ℕ) (x : Account) → accountOf w ≡ some x → (n : ℕ) → answerOf w (act (holdings n)) ≡ fetchedIf (eqb n mostGroup)
+fetched-answer w x e n = let k = holding-of w x e in served-answer w x (k .valid) (k .begins) (holdings n) ∙ bool (eqb n mostGroup) (λ t. rw t) (λ t. rw t)
+
+pub holdings-fetched : (w : List ℕ) (x : Account) → accountOf w ≡ some x → (l : List Holding) → length l ≡ mostGroup →
+    (answerOf w (act (holdings (length l))) ≡ Done) × (listAfter w l ≡ holdingsOf x)
+unfolding listAfter
+holdings-fetched w x e l h =
+    let twelve = eq-eqb (length l) mostGroup h in
+    (fetched-answer w x e (length l) ∙ ap fetchedIf twelve, ap (λ y. heldIn y l) e ∙ ap (λ t. cond t (holdingsOf x) l) twelve)
+
+-- .. a list of another length is refused by 9, where the words encode an account, ..
+pub holdings-bad-list : (w : List ℕ) (x : Account) → accountOf w ≡ some x → (l : List Holding) → (length l ≡ mostGroup → ⊥) → RefusedBy 9 (answerOf w (act (holdings (length l))))
+holdings-bad-list w x e l h = ap reading (fetched-answer w x e (length l) ∙ ap fetchedIf (ne-eqb (length l) mostGroup h))
+
+-- .. and a refused call leaves the list as it was, whatever the words. ..
+pub refused-list : (w : List ℕ) (l : List Holding) → 0 < (reading (answerOf w (act (holdings (length l))))) .refusal → listAfter w l ≡ l
+unfolding listAfter
+refused-list w l r = by-account (λ y. heldIn y l ≡ l) w (λ _. refl) (λ x e k. bool (eqb (length l) mostGroup)
+    (λ t. absurd (omega (arith, ap (λ a. reading a .refusal) (fetched-answer w x e (length l) ∙ ap fetchedIf t))))
+    (λ t. ap (λ b. cond b (holdingsOf x) l) t))
+
+-- .. "Since the start": after a start that is not refused, and any calls on the words without a further start that is not, the account that
+-- they encode has of every group the blocks and bytes of the ledger, and the greatest of the bytes held at all moments since.
+pub words-holdings-told : HoldingsTold (List ℕ) viewOf metaAfter answerOf
+unfolding answerOf
+words-holdings-told = holdings-told (List ℕ) viewOf metaAfter answerOf view-after (λ w c. refl)
+
 -- Live blocks lie inside the arena, ..
 pub inside-arena : (w : List ℕ) (s : State) → stateOf w ≡ some s → (o : ℕ) (b : Block) → blockAt (pageMap s) o ≡ some b → o + roomOf b ≤ total (s .segments) * pageBytes
-inside-arena w s e o b f = model.inside-arena s (holding-of w s e .valid) o b f
+inside-arena w s e o b f = model.inside-arena s (standing w s e .valid) o b f
 
 -- .. and never share a byte: two blocks that hold the byte x are one.
 pub never-share : (w : List ℕ) (s : State) → stateOf w ≡ some s → (o q : ℕ) (b c : Block) → blockAt (pageMap s) o ≡ some b → blockAt (pageMap s) q ≡ some c →
     (x : ℕ) → o ≤ x → x < o + roomOf b → q ≤ x → x < q + roomOf c → (o ≡ q) × (b ≡ c)
-never-share w s e o q b c f g x i j k l = model.never-share s (holding-of w s e .valid) o q b c f g x i j k l
+never-share w s e o q b c f g x i j k l = model.never-share s (standing w s e .valid) o q b c f g x i j k l
 
 -- A group's request of n bytes.
 abbrev pub request : ℕ → ℕ → Action
@@ -138,11 +182,10 @@ request g n = group (record { group = g; operation = Allocate n })
 -- run of the page map that trim would leave has as many (`Short`), ..
 no-room-on : (w : List ℕ) (s : State) → stateOf w ≡ some s → (g n : ℕ) → DeniedBy 6 (answerOf w (act (request g n))) ↔ Short s g n
 no-room-on w s e g n =
-    let h = holding-of w s e in
-    let told = served-answer w s (h .valid) (h .begins) (request g n) in
+    let told = standing w s e .answers (request g n) in
     (λ r. rules.no-room s g n .0 (subst (DeniedBy 6) told r), λ k. subst (DeniedBy 6) (sym told) (rules.no-room s g n .1 k))
 
-no-room-without : (w : List ℕ) (g n : ℕ) → stateOf w ≡ none → DeniedBy 6 (answerOf w (act (request g n))) → ⊥
+no-room-without : (w : List ℕ) (g n : ℕ) → accountOf w ≡ none → DeniedBy 6 (answerOf w (act (request g n))) → ⊥
 no-room-without w g n e r =
     let u = sym (unserved-answer w e (request g n)) ∙ denial-told NoRoom (answerOf w (act (request g n))) .0 r .1 in
     let z : _≡_ {A = ℕ} 0 1 = cc in omega arith
@@ -154,25 +197,27 @@ no-room w g n = by-state (λ x. DeniedBy 6 (answerOf w (act (request g n))) ↔ 
 
 -- .. so a trim before it does not help, nor does it harm: it is refused by 6 after a trim just if it is without one, ..
 pub trim-needless : (w : List ℕ) (g n : ℕ) → DeniedBy 6 (answerOf w (act (request g n))) ↔ DeniedBy 6 (answerOf (metaAfter w (act trim)) (act (request g n)))
-trim-needless w g n = go (stateOf w) refl
+trim-needless w g n = go (accountOf w) refl
   where
-    after : (x : Option State) → stateOf w ≡ x → stateOf (metaAfter w (act trim)) ≡ (onState (viewOf w) trim x) .after .state
-    after x e = ap (λ m. m .state) (view-after w (act trim)) ∙ ap (λ x. (onState (viewOf w) trim x) .after .state) e
+    after : (y : Option Account) → accountOf w ≡ y → accountOf (metaAfter w (act trim)) ≡ (onAccount (viewOf w) trim y) .after .account
+    after y e = ap (λ m. m .account) (view-after w (act trim)) ∙ ap (λ y. (onAccount (viewOf w) trim y) .after .account) e
 
-    go : (x : Option State) → stateOf w ≡ x → DeniedBy 6 (answerOf w (act (request g n))) ↔ DeniedBy 6 (answerOf (metaAfter w (act trim)) (act (request g n)))
+    go : (y : Option Account) → accountOf w ≡ y → DeniedBy 6 (answerOf w (act (request g n))) ↔ DeniedBy 6 (answerOf (metaAfter w (act trim)) (act (request g n)))
     go none e = (λ r. absurd (no-room-without w g n e r), λ r. absurd (no-room-without (metaAfter w (act trim)) g n (after none e ∙ e) r))
-    go (some s) e =
-        let here = no-room-on w s e g n in
-        let there = no-room-on (metaAfter w (act trim)) (trimmed s) (after (some s) e) g n in
-        let same = second.short-trimmed s (holding-of w s e .valid) g n in
+    go (some x) e =
+        let s = x .state in
+        let on : stateOf w ≡ some s = ap (Option·map (λ a. a .state)) e in
+        let here = no-room-on w s on g n in
+        let there = no-room-on (metaAfter w (act trim)) (trimmed s) (ap (Option·map (λ a. a .state)) (after (some x) e)) g n in
+        let same = second.short-trimmed s (standing w s on .valid) g n in
         (λ r. there .1 (same .0 (here .0 r)), λ r. here .1 (same .1 (there .0 r)))
 
 -- .. and the empty board does not say no: where no block is live, it is granted if the arena has the pages that it needs.
 pub empty-board : (w : List ℕ) (s : State) → stateOf w ≡ some s → ((o : ℕ) → blockAt (pageMap s) o ≡ none) → (g n : ℕ) → groupOk g ≡ true → sizeOk n ≡ true →
     ((k : ℕ) → needed n s ≡ some k → k ≤ total (s .segments)) → (o : ℕ) × GrantedAt o (answerOf w (act (request g n)))
 empty-board w s e bare g n t u enough =
-    let h = holding-of w s e in
-    let told = served-answer w s (h .valid) (h .begins) (request g n) in
+    let h = standing w s e in
+    let told = h .answers (request g n) in
     let k = second.empty-board s (h .valid) bare g n t u enough in
     (k .0, subst (GrantedAt (k .0)) (sym told) (k .1))
 
@@ -182,22 +227,21 @@ pub no-row : (w : List ℕ) (s : State) → stateOf w ≡ some s → (g n : ℕ)
     DeniedBy 6 (answerOf w (act (request g n))) ↔ (Row (pagesFor n) (pageMap s) → ⊥)
 no-row w s e g n h t u =
     let here = no-room-on w s e g n in
-    let rows = second.no-row s (holding-of w s e .valid) g n h t u in
+    let rows = second.no-row s (standing w s e .valid) g n h t u in
     (λ r. rows .0 (rules.no-room s g n .1 (here .0 r)), λ f. here .1 (rules.no-room s g n .0 (rows .1 f)))
 
 -- How far a request looks (document 02, b). Its answer has a count, whatever the words: that of the searches for the pages that it needs,
 -- where the words encode a state and its group and size are legal; else 0. ..
 pub request-looks : (w : List ℕ) (s : State) → stateOf w ≡ some s → (g n : ℕ) →
     lookedOf (answerOf w (act (request g n))) ≡ some (cond (groupOk g && sizeOk n) (looksFor (needed n s) s) 0)
-request-looks w s e g n = let h = holding-of w s e in ap lookedOf (served-answer w s (h .valid) (h .begins) (request g n)) ∙ looked.counted s g n
+request-looks w s e g n = ap lookedOf (standing w s e .answers (request g n)) ∙ looked.counted s g n
 
 -- .. Where it needs pages, the count can be read off the listings as they are and as trim would leave them: it is the number of the line
 -- that tells the run which is taken, or that of all lines. ..
 pub request-read-off : (w : List ℕ) (s : State) → stateOf w ≡ some s → (g n k : ℕ) → groupOk g ≡ true → sizeOk n ≡ true → needed n s ≡ some k →
     ReadOff s k (answerOf w (act (request g n)))
 request-read-off w s e g n k t u f =
-    let h = holding-of w s e in
-    subst (ReadOff s k) (sym (served-answer w s (h .valid) (h .begins) (request g n))) (read-off s g n k t u f)
+    subst (ReadOff s k) (sym (standing w s e .answers (request g n))) (read-off s g n k t u f)
 
 -- .. No other call's answer has a count of runs, refused or not. ..
 pub others-uncounted : (w : List ℕ) (c : Command) → ((g n : ℕ) → c ≡ act (request g n) → ⊥) → lookedOf (answerOf w c) ≡ none
@@ -207,22 +251,24 @@ others-uncounted w c f = looked.uncounted (viewOf w) c f
 -- .. One search looks at no more runs than half of the pages, rounded up, in the state as it is or as trim would leave it, ..
 pub search-bounded : (w : List ℕ) (s : State) → stateOf w ≡ some s → (n : ℕ) →
     (searched n s .looked ≤ mostLooked (total (s .segments))) × (searched n (trimmed s) .looked ≤ mostLooked (total (s .segments)))
-search-bounded w s e n = let v = holding-of w s e .valid in (looked.search-bounded s v n, looked.second-bounded s v n)
+search-bounded w s e n = let v = standing w s e .valid in (looked.search-bounded s v n, looked.second-bounded s v n)
 
 -- .. and a request at no more than twice that: at none, where the words encode no state. ..
 pub request-bounded : (w : List ℕ) (g n : ℕ) → (k : ℕ) × (lookedOf (answerOf w (act (request g n))) ≡ some k) × (k ≤ 2 * mostLooked (pagesOf (stateOf w)))
 request-bounded w g n = by-state (λ x. (k : ℕ) × (lookedOf (answerOf w (act (request g n))) ≡ some k) × (k ≤ 2 * mostLooked (pagesOf x))) w
     (λ e. (0, ap lookedOf (unserved-answer w e (request g n)), omega arith))
-    (λ s e h. let b = looked.request-bounded s (h .valid) g n in (b .0, ap lookedOf (served-answer w s (h .valid) (h .begins) (request g n)) ∙ b .1, b .2))
+    (λ s e h. let b = looked.request-bounded s (h .valid) g n in (b .0, ap lookedOf (h .answers (request g n)) ∙ b .1, b .2))
 
 -- .. Both bounds are met, in arenas of any number of pages, odd or even.
 pub bounds-met : (n : ℕ) → 1 ≤ n → n ≤ mostPages → (w : List ℕ) × (s : State) × (stateOf w ≡ some s) × (total (s .segments) ≡ n)
     × (searched 2 s .looked ≡ mostLooked n) × (answerOf w (act (request 1 8192)) ≡ Denied NoRoom (2 * mostLooked n))
 bounds-met n a b =
     let s = met.combed n in
-    let v = met.comb-valid n a b in
-    let here : BeginsWith (encode s) s = take-all (length (encode s)) (encode s) (omega arith) in
-    (encode s, s, stateOf-some (encode s) s v here, met.comb-total n, met.search-met n, served-answer (encode s) s v here (request 1 8192) ∙ met.request-met n)
+    let x : Account = accounted (freshAccount n) s in
+    let v = accounted-valid (freshAccount n) (fresh-account n a b) s (met.comb-valid n a b) (met.comb-total n ∙ omega arith) in
+    let w = accountEncoding x in
+    let here : BeginsWith w x = take-all (length w) w (omega arith) in
+    (w, s, ap (Option·map (λ a. a .state)) (accountOf-some w x v here), met.comb-total n, met.search-met n, served-answer w x v here (request 1 8192) ∙ met.request-met n)
 
 -- A live block begins at a multiple of every number that divides a page's bytes and the block's room, ..
 pub block-aligned : (w : List ℕ) (s : State) → stateOf w ≡ some s → (o : ℕ) (b : Block) → blockAt (pageMap s) o ≡ some b → (d : ℕ) → pageBytes % d ≡ 0 → roomOf b % d ≡ 0 → o % d ≡ 0
@@ -234,24 +280,23 @@ grant-aligned w g n o h =
     let e = grant-told o (answerOf w (act (request g n))) .0 h in
     by-state (λ _. Aligned n o) w
     (λ f. absurd (let u = sym (unserved-answer w f (request g n)) ∙ e .1 in let z : _≡_ {A = ℕ} 0 1 = cc in omega arith))
-    (λ s _ h. aligned.grant-aligned s (h .valid) g n o (e .0) (sym (served-answer w s (h .valid) (h .begins) (request g n)) ∙ e .1))
+    (λ s _ h. aligned.grant-aligned s (h .valid) g n o (e .0) (sym (h .answers (request g n)) ∙ e .1))
 
 -- A listing has at most as many bytes as that of as many direct blocks of one page, of group 12, as the arena has pages, ..
 pub listing-longest : (w : List ℕ) (s : State) → stateOf w ≡ some s → length (listingText (pageMap s)) ≤ longest (total (s .segments))
-listing-longest w s e = let v = holding-of w s e .valid in lengths.listing-longest (s .segments) (all-writable false (s .segments) (v .apart) (v .sound))
+listing-longest w s e = let v = standing w s e .valid in lengths.listing-longest (s .segments) (all-writable false (s .segments) (v .apart) (v .sound))
 
 -- .. which are 2,220 at most, and no more than those of p pages where there are no more words than p pages need.
 pub longest-any : (w : List ℕ) (s : State) → stateOf w ≡ some s → longest (total (s .segments)) ≤ 2220
-longest-any w s e = omega (arith, lengths.longest-grows (total (s .segments)) mostPages (holding-of w s e .valid .most), lengths.longest-figures .1)
+longest-any w s e = omega (arith, lengths.longest-grows (total (s .segments)) mostPages (standing w s e .valid .most), lengths.longest-figures .1)
 
-pub longest-few : (w : List ℕ) (s : State) → stateOf w ≡ some s → (p : ℕ) → length w ≤ wordsFor p → longest (total (s .segments)) ≤ longest p
-longest-few w s e p h = lengths.longest-grows (total (s .segments)) p (omega (arith, holding-long w s (holding-of w s e)))
+pub longest-few : (w : List ℕ) (s : State) → stateOf w ≡ some s → (p : ℕ) → length w ≤ allWords p → longest (total (s .segments)) ≤ longest p
+longest-few w s e p h = lengths.longest-grows (total (s .segments)) p (omega (arith, standing w s e .long))
 
 -- A buffer of so many bytes is answered with the listing's length, ..
 pub listing-answered : (w : List ℕ) (s : State) → stateOf w ≡ some s → (n : ℕ) → longest (total (s .segments)) ≤ n → answerOf w (act (listing n)) ≡ Counted (length (listingText (pageMap s)))
-unfolding answerOf
 listing-answered w s e n h =
-    ap (λ x. (onState (viewOf w) (listing n) x) .answer) e
+    standing w s e .answers (listing n)
     ∙ rw (le-leb (length (listingText (pageMap s))) n (omega (arith, listing-longest w s e)))
 
 -- .. so 2,220 bytes are never too few, whatever the words, nor are those of p such blocks where there are no more words than p pages need.
@@ -265,5 +310,5 @@ enough w n h k =
 pub never-short : (w : List ℕ) (n : ℕ) → 2220 ≤ n → RefusedBy 12 (answerOf w (act (listing n))) → ⊥
 never-short w n h = enough w n (λ s e. omega (arith, longest-any w s e))
 
-pub never-short-few : (w : List ℕ) (n p : ℕ) → length w ≤ wordsFor p → longest p ≤ n → RefusedBy 12 (answerOf w (act (listing n))) → ⊥
+pub never-short-few : (w : List ℕ) (n p : ℕ) → length w ≤ allWords p → longest p ≤ n → RefusedBy 12 (answerOf w (act (listing n))) → ⊥
 never-short-few w n p few h = enough w n (λ s e. omega (arith, longest-few w s e p few))

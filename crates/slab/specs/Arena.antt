@@ -4,16 +4,27 @@ use mathlib.Core.Path.{_≡_}
 use mathlib.Core.List.{List}
 use mathlib.Core.Option.{Option, none, some}
 use mathlib.Core.Bool.{true}
+use Rattle.model.specs.declared.Answer.{Answer}
+use Rattle.model.specs.declared.Answer.the-variants.{Granted, Denied, Refused, Done, Counted, Block}
 use Rattle.model.specs.Arena.{total}
 use Rattle.model.specs.State.{State}
-use Rattle.metadata.specs.Decoding.{decode, isState}
+use Rattle.account.specs.Decoding.{accountIn, isAccount}
 
 -- The pages of the arena, 0 where there is none.
 abbrev pub pagesOf : Option State → ℕ
 pagesOf none = 0
 pagesOf (some s) = total (s .segments)
 
--- The words begin with those of a valid state of n pages.
+-- The words begin with those of a valid account of n pages.
 pub record Arena (w : List ℕ) (n : ℕ) : Type 0 where
-  pub state : isState w ≡ true
-  pub pages : n ≡ total (decode w .segments)
+  pub account : isAccount w ≡ true
+  pub pages : n ≡ total (accountIn w .state .segments)
+
+-- The room that an answer tells of a block, 0 where it tells of none.
+abbrev pub roomTold : Answer → ℕ
+roomTold (Granted o n) = 0
+roomTold (Denied k n) = 0
+roomTold (Refused k) = 0
+roomTold Done = 0
+roomTold (Counted n) = 0
+roomTold (Block g r) = r

@@ -1,29 +1,35 @@
-// The public calls. Any words may be lent: every call but `init` first checks that they begin with the words of a valid state, and is
-// refused otherwise. specs/Calls.antt says what each call answers and leaves; proofs/Promises.antt what follows from it.
+// The public calls. Any words may be lent: every call but `init` first checks that they begin with the words of a valid account, and is
+// refused otherwise. specs/Calls.antt says what each call answers and leaves; proofs/Promises.antt what follows from it. A group's call
+// that is not refused steps the figures of that group, and no others.
 ghost use mathlib.Core.Path.{_≡_};
 ghost use lib.ListN.{length};
 ghost use Rattle.model.specs.Calls as rules;
 ghost use Rattle.model.specs.Calls.{toldBy};
+ghost use Rattle.model.specs.declared.Answer.the-variants.{Refused};
 ghost use Rattle.model.specs.declared.Operation.the-variants as operation;
 ghost use Rattle.model.specs.declared.Refusal.the-variants as refusal;
-ghost use Rattle.metadata.specs.Decoding.{stateOf};
-ghost use Rattle.slab.specs.Calls.{answerOf, metaAfter, textAfter};
-ghost use Rattle.slab.specs.Arena.{pagesOf, Arena};
+ghost use Rattle.slab.specs.Calls.{stateOf, answerOf, metaAfter, textAfter, fetchedIf, listAfter};
+ghost use Rattle.slab.specs.Arena.{pagesOf, Arena, roomTold};
 use model::Answer;
 use model::Call;
+use model::Holding;
 use model::Operation;
 use model::Refusal;
+use model::numbers::FIGURE_WORDS;
 use model::numbers::HEADER_WORDS;
 use model::numbers::MOST_PAGES;
 
-// The pages of the arena with whose words the words begin, 0 where they do not begin with the words of a valid state.
+// The words in front of those of the pages.
+const FIXED_WORDS: usize = FIGURE_WORDS + HEADER_WORDS;
+
+// The pages of the arena with whose words the words begin, 0 where they do not begin with the words of a valid account.
 fn arena_pages(meta: &[u32]) -> usize
     ensures { λ r. ⌜ r ≡ pagesOf (stateOf (now (meta .entry))) ⌝ }
 {
-    if !metadata::check(meta) {
+    if !account::check(meta) {
         return 0;
     }
-    metadata::pages(meta)
+    account::pages(meta)
 }
 
 // Sets the words up for an arena of so many pages, all free, whatever the words held.
@@ -37,11 +43,11 @@ pub fn init(meta: &mut [u32], pages: u32) -> Answer
     if MOST_PAGES < pages {
         return Answer::Refused(Refusal::BadPages);
     }
-    let e = metadata::words_for(pages as usize);
+    let e = account::words_for(pages as usize);
     if meta.len() < e {
         return Answer::Refused(Refusal::FewWords);
     }
-    metadata::set_up(&mut meta[..e], pages);
+    account::set_up(&mut meta[..e], pages);
     Answer::Done
 }
 
@@ -54,8 +60,8 @@ pub fn trim(meta: &mut [u32]) -> Answer
     if n == 0 {
         return Answer::Refused(Refusal::NoState);
     }
-    let e = metadata::words_for(n);
-    let count = trim::trim_all(&mut meta[..e], n);
+    let e = account::words_for(n);
+    let count = trim::trim_all(&mut meta[FIGURE_WORDS..e], n);
     Answer::Counted(count)
 }
 
@@ -68,8 +74,8 @@ pub fn query(meta: &mut [u32], offset: u32) -> Answer
     if n == 0 {
         return Answer::Refused(Refusal::NoState);
     }
-    let e = metadata::words_for(n);
-    blocks::describe(&meta[..e], n, offset)
+    let e = account::words_for(n);
+    blocks::describe(&meta[FIGURE_WORDS..e], n, offset)
 }
 
 // Writes the arena's listing to the front of the buffer, if it has room for all of it, and answers the listing's bytes. The words are
@@ -83,8 +89,38 @@ pub fn listing(meta: &mut [u32], text: &mut [u8]) -> Answer
     if n == 0 {
         return Answer::Refused(Refusal::NoState);
     }
-    let e = metadata::words_for(n);
-    listing::list_into(&meta[HEADER_WORDS..e], n, text)
+    let e = account::words_for(n);
+    listing::list_into(&meta[FIXED_WORDS..e], n, text)
+}
+
+// The answer once the list of the holdings was to be filled.
+fn fetched(filled: bool) -> Answer
+    ensures { λ r. ⌜ r ≡ fetchedIf filled ⌝ }
+{
+    if filled {
+        return Answer::Done;
+    }
+    Answer::Refused(Refusal::BadList)
+}
+
+// Refusal 3, as the holdings are told it.
+fn unread() -> Answer
+    ensures { λ r. ⌜ r ≡ Refused refusal.NoState ⌝ }
+{
+    Answer::Refused(Refusal::NoState)
+}
+
+// Writes what each group holds, group 1 first, to the list, if it has as many records as there are groups. The words are only read. (The
+// list is a slice of structs, which the borrow checker does not cover: the proof is a walk of the function's MIR, by hand.)
+pub fn holdings(meta: &[u32], list: &mut [Holding]) -> Answer
+    ensures { λ r. ⌜ r ≡ answerOf (now (meta .entry)) (rules.act (rules.holdings (length (now (list .entry))))) ⌝ }
+    ensures { λ _. ⌜ now (list .exit) ≡ listAfter (now (meta .entry)) (now (list .entry)) ⌝ }
+{
+    if account::check(meta) {
+        let filled = figures::fill(meta, list);
+        return fetched(filled);
+    }
+    unread()
 }
 
 // The group is granted a block of so many bytes.
@@ -93,8 +129,28 @@ fn allocate_in(meta: &mut [u32], n: usize, group: u32, size: u32) -> Answer
     ensures { λ r. ⌜ r ≡ answerOf (now (meta .entry)) (rules.act (rules.group (record { group = group; operation = operation.Allocate size }))) ⌝ }
     ensures { λ _. ⌜ now (meta .exit) ≡ metaAfter (now (meta .entry)) (rules.act (rules.group (record { group = group; operation = operation.Allocate size }))) ⌝ }
 {
-    let e = metadata::words_for(n);
-    allocate::allocate(&mut meta[..e], n, group, size)
+    let e = account::words_for(n);
+    let answer = allocate::allocate(&mut meta[FIGURE_WORDS..e], n, group, size);
+    if model::is_refused(answer) {
+        return answer;
+    }
+    let index = model::wide(group) - 1;
+    figures::steps::add(&mut meta[..FIGURE_WORDS], index, allocate::room_for(size));
+    answer
+}
+
+// The room that an answer tells of a block, 0 where it tells of none.
+fn room_told(answer: Answer) -> u32
+    ensures { λ r. ⌜ r ≡ roomTold answer ⌝ }
+{
+    match answer {
+        Answer::Granted { offset, looked } => 0,
+        Answer::Denied { refusal, looked } => 0,
+        Answer::Refused(refusal) => 0,
+        Answer::Done => 0,
+        Answer::Counted(count) => 0,
+        Answer::Block(group, room) => room,
+    }
 }
 
 // The group's block that begins at the offset comes back.
@@ -103,8 +159,15 @@ fn free_in(meta: &mut [u32], n: usize, group: u32, offset: u32) -> Answer
     ensures { λ r. ⌜ r ≡ answerOf (now (meta .entry)) (rules.act (rules.group (record { group = group; operation = operation.Free offset }))) ⌝ }
     ensures { λ _. ⌜ now (meta .exit) ≡ metaAfter (now (meta .entry)) (rules.act (rules.group (record { group = group; operation = operation.Free offset }))) ⌝ }
 {
-    let e = metadata::words_for(n);
-    free::free(&mut meta[..e], n, group, offset)
+    let e = account::words_for(n);
+    let room = room_told(blocks::describe(&meta[FIGURE_WORDS..e], n, offset));
+    let answer = free::free(&mut meta[FIGURE_WORDS..e], n, group, offset);
+    if model::is_refused(answer) {
+        return answer;
+    }
+    let index = model::wide(group) - 1;
+    figures::steps::take(&mut meta[..FIGURE_WORDS], index, room);
+    answer
 }
 
 // All the group's blocks come back.
@@ -113,8 +176,14 @@ fn reset_in(meta: &mut [u32], n: usize, group: u32) -> Answer
     ensures { λ r. ⌜ r ≡ answerOf (now (meta .entry)) (rules.act (rules.group (record { group = group; operation = operation.Reset }))) ⌝ }
     ensures { λ _. ⌜ now (meta .exit) ≡ metaAfter (now (meta .entry)) (rules.act (rules.group (record { group = group; operation = operation.Reset }))) ⌝ }
 {
-    let e = metadata::words_for(n);
-    reset::reset(&mut meta[..e], n, group)
+    let e = account::words_for(n);
+    let answer = reset::reset(&mut meta[FIGURE_WORDS..e], n, group);
+    if model::is_refused(answer) {
+        return answer;
+    }
+    let index = model::wide(group) - 1;
+    figures::steps::clear(&mut meta[..FIGURE_WORDS], index);
+    answer
 }
 
 // Refusal 3, as the group's call is told it: where a block is asked for, with the count of runs, of which none was looked at.

@@ -2,6 +2,8 @@
 //! brought to a state. Not every file uses all of it.
 #![allow(dead_code)]
 
+pub mod mixed;
+
 use reference::bench::{run, WORDS};
 use reference::calls::Allocator;
 use reference::sizes::words_needed;

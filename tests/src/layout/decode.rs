@@ -1,12 +1,15 @@
 //! From words to the state that they encode, if they do.
 //!
 //! The layout's own rules are seen to here: what stands where, which words are zero, that chunks and
-//! positions name each other. Whether what is read is a legal state is left to the second program's clauses.
+//! positions name each other. Whether what is read is a legal state, whose figures agree with its blocks,
+//! is left to the second program's clauses.
 
 use super::{
-    used_words, CLASS_LISTS, CLASS_STRIDE, DIRECT, EMPTY_LIST, ENTRY_SHIFT, HEADER_WORDS, MAGIC,
-    PAGE_WORDS, RETURNED, RUN, STATE, ZONE, ZONE_HEAD,
+    used_words, BLOCKS, CLASS_LISTS, CLASS_STRIDE, DIRECT, EMPTY_LIST, ENTRY_SHIFT, FIGURE_WORDS,
+    FIXED_WORDS, GREATEST, HELD, MAGIC, MAGIC_AT, PAGES_AT, PAGE_WORDS, RETURNED, RUN, STATE, ZONE,
+    ZONE_HEAD,
 };
+use reference::holdings::{Holding, Holdings};
 use reference::sizes::{chunk_count, CLASSES, MAX_PAGES, ZONE_PAGES};
 use reference::state::{no_lists, DirectBlock, Group, Page, Run, State, Zone};
 use reference::validity::is_valid;
@@ -17,27 +20,36 @@ use std::collections::{BTreeMap, VecDeque};
 pub fn decode(words: &[u32]) -> Option<State> {
     let pages = page_count(words)?;
     let used = words.get(..used_words(pages))?;
-    let (header, body) = used.split_at(HEADER_WORDS);
-    if !are_zero(&header[CLASS_LISTS.end..]) {
+    let (fixed, body) = used.split_at(FIXED_WORDS);
+    let unused = [GREATEST.end..FIGURE_WORDS, CLASS_LISTS.end..FIXED_WORDS];
+    if !unused.into_iter().all(|places| are_zero(&fixed[places])) {
         return None;
     }
-    let empty = entries(&header[EMPTY_LIST])?;
-    let lists = class_lists(&header[CLASS_LISTS])?;
+    let empty = entries(&fixed[EMPTY_LIST])?;
+    let lists = class_lists(&fixed[CLASS_LISTS])?;
     let Segments {
         runs,
         direct,
         zones,
     } = segments(body)?;
-    let state = State::from_parts(pages, runs, direct, zones, lists, empty.into());
+    let holdings = holdings(fixed);
+    let state = State::from_parts(pages, runs, direct, zones, lists, empty.into(), holdings);
     is_valid(&state).then_some(state)
 }
 
 /// N, which says how many words there have to be, so its range comes before everything else.
 fn page_count(words: &[u32]) -> Option<u32> {
-    match *words {
-        [MAGIC, pages, ..] if (1..=MAX_PAGES).contains(&pages) => Some(pages),
-        _ => None,
-    }
+    let (magic, pages) = (*words.get(MAGIC_AT)?, *words.get(PAGES_AT)?);
+    (magic == MAGIC && (1..=MAX_PAGES).contains(&pages)).then_some(pages)
+}
+
+/// Each group's three figures, as they stand.
+fn holdings(fixed: &[u32]) -> Holdings {
+    std::array::from_fn(|group| Holding {
+        blocks: fixed[BLOCKS][group],
+        held: fixed[HELD][group],
+        greatest: fixed[GREATEST][group],
+    })
 }
 
 /// A list's entries, each less by the one that tells it from a free place. No entry comes after a
@@ -63,7 +75,7 @@ fn class_lists(places: &[u32]) -> Option<Vec<VecDeque<Page>>> {
     Some(lists)
 }
 
-/// What the words behind the header have been found to hold.
+/// What the words of the pages have been found to hold.
 #[derive(Default)]
 struct Segments {
     runs: Vec<Run>,

@@ -1,9 +1,10 @@
 //! From a state to its words.
 
 use super::{
-    page_at, slot_at, used_words, CLASS_LISTS, CLASS_STRIDE, DIRECT, EMPTY_LIST, ENTRY_SHIFT,
-    MAGIC, RETURNED, RUN, ZONE,
+    page_at, slot_at, used_words, BLOCKS, CLASS_LISTS, CLASS_STRIDE, DIRECT, EMPTY_LIST,
+    ENTRY_SHIFT, GREATEST, HELD, MAGIC, MAGIC_AT, PAGES_AT, RETURNED, RUN, ZONE,
 };
+use reference::holdings::Holdings;
 use reference::state::{Page, State, Zone};
 
 /// The words of a state, as many as its pages use. Whether the state is legal is not looked at.
@@ -14,8 +15,9 @@ use reference::state::{Page, State, Zone};
 /// too many entries on the lists.
 pub fn encode(state: &State) -> Vec<u32> {
     let mut words = vec![0; used_words(state.pages)];
-    words[0] = MAGIC;
-    words[1] = state.pages;
+    write_figures(&mut words, &state.holdings);
+    words[MAGIC_AT] = MAGIC;
+    words[PAGES_AT] = state.pages;
     write_lists(&mut words, state);
     for run in &state.runs {
         write(&mut words, page_at(run.start), &[RUN, run.pages]);
@@ -32,6 +34,14 @@ pub fn encode(state: &State) -> Vec<u32> {
 
 fn write(words: &mut [u32], at: usize, values: &[u32]) {
     words[at..at + values.len()].copy_from_slice(values);
+}
+
+fn write_figures(words: &mut [u32], holdings: &Holdings) {
+    for (group, holding) in holdings.iter().enumerate() {
+        words[BLOCKS.start + group] = holding.blocks;
+        words[HELD.start + group] = holding.held;
+        words[GREATEST.start + group] = holding.greatest;
+    }
 }
 
 fn write_lists(words: &mut [u32], state: &State) {

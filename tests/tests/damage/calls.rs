@@ -113,7 +113,7 @@ fn any_call(state: &State, random: &mut Xorshift) -> Call {
         0 => random.pick(&[0, 1, 12, 13]),
         _ => owner,
     };
-    match random.below(16) {
+    match random.below(17) {
         0 => Call::Init {
             pages: random.pick(&[0, 1, state.pages - 1, state.pages, state.pages + 1, 257]),
         },
@@ -125,6 +125,9 @@ fn any_call(state: &State, random: &mut Xorshift) -> Call {
         11 | 12 => Call::Reset { group },
         13 => Call::Trim,
         14 => Call::Query { offset },
+        15 => Call::Holdings {
+            records: random.pick(&[12, 12, 11, 13]),
+        },
         _ => Call::Listing {
             capacity: random.pick(&[LONGEST, 100, 29, 10]),
         },

@@ -5,7 +5,8 @@ use reference::histories::Xorshift;
 use reference::sizes::chunk_count;
 use reference::state::Page;
 use tests::layout::{
-    page_at, slot_at, CLASS_LISTS, ENTRY_SHIFT, MAGIC, RETURNED, STATE, ZONE_HEAD, ZONE_SLOTS,
+    page_at, slot_at, CLASS_LISTS, EMPTY_LIST, ENTRY_SHIFT, FIGURE_WORDS, FIXED_WORDS, GREATEST,
+    MAGIC, RETURNED, STATE, ZONE_HEAD, ZONE_SLOTS,
 };
 
 /// Numbers that mean something in one place or another, the last three as both halves of a slot.
@@ -91,6 +92,26 @@ pub fn header(subject: &mut Subject, random: &mut Xorshift) {
     }
 }
 
+/// 1 or 2 of the groups' figures changed, or of the zeros behind them.
+pub fn figures(subject: &mut Subject, random: &mut Xorshift) {
+    for _ in 0..1 + random.below(2) {
+        let at = figure_place(random);
+        let old = subject.get(at);
+        let room = random.pick(&[8, 104, 4_096, 8_192]);
+        let value = match random.below(8) {
+            0 => 0,
+            1 => old.wrapping_add(random.pick(&[1, u32::MAX])),
+            2 => old.wrapping_add(room),
+            3 => old.wrapping_sub(room),
+            4 => subject.get(figure_place(random)),
+            5 => random.below(subject.state.pages * 4_096 + 2),
+            6 => subject.state.pages * 4_096 + random.below(2),
+            _ => any_value(subject, at, random),
+        };
+        subject.set(at, value);
+    }
+}
+
 /// 1 or 2 of the words with which a segment begins, or could begin, changed.
 pub fn segment_heads(subject: &mut Subject, random: &mut Xorshift) {
     for _ in 0..1 + random.below(2) {
@@ -110,12 +131,13 @@ pub fn segment_heads(subject: &mut Subject, random: &mut Xorshift) {
 
 /// Any damage of this file.
 pub fn any_edit(subject: &mut Subject, random: &mut Xorshift) {
-    let edits: [fn(&mut Subject, &mut Xorshift); 6] = [
+    let edits: [fn(&mut Subject, &mut Xorshift); 7] = [
         random_edits,
         swap,
         zone_slots,
         zone_heads,
         header,
+        figures,
         segment_heads,
     ];
     random.pick(&edits)(subject, random);
@@ -135,20 +157,32 @@ pub fn entry_of(subject: &Subject, zone: Page) -> u32 {
 /// A place of the words in use; those that mean something are more likely.
 fn any_place(subject: &Subject, random: &mut Xorshift) -> usize {
     let page = random.below(subject.state.pages);
-    match random.below(4) {
-        0 => random.below(subject.used() as u32) as usize,
-        1 => header_place(random),
-        2 => page_at(page) + random.below(6) as usize,
+    match random.below(9) {
+        0 | 1 => random.below(subject.used() as u32) as usize,
+        2 | 3 => header_place(random),
+        4 => figure_place(random),
+        5 | 6 => page_at(page) + random.below(6) as usize,
         _ => any_slot(subject, random).unwrap_or(page_at(page)),
     }
 }
 
+/// A place behind the figures and before the pages: those of the first entries are more likely.
 fn header_place(random: &mut Xorshift) -> usize {
+    let beyond = match random.below(12) {
+        0 => FIXED_WORDS,
+        1 => return CLASS_LISTS.end,
+        2 => CLASS_LISTS.end,
+        _ => EMPTY_LIST.end + 6,
+    };
+    FIGURE_WORDS + random.below((beyond - FIGURE_WORDS) as u32) as usize
+}
+
+/// A group's figure, or now and then a word behind them.
+fn figure_place(random: &mut Xorshift) -> usize {
     match random.below(12) {
-        0 => random.below(1_024) as usize,
-        1 => CLASS_LISTS.end,
-        2 => random.below(CLASS_LISTS.end as u32) as usize,
-        _ => random.below(10) as usize,
+        0 => random.below(FIGURE_WORDS as u32) as usize,
+        1 => GREATEST.end,
+        _ => random.below(GREATEST.end as u32) as usize,
     }
 }
 

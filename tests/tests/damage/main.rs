@@ -9,24 +9,28 @@
 
 mod calls;
 mod edits;
+mod figures;
 mod pool;
 mod shapes;
 mod subject;
 mod surgery;
 mod tally;
 
+use figures::settle;
 use reference::histories::Xorshift;
 use subject::Subject;
 use tally::Tally;
+use tests::layout::FIGURE_WORDS;
 
 /// All cases of the check together.
-const CASES: u32 = 1_000_000;
+const CASES: u32 = 1_100_000;
 
 /// A damage to a subject; where it does not apply it changes nothing.
 type Edit = fn(&mut Subject, &mut Xorshift);
 
 /// Kinds of damage in arenas of 1 to 40 pages, with their cases.
-const SMALL: [(&str, u32, Edit); 6] = [
+const SMALL: [(&str, u32, Edit); 7] = [
+    ("figures", 50_000, edits::figures),
     ("zone slots", 80_000, edits::zone_slots),
     ("zone heads", 50_000, edits::zone_heads),
     ("header", 60_000, edits::header),
@@ -36,10 +40,12 @@ const SMALL: [(&str, u32, Edit); 6] = [
 ];
 
 /// The kinds of damage that the check has to have met.
-const KINDS: [&str; 13] = [
+const KINDS: [&str; 15] = [
     "as made",
     "each class",
     "each word",
+    "each word, figures settled",
+    "figures",
     "header",
     "large arenas",
     "lengths",
@@ -82,16 +88,26 @@ fn the_check_and_the_second_reading_agree() {
     assert!(counts.get(tally::LEGAL) < CASES - 500_000);
 }
 
-/// Each word of the smallest arenas changed in turn.
+/// Each word of the smallest arenas changed in turn; where that changes what a group holds, once more
+/// with figures that agree with it.
 fn each_word(tally: &mut Tally, random: &mut Xorshift) {
-    tally.begin("each word");
     for mut subject in pool::tiny() {
-        for at in 0..subject.used() {
+        let count = subject.used();
+        for at in 0..count {
             for value in edits::values_in_turn(subject.get(at), random) {
                 subject.set(at, value);
                 if subject.is_changed() {
-                    let count = subject.used();
+                    tally.begin("each word");
                     tally.judge(&mut subject, count);
+                }
+                if at >= FIGURE_WORDS {
+                    subject.set(at, value);
+                    settle(&mut subject);
+                    if subject.is_changed_in_figures() {
+                        tally.begin("each word, figures settled");
+                        tally.judge(&mut subject, count);
+                    }
+                    subject.restore();
                 }
             }
         }
@@ -144,6 +160,9 @@ fn check_damaged(
 
 /// So many cases by an edit that changes something, on one subject after the other. Each is judged
 /// with a number of its words, and put right again.
+///
+/// An edit of a chunk or of a segment changes what a group holds, and would be told by the figures
+/// alone. So in three of four cases these are made to agree with it, unless the edit is of them.
 fn damage(
     pool: &mut [Subject],
     cases: u32,
@@ -158,6 +177,9 @@ fn damage(
         // Several on one subject, while its words are near.
         for _ in 0..32 {
             edit(subject, random);
+            if random.below(4) > 0 && !subject.is_changed_in_figures() {
+                settle(subject);
+            }
             if subject.is_changed() && left > 0 {
                 let count = match random.below(8) {
                     0 => subject.len(),

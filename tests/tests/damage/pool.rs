@@ -5,7 +5,7 @@ use reference::histories::Xorshift;
 use reference::sizes::chunk_count;
 use reference::state::{State, Zone};
 use tests::states::{odd, reached, zones_throughout, Plan};
-use tests::zones::{shuffle, zone_with};
+use tests::zones::{by_turns, shuffle, zone_with};
 
 /// Words behind each subject's own, so that an arena can seem to be a page or two longer.
 const SPARE: usize = 1_100;
@@ -27,6 +27,7 @@ pub fn tiny() -> Vec<Subject> {
         Plan::new().run(1).zone(zone(12, &[true; 315])).direct(1, 2),
         Plan::new().direct(1, 1).zone(mixed(16)),
         Plan::new().zone(mixed(0)),
+        Plan::new().zone(by_turns(mixed(30))).direct(1, 12),
         Plan::new().zone(mixed(40)).zone(zone(40, &[true])),
         Plan::new()
             .empty_zone(zone(63, &[false]))
@@ -80,6 +81,7 @@ pub fn large() -> Vec<Subject> {
     let zones_alone = [
         several_classes.assemble(),
         zones_throughout(256, &zone_with(0, &[true; 4_096])),
+        zones_throughout(256, &by_turns(zone_with(0, &[true; 4_096]))),
         zones_throughout(256, &zone_with(0, &[false; 4_096])),
     ];
     let states = states.chain(zones_alone);

@@ -1,11 +1,12 @@
 //! Words of a wrong number, and words that never were an encoding.
 
+use crate::figures::settle;
 use crate::pool;
 use crate::subject::Subject;
 use crate::tally::Tally;
 use reference::histories::Xorshift;
 use std::ops::Range;
-use tests::layout::{page_at, DIRECT, MAGIC, RUN};
+use tests::layout::{page_at, DIRECT, MAGIC, MAGIC_AT, PAGES_AT, RUN};
 
 /// Too few words, with the missing ones behind the slice; and more than enough, whatever the later
 /// ones are.
@@ -17,8 +18,9 @@ pub fn lengths(tally: &mut Tally, pool: &mut [Subject], cases: u32, random: &mut
         let count = any_count(subject, random);
         scribble_behind(subject, random);
         if random.below(4) == 0 {
-            let pages = subject.get(1);
-            subject.set(1, pages.wrapping_add(random.pick(&[1, 2, u32::MAX])));
+            let pages = subject.get(PAGES_AT);
+            let other = pages.wrapping_add(random.pick(&[1, 2, u32::MAX]));
+            subject.set(PAGES_AT, other);
         }
         tally.judge(subject, count);
     }
@@ -29,8 +31,8 @@ fn any_count(subject: &Subject, random: &mut Xorshift) -> usize {
     match random.below(8) {
         0 => used - 1,
         1 => random.below(used as u32) as usize,
-        2 => random.below(40) as usize,
-        3 => random.pick(&[0, 1, 2, 1_023, 1_024, 1_025, used - 520]),
+        2 => random.below(110) as usize,
+        3 => random.pick(&[0, 1, 63, 64, 65, 66, 1_087, 1_088, 1_089, used - 520]),
         _ => used + random.below((all - used) as u32 + 1) as usize,
     }
 }
@@ -53,7 +55,10 @@ pub fn random_words(tally: &mut Tally, cases: u32, random: &mut Xorshift) {
         let used = subject.used();
         match case / 6 % 8 {
             0 => fill(subject, 0..used, random),
-            1 => fill(subject, 2..used, random),
+            1 => {
+                fill(subject, 0..MAGIC_AT, random);
+                fill(subject, PAGES_AT + 1..used, random);
+            }
             2 => fill_some(subject, random),
             _ => likely_words(subject, random),
         }
@@ -74,11 +79,12 @@ fn fill_some(subject: &mut Subject, random: &mut Xorshift) {
     }
 }
 
-/// Segments of a few pages at random, mostly one behind the other.
+/// Segments of a few pages at random, mostly one behind the other, and mostly with figures that agree
+/// with them.
 fn likely_words(subject: &mut Subject, random: &mut Xorshift) {
     let pages = subject.state.pages;
     let magic = MAGIC + random.below(40) / 39;
-    subject.set_all(0, &[magic, 1 + random.below(pages + 1)]);
+    subject.set_all(MAGIC_AT, &[magic, 1 + random.below(pages + 1)]);
     let mut page = 0;
     while page < pages {
         let length = 1 + random.below(3);
@@ -92,5 +98,8 @@ fn likely_words(subject: &mut Subject, random: &mut Xorshift) {
             0 => 1,
             _ => length,
         };
+    }
+    if random.below(8) > 0 {
+        settle(subject);
     }
 }

@@ -2,7 +2,7 @@
 
 use reference::state::State;
 use tests::check::check;
-use tests::layout::{decode, encode, used_words};
+use tests::layout::{decode, encode, used_words, FIGURE_WORDS};
 
 /// The words of a legal state, with more words behind them.
 pub struct Subject {
@@ -78,6 +78,11 @@ impl Subject {
 
     pub fn is_changed(&self) -> bool {
         !self.changes.is_empty()
+    }
+
+    /// Whether one of the groups' figures, or a zero behind them, was changed.
+    pub fn is_changed_in_figures(&self) -> bool {
+        self.changes.iter().any(|(at, _)| *at < FIGURE_WORDS)
     }
 
     /// Asks both sides about the first `count` words. The words behind them are there and stay:

@@ -1,20 +1,20 @@
 //! Document 01's cases and those of document 02's requests through C. Every answer is the one written
-//! down, every count of runs too, and every word after each call that of the second program's state.
+//! down, every count of runs and every fetched record too, and every word after each call that of the
+//! second program's state.
 
 use reference::cases::{all, look, Case};
-use reference::lines::{parse, render};
 use tests::pair::Pair;
 
 /// Makes the calls of a case, and looks at the state where it does.
 fn follow(case: &Case, pair: Pair) {
     let mut pair = pair.named(case.name.clone());
     for step in &case.steps {
-        let answer = match parse(step.asked.as_bytes()) {
+        let answer = match step.call() {
             Some(call) => {
                 let answer = pair.call(call);
                 let counted = step.has_count_of(&answer);
                 assert!(counted, "{}: {}: {:?}", case.name, step.asked, answer);
-                Some(render(&answer))
+                Some(step.told(&answer))
             }
             None => look(pair.state(), &step.asked),
         };

@@ -2,13 +2,13 @@
 
 use reference::calls::Call;
 use reference::listing::LONGEST;
-use tests::calls::{listing_of, query_of};
+use tests::calls::{holdings_of, listing_of, query_of, Record, UNFILLED};
 use tests::layout::{encode, used_words, MAGIC};
 use tests::pair::{noise, Pair};
 use tests::states::{odd, reached};
 
 /// A call of every kind but init.
-const CALLS: [Call; 6] = [
+const CALLS: [Call; 7] = [
     Call::Allocate {
         group: 1,
         size: 100,
@@ -21,20 +21,21 @@ const CALLS: [Call; 6] = [
     Call::Trim,
     Call::Query { offset: 0 },
     Call::Listing { capacity: LONGEST },
+    Call::Holdings { records: 12 },
 ];
 
 #[test]
-fn an_arena_of_n_pages_needs_1024_and_520_n_words() {
-    assert_eq!(used_words(1), 1_544);
-    assert_eq!(used_words(24), 13_504);
-    assert_eq!(used_words(32), 17_664);
-    assert_eq!(used_words(255), 133_624);
-    assert_eq!(used_words(256), 134_144);
+fn an_arena_of_n_pages_needs_1088_and_520_n_words() {
+    assert_eq!(used_words(1), 1_608);
+    assert_eq!(used_words(24), 13_568);
+    assert_eq!(used_words(32), 17_728);
+    assert_eq!(used_words(255), 133_688);
+    assert_eq!(used_words(256), 134_208);
 }
 
 #[test]
 fn pages_0_and_257_are_refused_by_1_even_with_too_few_words() {
-    for lent in [0, 1, 1_024, used_words(1), used_words(256) + 600] {
+    for lent in [0, 1, 64, 1_088, used_words(1), used_words(256) + 600] {
         for pages in [0, 257, 1 << 16, u32::MAX] {
             assert_eq!(Pair::zeroed(lent).init(pages), Err(1));
             assert_eq!(Pair::noisy(lent).init(pages), Err(1));
@@ -58,7 +59,7 @@ fn init_with_one_word_too_few_is_refused_by_2() {
 
 #[test]
 fn init_with_far_too_few_words_is_refused_by_2() {
-    for lent in [0, 1, 2, 1_023, 1_024, 1_543] {
+    for lent in [0, 1, 63, 64, 66, 1_087, 1_088, 1_607] {
         for pages in [1, 2, 255, 256] {
             assert_eq!(Pair::noisy(lent).init(pages), Err(2));
         }
@@ -123,40 +124,60 @@ fn later_words_are_neither_read_nor_changed() {
 
 /// The example of docs/LAYOUT.md, in memory that cannot be written: a store, be it of the same word,
 /// would end the test's process.
-static FIXED: [u32; 7_264] = fixed();
+static FIXED: [u32; 7_328] = fixed();
 
-const fn fixed() -> [u32; 7_264] {
-    let mut words = [0; 7_264];
-    words[0] = MAGIC;
-    words[1] = 12;
-    words[4] = 3_073;
-    words[1_024] = 3;
-    words[1_025] = 12;
-    words[1_026] = 3;
-    words[1_027] = 2;
-    words[1_088] = 13;
-    words[1_089] = 131_076;
-    words[1_090] = 14;
-    words[5_184] = 2;
-    words[5_185] = 3;
-    words[5_186] = 5;
-    words[6_744] = 1;
-    words[6_745] = 1;
+const fn fixed() -> [u32; 7_328] {
+    let mut words = [0; 7_328];
+    words[3] = 1;
+    words[4] = 1;
+    words[15] = 104;
+    words[16] = 12_288;
+    words[26] = 208;
+    words[27] = 104;
+    words[28] = 12_288;
+    words[64] = MAGIC;
+    words[65] = 12;
+    words[68] = 3_073;
+    words[1_088] = 3;
+    words[1_089] = 12;
+    words[1_090] = 3;
+    words[1_091] = 2;
+    words[1_152] = 13;
+    words[1_153] = 131_076;
+    words[1_154] = 14;
+    words[5_248] = 2;
+    words[5_249] = 3;
+    words[5_250] = 5;
+    words[6_808] = 1;
+    words[6_809] = 1;
     words
 }
 
 #[test]
-fn query_and_listing_take_words_that_cannot_be_written() {
+fn query_listing_and_holdings_take_words_that_cannot_be_written() {
     assert_eq!(query_of(&FIXED, 104), Ok((4, 104)));
     assert_eq!(query_of(&FIXED, 32_768), Ok((5, 12_288)));
     assert_eq!(query_of(&FIXED, 0), Err(7));
-    assert_eq!(query_of(&FIXED[..7_263], 104), Err(3));
+    assert_eq!(query_of(&FIXED[..7_327], 104), Err(3));
     let mut text = [0; LONGEST];
     let told = "runs 1\n11 1\ndirect 1\n8 3 5\nzones 1\n0 12 1\n";
     assert_eq!(listing_of(&FIXED, &mut text), Ok(told.len()));
     assert_eq!(&text[..told.len()], told.as_bytes());
     assert_eq!(listing_of(&FIXED, &mut text[..told.len() - 1]), Err(12));
     assert_eq!(listing_of(&FIXED[1..], &mut text), Err(3));
+    let mut list = [UNFILLED; 13];
+    assert_eq!(holdings_of(&FIXED, &mut list), Err(9));
+    assert_eq!(holdings_of(&FIXED[1..], &mut list[..12]), Err(3));
+    assert_eq!(list, [UNFILLED; 13]);
+    assert_eq!(holdings_of(&FIXED, &mut list[..12]), Ok(()));
+    let told = [(0, 0, 208), (1, 104, 104), (1, 12_288, 12_288), (0, 0, 0)];
+    let told = told.map(|(blocks, held, greatest)| Record {
+        blocks,
+        held,
+        greatest,
+    });
+    assert_eq!(list[2..6], told);
+    assert_eq!(list[12], UNFILLED);
 }
 
 #[test]

@@ -1,6 +1,7 @@
 //! What histories come upon: the kinds of calls with their answers, and of states.
 
 use reference::calls::{Answer, Call};
+use reference::holdings::Holding;
 use reference::state::{State, Zone};
 use std::ops::RangeInclusive;
 use tests::counts::Counts;
@@ -12,7 +13,7 @@ pub const CALLS: &str = "calls";
 pub const ASKED: &str = "live blocks asked for at the end";
 
 /// All that histories are to come upon, with the searches, and nothing else.
-pub const ALL: [&str; 30] = [
+pub const ALL: [&str; 34] = [
     "allocate, chunk: no 4",
     "allocate, chunk: no 5",
     "allocate, chunk: no 6",
@@ -26,6 +27,10 @@ pub const ALL: [&str; 30] = [
     "free: no 7",
     "free: no 8",
     "free: served",
+    "groups seen: that have held more",
+    "groups seen: that hold something",
+    "holdings: no 9",
+    "holdings: served",
     "init: no 1",
     "init: no 2",
     "init: served",
@@ -101,6 +106,7 @@ pub fn of_answer(call: &Call, answer: &Answer) -> String {
         Call::Trim => "trim",
         Call::Query { .. } => "query",
         Call::Listing { .. } => "listing",
+        Call::Holdings { .. } => "holdings",
     };
     match answer.number() {
         0 => format!("{kind}: served"),
@@ -126,4 +132,12 @@ pub fn count_state(counts: &mut Counts, state: &State) {
     counts.count("lists seen: of two zones or more", long);
     counts.count("lists seen: empty list of two", two_empty);
     counts.count("states seen: two runs or more", parted);
+    let groups = |test: fn(&Holding) -> bool| {
+        let groups = state.holdings.iter();
+        groups.filter(|holding| test(holding)).count() as u32
+    };
+    let holding = groups(|holding| holding.blocks > 0);
+    counts.count("groups seen: that hold something", holding);
+    let less = groups(|holding| holding.held < holding.greatest);
+    counts.count("groups seen: that have held more", less);
 }

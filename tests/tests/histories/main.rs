@@ -4,8 +4,9 @@
 //!
 //!     cargo test --offline --locked -p tests --test histories
 //!
-//! Both programs give the same answer to every call, a request's count of runs among it, and the
-//! same listing after every tenth. Their words are the same after every fiftieth call, after every
+//! Both programs give the same answer to every call, a request's count of runs among it, the same
+//! holdings after every call, and after every tenth the same listing and the same refusal of a list
+//! of another length than twelve. Their words are the same after every fiftieth call, after every
 //! second search where a zone is idle, and at the end; to compare them after every call would take
 //! minutes in the large arenas. At the end both answer the same to a query of every live offset and
 //! of the byte behind it; of a beginning with any number of blocks, to 100 of them.
@@ -19,6 +20,7 @@ mod kinds;
 use reference::calls::{Answer, Call};
 use reference::histories::{Granted, History, Profile, Xorshift};
 use reference::listing::LONGEST;
+use reference::sizes::GROUPS;
 use tests::counts::{on_all_processors, Counts};
 use tests::layout::{encode, used_words};
 use tests::pair::{noise, Pair};
@@ -29,6 +31,8 @@ const CALLS: u32 = 500;
 const LISTING: u32 = 10;
 /// Every so many calls the words are compared.
 const WORDS: u32 = 50;
+/// Records of lists that are refused.
+const WRONG: [usize; 6] = [0, 1, 6, 11, 13, 24];
 /// The most live offsets asked for at the end where the beginning had any number of them.
 const ASKED: usize = 100;
 
@@ -95,6 +99,13 @@ fn draw(number: u32, random: &mut Xorshift) -> (u32, Profile) {
     (pages, Profile::ALL[(number % profiles) as usize])
 }
 
+/// Fetches the holdings into a list of so many records.
+fn fetch(pair: &mut Pair, counts: &mut Counts, records: usize) {
+    let call = Call::Holdings { records };
+    let answer = pair.serve(call);
+    counts.count(&kinds::of_answer(&call, &answer), 1);
+}
+
 /// Makes the calls of a history, and compares as said above.
 fn follow(
     pair: &mut Pair,
@@ -117,9 +128,11 @@ fn follow(
         let answer = pair.serve(call);
         counts.count(&kinds::of_answer(&call, &answer), 1);
         history.observe(&call, &answer);
+        fetch(pair, counts, GROUPS as usize);
         if made % LISTING == 0 {
             let capacity = LONGEST;
             assert_eq!(pair.serve(Call::Listing { capacity }).number(), 0);
+            fetch(pair, counts, WRONG[(made / LISTING) as usize % WRONG.len()]);
         }
         if made % WORDS == 0 {
             pair.compare();

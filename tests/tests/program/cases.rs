@@ -1,11 +1,12 @@
 //! Document 01's cases and those of document 02's requests, as far as they need no more words than
-//! the program has. It writes no count of runs.
+//! the program has. It writes no count of runs, and no line asks it for the holdings.
 
 use crate::check_bytes;
 use reference::cases::{all, Case};
 use reference::lines::parse;
 
-/// The lines that a program is given, and those that it answers: a look at the state is no line.
+/// The lines that a program is given, and those that it answers: a look at the state is no line, nor
+/// is the fetching of holdings.
 fn script(case: &Case) -> (String, String) {
     let calls = case.steps.iter();
     let calls = calls.filter(|step| parse(step.asked.as_bytes()).is_some());

@@ -1,5 +1,5 @@
 -- `bench::fresh_words` meets its contract. Assumes nothing.
-use Rattle.metadata.proofs.States.{zeros-none}
+use Rattle.account.proofs.Accounts.{zeros-none}
 use Rattle.lemmas.specs.Zeros.{zeros}
 use mathlib.Core.Path.{refl}
 use Rattle.bench.specs.Numbers.{benchWords}

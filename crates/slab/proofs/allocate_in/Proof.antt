@@ -1,38 +1,165 @@
 -- `allocate_in` meets its contract. Assumes nothing.
 use native.Mathlib.Omega.{arith}
-use Rattle.slab.proofs.Acting.{arena-few, arena-inside, arena-part, arena-good, arena-served}
+use mathlib.Core.Path.{_≡_, sym, ap, _∙_}
+use mathlib.Core.Bool.{false}
+use Prim.Native.Nat.{_-_}
+use lib.ListN.{length, take}
+use Rattle.lemmas.specs.Parts.{putMid}
+use Rattle.model.specs.Numbers.{figureWords}
+use Rattle.model.specs.declared.Operation.the-variants.{Allocate}
+use Rattle.model.specs.Holdings.{holdingOf}
+use Rattle.model.specs.Calls.{Action, group, isRefused}
+use Rattle.model.specs.Perform.{serve}
+use Rattle.figures.specs.Encoding.{figuresEncoding}
+use Rattle.figures.proofs.Encoded.{length-figures}
+use Rattle.account.specs.Decoding.{accountIn}
+use Rattle.slab.proofs.Acting.{arena-few, arena-valid, arena-inside, arena-good, arena-answer, arena-done, arena-not, figures-there, long-there, arena-stepped, arena-refused}
+use Rattle.slab.proofs.Granting.{grant-group, grant-size, grant-needs, grant-done}
+use borrow.Author.Needs.{needs}
 use Rattle.slab.proofs.allocate_in.Statement.{statement}
 use Rattle.slab.proofs.allocate_in.Tie as tie
+use Rattle.slab.proofs.allocate_in.Reads as reads
+use Rattle.slab.proofs.allocate_in.Lts as lts
+use Rattle.account.proofs.words_for.Reads as words-for-reads
+use Rattle.allocate.proofs.allocate.Reads as allocate-reads
+use Rattle.allocate.proofs.room_for.Reads as room-for-reads
+use Rattle.figures.proofs.steps.add.Reads as add-reads
+use Rattle.model.proofs.is_refused.Reads as is-refused-reads
+use Rattle.model.proofs.wide.Reads as wide-reads
 
 -- The places that answers speak of, each from the next one.
 abbrev start : tie.After-words-for → tie.Start
 start c = c .before .before
 
+abbrev sized : tie.After-allocate → tie.After-words-for
+sized c = c .before .before
+
+abbrev answered : tie.After-is-refused → tie.After-allocate
+answered c = c .before .before .before
+
+abbrev kept : tie.After-wide → tie.After-is-refused
+kept c = c .before .before
+
+abbrev begun : tie.After-wide → tie.Start
+begun c = start (sized (answered (kept c)))
+
+-- What is asked.
+abbrev call : tie.Start → Action
+call s = group (record { group = s .args .group; operation = Allocate (s .args .size) })
+
+-- It was not refused.
+done : (c : tie.After-wide) → isRefused ((serve (accountIn (begun c .args .meta .now) .state) (call (begun c))) .answer) ≡ false
+done c =
+    let t = kept c in
+    let a = answered t in
+    let w = sized a in
+    arena-done (start w .pre) _ (w .words-for .ensures) (call (start w)) _ (a .allocate .ensures .0) _ (t .is-refused .ensures) (c .before .if1 .left)
+
+-- The figures, as they are lent for their step.
+lent : (c : tie.After-wide) → take figureWords (putMid figureWords (sized (answered (kept c)) .words-for .result - figureWords) (begun c .args .meta .now) (answered (kept c) .allocate .last .0))
+    ≡ figuresEncoding (holdingOf (accountIn (begun c .args .meta .now)))
+lent c = let a = answered (kept c) in let w = sized a in figures-there (start w .pre) _ (w .words-for .ensures) (call (start w)) _ (a .allocate .ensures .1)
+
+-- src/lib.rt:100:9
 words-for-requires : tie.Need-words-for-requires
 words-for-requires c κs = arena-few (c .before .pre)
 
-slice-relend-prefix-allocate : tie.Need-slice-relend-prefix-allocate
-slice-relend-prefix-allocate c = arena-inside (c .before .before .pre) _ (c .words-for .ensures)
+-- src/lib.rt:101:37
+sub-allocate : tie.Need-sub-allocate
+sub-allocate c = search needs
 
-slice-aggregate-allocate : tie.Need-slice-aggregate-allocate
-slice-aggregate-allocate c = arena-part (c .before .before .before .pre) _ (c .before .words-for .ensures)
+-- src/lib.rt:101:37
+part-allocate-start : tie.Need-part-allocate-start
+part-allocate-start c = search needs
 
+-- src/lib.rt:101:37
+part-allocate-end : tie.Need-part-allocate-end
+part-allocate-end c = arena-inside (start c .pre) _ (c .words-for .ensures)
+
+-- src/lib.rt:101:9
 allocate-requires : tie.Need-allocate-requires
-allocate-requires c κs = arena-good (c .before .before .before .pre) _ (c .before .words-for .ensures)
+allocate-requires c κs = let w = c .before in arena-good (start w .pre) _ (w .words-for .ensures)
 
+-- src/lib.rt:102:8
+is-refused-requires : tie.Need-is-refused-requires
+is-refused-requires c κs = search needs
+
+-- src/lib.rt:103:9
+same-length : tie.Need-same-length
+same-length c = search needs
+
+-- src/lib.rt:103:9
 returns : tie.Need-returns
 returns c =
-    let w = c .before .before .before .before in
+    let t = c .before in
+    let a = answered t in
+    let w = sized a in
     let s = start w in
-    let h = s .pre in let e = w .words-for .ensures in let r = c .before .before .allocate .ensures in arena-served h _ e _ _ _ (r .1) (r .0)
+    let e = w .words-for .ensures in
+    let r = a .allocate .ensures in
+    (arena-answer (s .pre) _ e (call s) _ (r .0), arena-refused (s .pre) _ e (call s) _ (r .1) (arena-not (s .pre) _ e (call s) _ (r .0) _ (t .is-refused .ensures) (c .if1 .taken)))
+
+-- src/lib.rt:105:17
+wide-requires : tie.Need-wide-requires
+wide-requires c κs = search needs
+
+-- src/lib.rt:105:17
+sub-index : tie.Need-sub-index
+sub-index c = let s = begun c in omega (arith, c .wide .ensures, grant-group (accountIn (s .args .meta .now)) (arena-valid (s .pre)) (s .args .group) (s .args .size) (done c) .0)
+
+-- src/lib.rt:106:25
+slice-relend-prefix-add : tie.Need-slice-relend-prefix-add
+slice-relend-prefix-add c = let a = answered (kept c) in let w = sized a in long-there (start w .pre) _ (w .words-for .ensures) (call (start w)) _ (a .allocate .ensures .1)
+
+-- src/lib.rt:106:25
+slice-aggregate-add : tie.Need-slice-aggregate-add
+slice-aggregate-add c = sym (ap length (lent (c .before)) ∙ length-figures (holdingOf (accountIn (begun (c .before) .args .meta .now))))
+
+-- src/lib.rt:106:59
+room-for-requires : tie.Need-room-for-requires
+room-for-requires c κs = let s = begun (c .before) in grant-size (accountIn (s .args .meta .now)) (arena-valid (s .pre)) (s .args .group) (s .args .size) (done (c .before))
+
+-- src/lib.rt:106:5
+add-requires : tie.Need-add-requires
+add-requires c κs =
+    let i = c .before .before in
+    let s = begun i in
+    grant-needs (accountIn (s .args .meta .now)) (arena-valid (s .pre)) (s .args .group) (s .args .size) (done i) _ (lent i) _ (ap (λ g. g - 1) (i .wide .ensures)) _ (c .room-for .ensures)
+
+-- src/lib.rt:95:1
+same-length-2 : tie.Need-same-length-2
+same-length-2 c = search needs
+
+-- src/lib.rt:95:1
+returns-2 : tie.Need-returns-2
+returns-2 c =
+    let b = c .before .before in
+    let i = b .before .before .before in
+    let a = answered (kept i) in
+    let w = sized a in
+    let s = start w in
+    let e = w .words-for .ensures in
+    let r = a .allocate .ensures in
+    (arena-answer (s .pre) _ e (call s) _ (r .0), arena-stepped (s .pre) _ e (call s) _ (r .1) _
+    (grant-done (accountIn (s .args .meta .now)) (arena-valid (s .pre)) (s .args .group) (s .args .size) (done i) _ (lent i) _ (ap (λ g. g - 1) (i .wide .ensures)) _ (b .before .room-for .ensures) _ (b .add .ensures)))
 
 pub allocate-in-spec : {M : Type 1} → statement M
 allocate-in-spec =
     tie.close
     (tie.spec
     words-for-requires
-    slice-relend-prefix-allocate
-    slice-aggregate-allocate
+    sub-allocate
+    part-allocate-start
+    part-allocate-end
     allocate-requires
-    (λ c. omega arith)
-    returns)
+    is-refused-requires
+    same-length
+    returns
+    wide-requires
+    sub-index
+    slice-relend-prefix-add
+    slice-aggregate-add
+    room-for-requires
+    add-requires
+    same-length-2
+    returns-2)

@@ -3,7 +3,7 @@ use native.Mathlib.Omega.{arith}
 use mathlib.Core.Path.{_≡_, sym, _∙_}
 use mathlib.Core.Bool.{true, false}
 use borrow.Author.Tests.{not-true, not-false}
-use Rattle.metadata.specs.Decoding.{isState}
+use Rattle.account.specs.Decoding.{isAccount}
 use Rattle.slab.proofs.Acting.{never-true, never-false, pages-none, pages-some}
 use Rattle.slab.proofs.arena_pages.Statement.{statement}
 use Rattle.slab.proofs.arena_pages.Tie as tie
@@ -17,20 +17,20 @@ start c = c .before .before
 pages-requires : tie.Need-pages-requires
 pages-requires c κs =
     let t = sym (c .before .check .ensures) ∙ not-false _ (c .if1 .left) in
-    let passes : isState (start (c .before) .args .meta .now) ≡ true = search never-true in
+    let passes : isAccount (start (c .before) .args .meta .now) ≡ true = search never-true in
     passes
 
 returns : tie.Need-returns
 returns c =
     let t = sym (c .before .check .ensures) ∙ not-true _ (c .if1 .taken) in
-    let fails : isState (start (c .before) .args .meta .now) ≡ false = search never-false in
+    let fails : isAccount (start (c .before) .args .meta .now) ≡ false = search never-false in
     pages-none _ fails
 
 returns-2 : tie.Need-returns-2
 returns-2 c =
     let k = c .before .before in
     let t = sym (k .check .ensures) ∙ not-false _ (c .before .if1 .left) in
-    let passes : isState (start k .args .meta .now) ≡ true = search never-true in
+    let passes : isAccount (start k .args .meta .now) ≡ true = search never-true in
     pages-some _ passes _ (c .pages .ensures)
 
 pub arena-pages-spec : {M : Type 1} → statement M

@@ -1,38 +1,186 @@
 -- `free_in` meets its contract. Assumes nothing.
 use native.Mathlib.Omega.{arith}
-use Rattle.slab.proofs.Acting.{arena-few, arena-inside, arena-part, arena-good, arena-served}
+use mathlib.Core.Path.{_≡_, sym, ap, _∙_}
+use mathlib.Core.Bool.{false}
+use Prim.Native.Nat.{_-_}
+use lib.ListN.{length, take}
+use Rattle.lemmas.specs.Parts.{putMid}
+use Rattle.model.specs.Numbers.{figureWords}
+use Rattle.model.specs.declared.Operation.the-variants.{Free}
+use Rattle.model.specs.Holdings.{holdingOf}
+use Rattle.model.specs.Calls.{Action, group, isRefused}
+use Rattle.model.specs.Perform.{serve}
+use Rattle.figures.specs.Encoding.{figuresEncoding}
+use Rattle.figures.proofs.Encoded.{length-figures}
+use Rattle.account.specs.Decoding.{accountIn}
+use Rattle.slab.proofs.Acting.{arena-few, arena-valid, arena-inside, arena-good, arena-answer, arena-done, arena-not, figures-there, long-there, arena-stepped, arena-refused, told-room}
+use Rattle.slab.proofs.Returning.{return-group, return-needs, return-done}
+use borrow.Author.Needs.{needs}
 use Rattle.slab.proofs.free_in.Statement.{statement}
 use Rattle.slab.proofs.free_in.Tie as tie
+use Rattle.slab.proofs.free_in.Reads as reads
+use Rattle.slab.proofs.free_in.Lts as lts
+use Rattle.account.proofs.words_for.Reads as words-for-reads
+use Rattle.blocks.proofs.describe.Reads as describe-reads
+use Rattle.figures.proofs.steps.take.Reads as take-reads
+use Rattle.free.proofs.free.Reads as free-reads
+use Rattle.model.proofs.is_refused.Reads as is-refused-reads
+use Rattle.model.proofs.wide.Reads as wide-reads
+use Rattle.slab.proofs.room_told.Reads as room-told-reads
 
 -- The places that answers speak of, each from the next one.
 abbrev start : tie.After-words-for → tie.Start
 start c = c .before .before
 
+abbrev sized : tie.After-free → tie.After-words-for
+sized c = c .before .before .before .before .before .before
+
+abbrev answered : tie.After-is-refused → tie.After-free
+answered c = c .before .before .before
+
+abbrev kept : tie.After-wide → tie.After-is-refused
+kept c = c .before .before
+
+abbrev begun : tie.After-wide → tie.Start
+begun c = start (sized (answered (kept c)))
+
+-- What is asked.
+abbrev call : tie.Start → Action
+call s = group (record { group = s .args .group; operation = Free (s .args .offset) })
+
+-- It was not refused.
+done : (c : tie.After-wide) → isRefused ((serve (accountIn (begun c .args .meta .now) .state) (call (begun c))) .answer) ≡ false
+done c =
+    let t = kept c in
+    let a = answered t in
+    let w = sized a in
+    arena-done (start w .pre) _ (w .words-for .ensures) (call (start w)) _ (a .free .ensures .0) _ (t .is-refused .ensures) (c .before .if1 .left)
+
+-- The figures, as they are lent for their step.
+lent : (c : tie.After-wide) → take figureWords (putMid figureWords (sized (answered (kept c)) .words-for .result - figureWords) (begun c .args .meta .now) (answered (kept c) .free .last .0))
+    ≡ figuresEncoding (holdingOf (accountIn (begun c .args .meta .now)))
+lent c = let a = answered (kept c) in let w = sized a in figures-there (start w .pre) _ (w .words-for .ensures) (call (start w)) _ (a .free .ensures .1)
+
+-- src/lib.rt:130:9
 words-for-requires : tie.Need-words-for-requires
 words-for-requires c κs = arena-few (c .before .pre)
 
-slice-relend-prefix-free : tie.Need-slice-relend-prefix-free
-slice-relend-prefix-free c = arena-inside (c .before .before .pre) _ (c .words-for .ensures)
+-- src/lib.rt:131:43
+sub-describe : tie.Need-sub-describe
+sub-describe c = search needs
 
-slice-aggregate-free : tie.Need-slice-aggregate-free
-slice-aggregate-free c = arena-part (c .before .before .before .pre) _ (c .before .words-for .ensures)
+-- src/lib.rt:131:43
+part-describe-start : tie.Need-part-describe-start
+part-describe-start c = search needs
 
+-- src/lib.rt:131:43
+part-describe-end : tie.Need-part-describe-end
+part-describe-end c = let w = c .before in arena-inside (start w .pre) _ (w .words-for .ensures)
+
+-- src/lib.rt:131:26
+describe-requires : tie.Need-describe-requires
+describe-requires c κs = let w = c .before .before in arena-good (start w .pre) _ (w .words-for .ensures)
+
+-- src/lib.rt:131:9
+room-told-requires : tie.Need-room-told-requires
+room-told-requires c κs = search needs
+
+-- src/lib.rt:132:29
+sub-free : tie.Need-sub-free
+sub-free c = search needs
+
+-- src/lib.rt:132:29
+part-free-start : tie.Need-part-free-start
+part-free-start c = search needs
+
+-- src/lib.rt:132:29
+part-free-end : tie.Need-part-free-end
+part-free-end c = let w = c .before .before .before .before in arena-inside (start w .pre) _ (w .words-for .ensures)
+
+-- src/lib.rt:132:9
 free-requires : tie.Need-free-requires
-free-requires c κs = arena-good (c .before .before .before .pre) _ (c .before .words-for .ensures)
+free-requires c κs = let w = c .before .before .before .before .before in arena-good (start w .pre) _ (w .words-for .ensures)
 
+-- src/lib.rt:133:8
+is-refused-requires : tie.Need-is-refused-requires
+is-refused-requires c κs = search needs
+
+-- src/lib.rt:134:9
+same-length : tie.Need-same-length
+same-length c = search needs
+
+-- src/lib.rt:134:9
 returns : tie.Need-returns
 returns c =
-    let w = c .before .before .before .before in
+    let t = c .before in
+    let a = answered t in
+    let w = sized a in
     let s = start w in
-    let h = s .pre in let e = w .words-for .ensures in let r = c .before .before .free .ensures in arena-served h _ e _ _ _ (r .1) (r .0)
+    let e = w .words-for .ensures in
+    let r = a .free .ensures in
+    (arena-answer (s .pre) _ e (call s) _ (r .0), arena-refused (s .pre) _ e (call s) _ (r .1) (arena-not (s .pre) _ e (call s) _ (r .0) _ (t .is-refused .ensures) (c .if1 .taken)))
+
+-- src/lib.rt:136:17
+wide-requires : tie.Need-wide-requires
+wide-requires c κs = search needs
+
+-- src/lib.rt:136:17
+sub-index : tie.Need-sub-index
+sub-index c = let s = begun c in omega (arith, c .wide .ensures, return-group (accountIn (s .args .meta .now)) (arena-valid (s .pre)) (s .args .group) (s .args .offset) (done c) .0)
+
+-- src/lib.rt:137:26
+slice-relend-prefix-take : tie.Need-slice-relend-prefix-take
+slice-relend-prefix-take c = let a = answered (kept c) in let w = sized a in long-there (start w .pre) _ (w .words-for .ensures) (call (start w)) _ (a .free .ensures .1)
+
+-- src/lib.rt:137:26
+slice-aggregate-take : tie.Need-slice-aggregate-take
+slice-aggregate-take c = sym (ap length (lent (c .before)) ∙ length-figures (holdingOf (accountIn (begun (c .before) .args .meta .now))))
+
+-- src/lib.rt:137:5
+take-requires : tie.Need-take-requires
+take-requires c κs =
+    let i = c .before in
+    let s = begun i in
+    return-needs (accountIn (s .args .meta .now)) (arena-valid (s .pre)) (s .args .group) (s .args .offset) (done i) _ (lent i) _ (ap (λ g. g - 1) (i .wide .ensures)) _ (let a = answered (kept i) in a .before .before .room-told .ensures ∙ told-room (start (sized a) .pre) _ (sized a .words-for .ensures) _ _ (a .before .before .before .describe .ensures))
+
+-- src/lib.rt:125:1
+same-length-2 : tie.Need-same-length-2
+same-length-2 c = search needs
+
+-- src/lib.rt:125:1
+returns-2 : tie.Need-returns-2
+returns-2 c =
+    let b = c .before .before in
+    let i = b .before .before in
+    let a = answered (kept i) in
+    let w = sized a in
+    let s = start w in
+    let e = w .words-for .ensures in
+    let r = a .free .ensures in
+    (arena-answer (s .pre) _ e (call s) _ (r .0), arena-stepped (s .pre) _ e (call s) _ (r .1) _
+    (return-done (accountIn (s .args .meta .now)) (arena-valid (s .pre)) (s .args .group) (s .args .offset) (done i) _ (lent i) _ (ap (λ g. g - 1) (i .wide .ensures)) _ (let a = answered (kept i) in a .before .before .room-told .ensures ∙ told-room (start (sized a) .pre) _ (sized a .words-for .ensures) _ _ (a .before .before .before .describe .ensures)) _ (b .take .ensures)))
 
 pub free-in-spec : {M : Type 1} → statement M
 free-in-spec =
     tie.close
     (tie.spec
     words-for-requires
-    slice-relend-prefix-free
-    slice-aggregate-free
+    sub-describe
+    part-describe-start
+    part-describe-end
+    describe-requires
+    room-told-requires
+    sub-free
+    part-free-start
+    part-free-end
     free-requires
-    (λ c. omega arith)
-    returns)
+    is-refused-requires
+    same-length
+    returns
+    wide-requires
+    sub-index
+    slice-relend-prefix-take
+    slice-aggregate-take
+    take-requires
+    same-length-2
+    returns-2)

@@ -1,38 +1,159 @@
 -- `reset_in` meets its contract. Assumes nothing.
 use native.Mathlib.Omega.{arith}
-use Rattle.slab.proofs.Acting.{arena-few, arena-inside, arena-part, arena-good, arena-served}
+use mathlib.Core.Path.{_≡_, sym, ap, _∙_}
+use mathlib.Core.Bool.{false}
+use Prim.Native.Nat.{_-_}
+use lib.ListN.{length, take}
+use Rattle.lemmas.specs.Parts.{putMid}
+use Rattle.model.specs.Numbers.{figureWords}
+use Rattle.model.specs.declared.Operation.the-variants.{Reset}
+use Rattle.model.specs.Holdings.{holdingOf}
+use Rattle.model.specs.Calls.{Action, group, isRefused}
+use Rattle.model.specs.Perform.{serve}
+use Rattle.figures.specs.Encoding.{figuresEncoding}
+use Rattle.figures.proofs.Encoded.{length-figures}
+use Rattle.account.specs.Decoding.{accountIn}
+use Rattle.slab.proofs.Acting.{arena-few, arena-valid, arena-inside, arena-good, arena-answer, arena-done, arena-not, figures-there, long-there, arena-stepped, arena-refused}
+use Rattle.slab.proofs.Resetting.{reset-group, reset-needs, reset-done}
+use borrow.Author.Needs.{needs}
 use Rattle.slab.proofs.reset_in.Statement.{statement}
 use Rattle.slab.proofs.reset_in.Tie as tie
+use Rattle.slab.proofs.reset_in.Reads as reads
+use Rattle.slab.proofs.reset_in.Lts as lts
+use Rattle.account.proofs.words_for.Reads as words-for-reads
+use Rattle.figures.proofs.steps.clear.Reads as clear-reads
+use Rattle.model.proofs.is_refused.Reads as is-refused-reads
+use Rattle.model.proofs.wide.Reads as wide-reads
+use Rattle.reset.proofs.reset.Reads as reset-reads
 
 -- The places that answers speak of, each from the next one.
 abbrev start : tie.After-words-for → tie.Start
 start c = c .before .before
 
+abbrev sized : tie.After-reset → tie.After-words-for
+sized c = c .before .before
+
+abbrev answered : tie.After-is-refused → tie.After-reset
+answered c = c .before .before .before
+
+abbrev kept : tie.After-wide → tie.After-is-refused
+kept c = c .before .before
+
+abbrev begun : tie.After-wide → tie.Start
+begun c = start (sized (answered (kept c)))
+
+-- What is asked.
+abbrev call : tie.Start → Action
+call s = group (record { group = s .args .group; operation = Reset })
+
+-- It was not refused.
+done : (c : tie.After-wide) → isRefused ((serve (accountIn (begun c .args .meta .now) .state) (call (begun c))) .answer) ≡ false
+done c =
+    let t = kept c in
+    let a = answered t in
+    let w = sized a in
+    arena-done (start w .pre) _ (w .words-for .ensures) (call (start w)) _ (a .reset .ensures .0) _ (t .is-refused .ensures) (c .before .if1 .left)
+
+-- The figures, as they are lent for their step.
+lent : (c : tie.After-wide) → take figureWords (putMid figureWords (sized (answered (kept c)) .words-for .result - figureWords) (begun c .args .meta .now) (answered (kept c) .reset .last .0))
+    ≡ figuresEncoding (holdingOf (accountIn (begun c .args .meta .now)))
+lent c = let a = answered (kept c) in let w = sized a in figures-there (start w .pre) _ (w .words-for .ensures) (call (start w)) _ (a .reset .ensures .1)
+
+-- src/lib.rt:147:9
 words-for-requires : tie.Need-words-for-requires
 words-for-requires c κs = arena-few (c .before .pre)
 
-slice-relend-prefix-reset : tie.Need-slice-relend-prefix-reset
-slice-relend-prefix-reset c = arena-inside (c .before .before .pre) _ (c .words-for .ensures)
+-- src/lib.rt:148:31
+sub-reset : tie.Need-sub-reset
+sub-reset c = search needs
 
-slice-aggregate-reset : tie.Need-slice-aggregate-reset
-slice-aggregate-reset c = arena-part (c .before .before .before .pre) _ (c .before .words-for .ensures)
+-- src/lib.rt:148:31
+part-reset-start : tie.Need-part-reset-start
+part-reset-start c = search needs
 
+-- src/lib.rt:148:31
+part-reset-end : tie.Need-part-reset-end
+part-reset-end c = arena-inside (start c .pre) _ (c .words-for .ensures)
+
+-- src/lib.rt:148:9
 reset-requires : tie.Need-reset-requires
-reset-requires c κs = arena-good (c .before .before .before .pre) _ (c .before .words-for .ensures)
+reset-requires c κs = let w = c .before in arena-good (start w .pre) _ (w .words-for .ensures)
 
+-- src/lib.rt:149:8
+is-refused-requires : tie.Need-is-refused-requires
+is-refused-requires c κs = search needs
+
+-- src/lib.rt:150:9
+same-length : tie.Need-same-length
+same-length c = search needs
+
+-- src/lib.rt:150:9
 returns : tie.Need-returns
 returns c =
-    let w = c .before .before .before .before in
+    let t = c .before in
+    let a = answered t in
+    let w = sized a in
     let s = start w in
-    let h = s .pre in let e = w .words-for .ensures in let r = c .before .before .reset .ensures in arena-served h _ e _ _ _ (r .1) (r .0)
+    let e = w .words-for .ensures in
+    let r = a .reset .ensures in
+    (arena-answer (s .pre) _ e (call s) _ (r .0), arena-refused (s .pre) _ e (call s) _ (r .1) (arena-not (s .pre) _ e (call s) _ (r .0) _ (t .is-refused .ensures) (c .if1 .taken)))
+
+-- src/lib.rt:152:17
+wide-requires : tie.Need-wide-requires
+wide-requires c κs = search needs
+
+-- src/lib.rt:152:17
+sub-index : tie.Need-sub-index
+sub-index c = let s = begun c in omega (arith, c .wide .ensures, reset-group (accountIn (s .args .meta .now)) (arena-valid (s .pre)) (s .args .group) (done c) .0)
+
+-- src/lib.rt:153:27
+slice-relend-prefix-clear : tie.Need-slice-relend-prefix-clear
+slice-relend-prefix-clear c = let a = answered (kept c) in let w = sized a in long-there (start w .pre) _ (w .words-for .ensures) (call (start w)) _ (a .reset .ensures .1)
+
+-- src/lib.rt:153:27
+slice-aggregate-clear : tie.Need-slice-aggregate-clear
+slice-aggregate-clear c = sym (ap length (lent (c .before)) ∙ length-figures (holdingOf (accountIn (begun (c .before) .args .meta .now))))
+
+-- src/lib.rt:153:5
+clear-requires : tie.Need-clear-requires
+clear-requires c κs =
+    let i = c .before in
+    let s = begun i in
+    reset-needs (accountIn (s .args .meta .now)) (arena-valid (s .pre)) (s .args .group) (done i) _ (lent i) _ (ap (λ g. g - 1) (i .wide .ensures))
+
+-- src/lib.rt:142:1
+same-length-2 : tie.Need-same-length-2
+same-length-2 c = search needs
+
+-- src/lib.rt:142:1
+returns-2 : tie.Need-returns-2
+returns-2 c =
+    let b = c .before .before in
+    let i = b .before .before in
+    let a = answered (kept i) in
+    let w = sized a in
+    let s = start w in
+    let e = w .words-for .ensures in
+    let r = a .reset .ensures in
+    (arena-answer (s .pre) _ e (call s) _ (r .0), arena-stepped (s .pre) _ e (call s) _ (r .1) _
+    (reset-done (accountIn (s .args .meta .now)) (arena-valid (s .pre)) (s .args .group) (done i) _ (lent i) _ (ap (λ g. g - 1) (i .wide .ensures)) _ (b .clear .ensures)))
 
 pub reset-in-spec : {M : Type 1} → statement M
 reset-in-spec =
     tie.close
     (tie.spec
     words-for-requires
-    slice-relend-prefix-reset
-    slice-aggregate-reset
+    sub-reset
+    part-reset-start
+    part-reset-end
     reset-requires
-    (λ c. omega arith)
-    returns)
+    is-refused-requires
+    same-length
+    returns
+    wide-requires
+    sub-index
+    slice-relend-prefix-clear
+    slice-aggregate-clear
+    clear-requires
+    same-length-2
+    returns-2)

@@ -1,53 +1,80 @@
 -- `trim` meets its contract. Assumes nothing.
 use native.Mathlib.Omega.{arith}
-use Rattle.slab.proofs.Acting.{refused-answer, refused-words, arena-of, arena-few, arena-inside, arena-part, arena-good, arena-served}
-use Rattle.model.specs.declared.Answer.the-variants.{Counted}
 use mathlib.Core.Path.{ap}
+use Rattle.model.specs.declared.Answer.the-variants.{Counted}
+use Rattle.model.specs.Calls.{trim}
+use Rattle.slab.specs.Arena.{Arena}
+use Rattle.slab.proofs.Acting.{refused-answer, refused-words, arena-of, arena-valid, arena-few, arena-inside, arena-good, arena-answer, arena-still}
+use Rattle.slab.proofs.Resetting.{trim-figures}
+use borrow.Author.Needs.{needs}
 use Rattle.slab.proofs.trim.Statement.{statement}
 use Rattle.slab.proofs.trim.Tie as tie
+use Rattle.slab.proofs.trim.Reads as reads
+use Rattle.slab.proofs.trim.Lts as lts
+use Rattle.account.proofs.words_for.Reads as words-for-reads
+use Rattle.slab.proofs.arena_pages.Reads as arena-pages-reads
+use Rattle.trim.proofs.trim_all.Reads as trim-all-reads
 
--- The places that answers speak of, each from the next one.
-abbrev else1 : tie.After-words-for → tie.Else1
-else1 c = c .before
+-- The place behind the check: the words are an arena's.
+arena : (c : tie.Else1) → Arena (c .before .before .before .before .args .meta .now) (c .before .arena-pages .result)
+arena c = arena-of _ _ (c .before .arena-pages .ensures) (c .if1 .left)
 
-abbrev arena-pages : tie.Else1 → tie.After-arena-pages
-arena-pages c = c .before
+-- src/lib.rt:57:9
+arena-pages-requires : tie.Need-arena-pages-requires
+arena-pages-requires c κs = search needs
 
+-- src/lib.rt:59:9
+same-length : tie.Need-same-length
+same-length c = search needs
+
+-- src/lib.rt:59:9
 returns : tie.Need-returns
-returns c = (refused-answer _ _ (c .before .arena-pages .ensures) (c .if1 .taken) _, refused-words _ _ (c .before .arena-pages .ensures) (c .if1 .taken) _)
+returns c = let n = c .before .arena-pages .ensures in (refused-answer _ _ n (c .if1 .taken) trim, refused-words _ _ n (c .if1 .taken) trim)
 
+-- src/lib.rt:61:9
 words-for-requires : tie.Need-words-for-requires
-words-for-requires c κs = arena-few (arena-of _ _ (c .before .arena-pages .ensures) (c .if1 .left))
+words-for-requires c κs = arena-few (arena c)
 
-slice-relend-prefix-trim-all : tie.Need-slice-relend-prefix-trim-all
-slice-relend-prefix-trim-all c = arena-inside (arena-of _ _ (c .before .before .arena-pages .ensures) (c .before .if1 .left)) _ (c .words-for .ensures)
+-- src/lib.rt:62:32
+sub-trim-all : tie.Need-sub-trim-all
+sub-trim-all c = search needs
 
-slice-aggregate-trim-all : tie.Need-slice-aggregate-trim-all
-slice-aggregate-trim-all c = arena-part (arena-of _ _ (c .before .before .before .arena-pages .ensures) (c .before .before .if1 .left)) _ (c .before .words-for .ensures)
+-- src/lib.rt:62:32
+part-trim-all-start : tie.Need-part-trim-all-start
+part-trim-all-start c = search needs
 
+-- src/lib.rt:62:32
+part-trim-all-end : tie.Need-part-trim-all-end
+part-trim-all-end c = arena-inside (arena (c .before)) _ (c .words-for .ensures)
+
+-- src/lib.rt:62:9
 trim-all-requires : tie.Need-trim-all-requires
-trim-all-requires c κs = arena-good (arena-of _ _ (c .before .before .before .arena-pages .ensures) (c .before .before .if1 .left)) _ (c .before .words-for .ensures)
+trim-all-requires c κs = let w = c .before in arena-good (arena (w .before)) _ (w .words-for .ensures)
 
+-- src/lib.rt:53:1
+same-length-2 : tie.Need-same-length-2
+same-length-2 c = search needs
+
+-- src/lib.rt:53:1
 returns-2 : tie.Need-returns-2
 returns-2 c =
-    let w = c .before .before .before .before in
-    let e₁ = else1 w in
-    let a = arena-pages e₁ in
-    let h = arena-of _ _ (a .arena-pages .ensures) (e₁ .if1 .left) in
+    let w : tie.After-words-for = c .before .before .before .before in
+    let h = arena (w .before) in
     let e = w .words-for .ensures in
     let r = c .before .before .trim-all .ensures in
-    arena-served h _ e _ _ _ (r .1) (ap Counted (r .0))
+    (arena-answer h _ e trim _ (ap Counted (r .0)), arena-still h _ e trim _ (r .1) (trim-figures _ (arena-valid h)))
 
 pub trim-spec : {M : Type 1} → statement M
 trim-spec =
     tie.close
     (tie.spec
-    (λ c. omega arith)
-    (λ c. omega arith)
+    arena-pages-requires
+    same-length
     returns
     words-for-requires
-    slice-relend-prefix-trim-all
-    slice-aggregate-trim-all
+    sub-trim-all
+    part-trim-all-start
+    part-trim-all-end
     trim-all-requires
-    (λ c. omega arith)
+    same-length-2
     returns-2)

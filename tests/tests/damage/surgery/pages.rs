@@ -4,7 +4,7 @@ use super::lists::first_free;
 use crate::subject::Subject;
 use reference::histories::Xorshift;
 use reference::state::Run;
-use tests::layout::{page_at, DIRECT, RUN, ZONE};
+use tests::layout::{page_at, DIRECT, EMPTY_LIST, PAGES_AT, RUN, ZONE};
 
 /// A run, if there is one.
 fn any_run(subject: &Subject, random: &mut Xorshift) -> Option<Run> {
@@ -113,7 +113,7 @@ pub fn give_block_back(subject: &mut Subject, random: &mut Xorshift) {
 /// N and the last segment each one more. With words enough this is legal unless that is a zone.
 pub fn lengthen_arena(subject: &mut Subject, _: &mut Xorshift) {
     if let Some(last) = last_pages(subject) {
-        subject.set(1, subject.state.pages + 1);
+        subject.set(PAGES_AT, subject.state.pages + 1);
         subject.set(page_at(last.start) + 1, last.pages + 1);
     }
 }
@@ -121,7 +121,7 @@ pub fn lengthen_arena(subject: &mut Subject, _: &mut Xorshift) {
 /// N and the last segment each one less: legal while a page is left of both.
 pub fn shorten_arena(subject: &mut Subject, _: &mut Xorshift) {
     if let Some(last) = last_pages(subject) {
-        subject.set(1, subject.state.pages - 1);
+        subject.set(PAGES_AT, subject.state.pages - 1);
         subject.set(page_at(last.start) + 1, last.pages - 1);
     }
 }
@@ -157,8 +157,8 @@ pub fn turn_pages_to_zone(subject: &mut Subject, random: &mut Xorshift) {
         let list = first_free(subject);
         if random.below(2) == 0 {
             subject.set(list, 1 + 256 * class + pages.start);
-        } else if subject.get(2) == 0 {
-            subject.set(2, 1 + pages.start);
+        } else if subject.get(EMPTY_LIST.start) == 0 {
+            subject.set(EMPTY_LIST.start, 1 + pages.start);
         }
     }
 }

@@ -7,7 +7,9 @@ use crate::subject::Subject;
 use reference::histories::Xorshift;
 use reference::sizes::{chunk_count, CLASSES};
 use reference::state::Page;
-use tests::layout::{page_at, slot_at, ENTRY_SHIFT, RETURNED, STATE, ZONE, ZONE_SLOTS};
+use tests::layout::{
+    page_at, slot_at, CLASS_LISTS, ENTRY_SHIFT, RETURNED, STATE, ZONE, ZONE_SLOTS,
+};
 
 /// A zone's words, as far as they can be taken for a zone.
 struct Head {
@@ -299,7 +301,8 @@ pub fn change_class(subject: &mut Subject, random: &mut Xorshift) {
             _ => head.class.saturating_sub(1),
         };
         head.set(subject);
-        let place = (4..36).find(|at| subject.get(*at) == before);
+        let mut places = CLASS_LISTS;
+        let place = places.find(|at| subject.get(*at) == before);
         if let Some(at) = place {
             if random.below(4) > 0 {
                 subject.set(at, 1 + 256 * head.class + head.start);

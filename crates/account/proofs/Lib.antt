@@ -1,0 +1,3 @@
+pub mod Accounts
+pub mod Booked
+pub mod Checked

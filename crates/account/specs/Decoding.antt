@@ -1,0 +1,48 @@
+-- The account that words encode. `isAccount` tests any words, and `account-iff` says that it is exact; `accountIn` tests nothing.
+-- Assumes nothing.
+use Prim.Native.Nat.{ℕ, suc, _-_, _*_}
+use mathlib.Core.Bool.{Bool, cond, _&&_}
+use mathlib.Core.List.{List}
+use mathlib.Core.Option.{Option, none, some}
+use lib.Dec.{leb, eqb}
+use lib.ListN.{take, drop}
+use Rattle.lemmas.specs.Below.{allBelow}
+use Rattle.lemmas.specs.Every.{every}
+use Rattle.lemmas.specs.Parts.{mid}
+use Rattle.lemmas.specs.Zeros.{isZero}
+use Rattle.model.specs.Numbers.{pageBytes, mostGroup, figureWords}
+use Rattle.model.specs.declared.Holding.{Holding}
+use Rattle.model.specs.Arena.{total}
+use Rattle.model.specs.State.{State}
+use Rattle.model.specs.PageMap.{pageMap}
+use Rattle.model.specs.Holdings.{blocksOf, heldOf, Account}
+use Rattle.figures.specs.Encoding.{atGreatest, atRest, recordIn}
+use Rattle.metadata.specs.Decoding.{decode, isState}
+
+-- The words of the figures and of the state.
+abbrev pub figuresPart : List ℕ → List ℕ
+figuresPart w = take figureWords w
+
+abbrev pub statePart : List ℕ → List ℕ
+statePart w = drop figureWords w
+
+unfoldable pub accountIn : List ℕ → Account
+accountIn w = record { state = decode (statePart w); greatest = mid atGreatest mostGroup w }
+
+-- A group's record fits b live blocks and r bytes held in an arena of so many bytes.
+abbrev pub recordFits : Holding → ℕ → ℕ → ℕ → Bool
+recordFits h b r most = eqb (h .blocks) b && eqb (h .held) r && leb (h .held) (h .greatest) && leb (h .greatest) most
+
+-- The figures fit the state: every group's record does, and the words behind them are zero.
+unfoldable pub figuresFit : List ℕ → State → Bool
+figuresFit f s =
+    let m = pageMap s in
+    allBelow (λ i. recordFits (recordIn f i) (blocksOf (suc i) m) (heldOf (suc i) m) (total (s .segments) * pageBytes)) mostGroup
+    && every isZero (mid atRest (figureWords - atRest) f)
+
+-- The words begin with the encoding of a valid account.
+unfoldable pub isAccount : List ℕ → Bool
+isAccount w = isState (statePart w) && figuresFit (figuresPart w) (decode (statePart w))
+
+unfoldable pub accountOf : List ℕ → Option Account
+accountOf w = cond (isAccount w) (some (accountIn w)) none

@@ -1,0 +1,3 @@
+pub mod Encoded
+pub mod Stepped
+pub mod Stores

@@ -1,0 +1,88 @@
+-- Every call keeps the account valid, and a refused call leaves everything as it was. Assumes nothing.
+use Prim.Native.Nat.{ℕ, suc, _+_, _*_, _≤_, _<_, max}
+use mathlib.Core.Path.{_≡_, refl, sym, _∙_, ap}
+use mathlib.Core.List.{List}
+use mathlib.Core.Option.{Option, none, some}
+use mathlib.Core.Bool.{true, false, _&&_}
+use native.Mathlib.Omega.{arith}
+use lib.Dec.{leb}
+use lib.ListN.{length, getD, length-replicate, getD-replicate}
+use lib.Seq.{ext-getD}
+use borrow.Author.Tests.{leb-true}
+use Rattle.lemmas.specs.ListFrom.{listFrom}
+use Rattle.lemmas.proofs.ListFrom.{length-listFrom, getD-listFrom}
+use Rattle.lemmas.proofs.Cases.{bool, true-false, and-left, and-right}
+use Rattle.model.specs.Numbers.{mostGroup, mostPages, pageBytes}
+use Rattle.model.specs.Arena.{total}
+use Rattle.model.specs.State.{State, freshState}
+use Rattle.model.specs.PageMap.{pageMap}
+use Rattle.model.specs.Holdings.{heldOf, Account, accounted, freshAccount}
+use Rattle.model.specs.Valid.{Valid, ValidAccount}
+use Rattle.model.specs.Calls.{Action, Command, init, act, Outcome, isRefused}
+use Rattle.model.specs.Perform.{serve, Metadata, allWords, initialise, onAccount, perform}
+use Rattle.model.proofs.Held.{held-most}
+use Rattle.model.proofs.Totals.{serve-total}
+use Rattle.model.proofs.Validity.{fresh-valid, serve-valid, Leaves, guarded, serve-leaves}
+
+-- A group's greatest figure in the next account.
+pub greatest-next : (a : Account) (s : State) (i : ℕ) → i < mostGroup → getD (accounted a s .greatest) i 0 ≡ max (getD (a .greatest) i 0) (heldOf (suc i) (pageMap s))
+greatest-next a s i h = getD-listFrom (λ i. max (getD (a .greatest) i 0) (heldOf (suc i) (pageMap s))) 0 mostGroup i 0 h ∙ ap (λ i. max (getD (a .greatest) i 0) (heldOf (suc i) (pageMap s))) (let e : 0 + i ≡ i = omega arith in e)
+
+-- The next account of a valid one is valid, if the state that it is to have is, and has as many pages.
+pub accounted-valid : (a : Account) → ValidAccount a → (s : State) → Valid s → total (s .segments) ≡ total (a .state .segments) → ValidAccount (accounted a s)
+accounted-valid a v s u e = record {
+  state = u;
+  groups = length-listFrom (λ i. max (getD (a .greatest) i 0) (heldOf (suc i) (pageMap s))) 0 mostGroup;
+  least = λ i h. let n = greatest-next a s i h in omega arith;
+  most = λ i h. let n = greatest-next a s i h in let o = v .most i h in let m = held-most (suc i) (omega arith) (s .segments) (u .sound) in omega arith;
+}
+
+-- Where the state stays, so does the account.
+pub accounted-same : (a : Account) → ValidAccount a → accounted a (a .state) ≡ a
+accounted-same a v = λ i. record { state = a .state; greatest = same i }
+  where
+    same : accounted a (a .state) .greatest ≡ a .greatest
+    same = ext-getD 0 (accounted a (a .state) .greatest) (a .greatest)
+        (length-listFrom (λ i. max (getD (a .greatest) i 0) (heldOf (suc i) (pageMap (a .state)))) 0 mostGroup ∙ sym (v .groups))
+        (λ i h. let b : i < mostGroup = omega (arith, length-listFrom (λ i. max (getD (a .greatest) i 0) (heldOf (suc i) (pageMap (a .state)))) 0 mostGroup) in let n = greatest-next a (a .state) i b in let l = v .least i b in omega arith)
+
+pub fresh-account : (n : ℕ) → 0 < n → n ≤ mostPages → ValidAccount (freshAccount n)
+fresh-account n least most = record {
+  state = fresh-valid n least most;
+  groups = length-replicate {A = ℕ} mostGroup 0;
+  least = λ i h. omega arith;
+  most = λ i h. omega (arith, getD-replicate {A = ℕ} mostGroup i 0 0 h);
+}
+
+pub serve-account : (a : Account) → ValidAccount a → (c : Action) → ValidAccount (accounted a ((serve (a .state) c) .after))
+serve-account a v c = accounted-valid a v _ (serve-valid (a .state) (v .state) c) (serve-total (a .state) (v .state) c)
+
+-- A call on lent words: whatever they held before, an account that they hold after is valid if the account before was.
+abbrev pub Holds : Option Account → Type 0
+Holds none = Unit {0}
+Holds (some a) = ValidAccount a
+
+init-valid : (m : Metadata) (n : ℕ) → Holds (m .account) → Holds ((initialise m n) .after .account)
+init-valid m n h = bool (leb 1 n && leb n mostPages)
+    (λ t. rw t (bool (leb (allWords n) (m .words)) (λ u. rw u (fresh-account n (leb-true 1 n (and-left (leb 1 n) _ t)) (leb-true n mostPages (and-right (leb 1 n) _ t)))) (λ u. rw u h)))
+    (λ t. rw t h)
+
+pub perform-valid : (m : Metadata) (c : Command) → Holds (m .account) → Holds ((perform m c) .after .account)
+perform-valid m (init n) h = init-valid m n h
+perform-valid m (act a) h = go (m .account) refl h
+  where
+    go : (x : Option Account) → m .account ≡ x → Holds x → Holds ((onAccount m a x) .after .account)
+    go none e k = rw e k
+    go (some b) e k = serve-account b k a
+
+-- A refused call leaves the lent words' number and account.
+pub serve-same : (a : Account) → ValidAccount a → (c : Action) → isRefused ((serve (a .state) c) .answer) ≡ true → accounted a ((serve (a .state) c) .after) ≡ a
+serve-same a v c t = ap (accounted a) (serve-leaves (a .state) (v .state) c t) ∙ accounted-same a v
+
+pub perform-leaves : (m : Metadata) (c : Command) → Holds (m .account) → isRefused ((perform m c) .answer) ≡ true → (perform m c) .after ≡ m
+perform-leaves m (init n) h = guarded (leb 1 n && leb n mostPages) _ m _ (guarded (leb (allWords n) (m .words)) _ m _ (λ t. true-false t refl))
+perform-leaves m (act a) h = go (m .account) refl h
+  where
+    go : (x : Option Account) → m .account ≡ x → Holds x → Leaves m (onAccount m a x)
+    go none e k = λ _. refl
+    go (some b) e k = λ t. λ i. record { words = m .words; account = (ap some (serve-same b k a t) ∙ sym e) i }

@@ -1,0 +1,4 @@
+pub mod Squeezed
+pub mod Adding
+pub mod Handed
+pub mod Segments
