@@ -96,8 +96,8 @@ module _ (f : List ℕ) (long : length f ≡ figureWords) (s : State) where
   figures-fit a b = and-both (allBelow test mostGroup) _
       (all-of test mostGroup (λ i l. fits _ _ _ _ (a i l)))
       (every-of isZero (mid atRest (figureWords - atRest) f) 0 (λ k l.
-          let c : k < figureWords - atRest = omega (arith, length-mid atRest (figureWords - atRest) f (omega arith)) in
-          eq-eqb _ 0 (getD-mid atRest (figureWords - atRest) f k 0 c ∙ b (atRest + k) (omega arith) (omega arith))))
+      let c : k < figureWords - atRest = omega (arith, length-mid atRest (figureWords - atRest) f (omega arith)) in
+      eq-eqb _ 0 (getD-mid atRest (figureWords - atRest) f k 0 c ∙ b (atRest + k) (omega arith) (omega arith))))
 
 -- ---- words that pass
 
@@ -217,7 +217,7 @@ module _ (a : Account) (v : ValidAccount a) where
     begins-passes = passes w (begins-state (a .state) (v .state) (statePart w) state-is)
         (ap (λ f. figuresFit f (decode (statePart w))) figures-is ∙ ap (figuresFit F) decoded ∙ figures-fit F F-long (a .state)
         (λ i l. subst (λ h. Fitting h (blocksOf (suc i) (pageMap (a .state))) (heldOf (suc i) (pageMap (a .state))) (total (a .state .segments) * pageBytes)) (sym (record-encoded (holdingOf a) i l))
-            (record { blocks = refl; held = refl; least = v .least i l; most = v .most i l }))
+        (record { blocks = refl; held = refl; least = v .least i l; most = v .most i l }))
         (rest-encoded (holdingOf a)))
 
 -- THE theorem of the test.

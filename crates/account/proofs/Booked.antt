@@ -49,8 +49,8 @@ module _ (x : Account) (v : ValidAccount x) (t : State) where
     stepped-figures : (w : List ℕ) (r : Holding) → Stepped F w k r → r ≡ holdingOf y k → w ≡ figuresEncoding (holdingOf y)
     stepped-figures w r h e = is-figures (holdingOf y) w (h .long)
         (λ i m. h .records i m ∙ by-eqb (λ b. cond b r (recordIn F i) ≡ holdingOf y i) i k
-            (λ q. e ∙ ap (holdingOf y) (sym q))
-            (λ q. record-encoded (holdingOf x) i m ∙ same-holding i m (others i m q)))
+        (λ q. e ∙ ap (holdingOf y) (sym q))
+        (λ q. record-encoded (holdingOf x) i m ∙ same-holding i m (others i m q)))
         (λ i a b. h .rest i a ∙ rest-encoded (holdingOf x) i a b)
 
     here : recordIn F k ≡ holdingOf x k

@@ -185,10 +185,10 @@ pub fn room_for(size: u32) -> u32
     requires { ⌜ (0 < size) × (size ≤ mostBytes) ⌝ }
     ensures { λ r. ⌜ r ≡ roomFor size ⌝ }
 {
-    if size < LARGE_SIZE {
-        return zone::sizes::room(zone::sizes::class_of_size(size));
+    if LARGE_SIZE <= size {
+        return (size + (PAGE_BYTES - 1)) / PAGE_BYTES * PAGE_BYTES;
     }
-    (size + (PAGE_BYTES - 1)) / PAGE_BYTES * PAGE_BYTES
+    zone::sizes::room(zone::sizes::class_of_size(size))
 }
 
 // Whether the size may be asked for.

@@ -30,7 +30,7 @@ module _ (w : List ℕ) (long : length w ≡ figureWords) (i : ℕ) (l : i < mos
   stored-at k =
       getD-set (set (set w i b) (atHeld + i) h) (atGreatest + i) k g 0 (omega (arith, two-long))
       ∙ ap (cond (eqb k (atGreatest + i)) g) (
-          getD-set (set w i b) (atHeld + i) k h 0 (omega (arith, length-set w i b)) ∙ ap (cond (eqb k (atHeld + i)) h) (getD-set w i k b 0 (omega arith)))
+      getD-set (set w i b) (atHeld + i) k h 0 (omega (arith, length-set w i b)) ∙ ap (cond (eqb k (atHeld + i)) h) (getD-set w i k b 0 (omega arith)))
 
   module _ (j : ℕ) (m : j < mostGroup) where
     at-blocks : getD (stored w i b h g) j 0 ≡ cond (eqb j i) b (getD w j 0)
@@ -40,13 +40,13 @@ module _ (w : List ℕ) (long : length w ≡ figureWords) (i : ℕ) (l : i < mos
     at-held = by-eqb (λ t. getD (stored w i b h g) (atHeld + j) 0 ≡ cond t h (getD w (atHeld + j) 0)) j i
         (λ e. stored-at (atHeld + j) ∙ rw (ne-eqb (atHeld + j) (atGreatest + i) (λ q. omega arith), eq-eqb (atHeld + j) (atHeld + i) (omega arith)))
         (λ e. stored-at (atHeld + j)
-            ∙ rw (ne-eqb (atHeld + j) (atGreatest + i) (λ q. omega arith), ne-eqb (atHeld + j) (atHeld + i) (λ q. e (omega arith)), ne-eqb (atHeld + j) i (λ q. omega arith)))
+        ∙ rw (ne-eqb (atHeld + j) (atGreatest + i) (λ q. omega arith), ne-eqb (atHeld + j) (atHeld + i) (λ q. e (omega arith)), ne-eqb (atHeld + j) i (λ q. omega arith)))
 
     at-greatest : getD (stored w i b h g) (atGreatest + j) 0 ≡ cond (eqb j i) g (getD w (atGreatest + j) 0)
     at-greatest = by-eqb (λ t. getD (stored w i b h g) (atGreatest + j) 0 ≡ cond t g (getD w (atGreatest + j) 0)) j i
         (λ e. stored-at (atGreatest + j) ∙ rw (eq-eqb (atGreatest + j) (atGreatest + i) (omega arith)))
         (λ e. stored-at (atGreatest + j)
-            ∙ rw (ne-eqb (atGreatest + j) (atGreatest + i) (λ q. e (omega arith)), ne-eqb (atGreatest + j) (atHeld + i) (λ q. omega arith), ne-eqb (atGreatest + j) i (λ q. omega arith)))
+        ∙ rw (ne-eqb (atGreatest + j) (atGreatest + i) (λ q. e (omega arith)), ne-eqb (atGreatest + j) (atHeld + i) (λ q. omega arith), ne-eqb (atGreatest + j) i (λ q. omega arith)))
 
     stored-record : recordIn (stored w i b h g) j ≡ cond (eqb j i) (record { blocks = b; held = h; greatest = g }) (recordIn w j)
     stored-record = (λ k. record { blocks = at-blocks k; held = at-held k; greatest = at-greatest k }) ∙ choice (eqb j i)

@@ -36,10 +36,10 @@ module _ (each : Segment Occupancy → ℕ) (worth : Block → ℕ) (of-direct :
   entries-sum n (e ∷ l) s h =
       let here : find (e .offset) (e ∷ l) ≡ some (e .block) = rw (eq-eqb (e .offset) (e .offset) refl) in
       let changed = sum-changed (λ o. part (find o (e ∷ l))) (λ o. part (find o l)) n (e .offset) (h (e .offset) (e .block) here)
-          (λ o ne. rw (ne-eqb (e .offset) o (λ q. ne (sym q)))) in
+      (λ o ne. rw (ne-eqb (e .offset) o (λ q. ne (sym q)))) in
       let later = entries-sum n l (s .1) (λ o b f. by-eq (e .offset) o
-          (λ q. none-some (sym (s .0) ∙ ap (λ k. find k l) q ∙ f))
-          (λ q. h o b (rw (ne-eqb (e .offset) o q) f))) in
+      (λ q. none-some (sym (s .0) ∙ ap (λ k. find k l) q ∙ f))
+      (λ q. h o b (rw (ne-eqb (e .offset) o q) f))) in
       omega (arith, changed, later, ap (λ b. part b) here, ap (λ b. part b) (s .0))
 
   figure-told : (m : PageMap) → Each Sized m → (l : List Entry) → Single l → ((o : ℕ) → blockAt m o ≡ find o l) → figureOf each g m ≡ sum l

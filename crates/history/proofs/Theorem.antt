@@ -300,9 +300,12 @@ module _ (B : Type 0) (view : B → Metadata) (next : B → Command → B) (says
   holdings-told b n calls h starts =
       let start : History B view next says = begun B view next says b n in
       let end : History B view next says = afterAll B view next says start calls in
-      let r = reach-all n 0 [] _ calls start (first-reached b n h) starts in
-      (r .account, ap (λ m. m .account) (r .keeps), λ i l j. record {
-        blocks = blocks-are n 0 [] _ end r i j;
-        held = held-are n 0 [] _ end r i j;
-        greatest = (r .greatest i l ∙ peaks-held calls (λ _. 0) start i) j;
-      })
+      let r = reach-all n 0 [] _ calls start (first-reached b n h) starts in (
+        r .account,
+        ap (λ m. m .account) (r .keeps),
+        λ i l j. record {
+          blocks = blocks-are n 0 [] _ end r i j;
+          held = held-are n 0 [] _ end r i j;
+          greatest = (r .greatest i l ∙ peaks-held calls (λ _. 0) start i) j;
+        },
+      )

@@ -109,7 +109,7 @@ module _ (each : Segment Occupancy → ℕ) (worth : Block → ℕ) (of-direct :
       let f : ℕ → ℕ = λ o. share (blockAt (x ∷ r) o) in
       let first = sum-eq f (λ o. share (blockIn o x)) (bytes x) (λ o k. rw (lt-ltb o (bytes x) k)) in
       let others = sum-eq (λ i. f (bytes x + i)) (λ o. share (blockAt r o)) (total r * pageBytes)
-          (λ i _. rw (le-ltb (bytes x + i) (bytes x) (omega arith)) (ap (λ o. share (blockAt r o)) (let e : bytes x + i - bytes x ≡ i = omega arith in e))) in
+      (λ i _. rw (le-ltb (bytes x + i) (bytes x) (omega arith)) (ap (λ o. share (blockAt r o)) (let e : bytes x + i - bytes x ≡ i = omega arith in e))) in
       let both = sum-split f (bytes x) (total r * pageBytes) in
       omega (arith, first, others, both, segment-sum x (h .0), figure-sum r (h .1), ap (sumBelow f) (let e : bytes x + total r * pageBytes ≡ total (x ∷ r) * pageBytes = omega arith in e))
 
@@ -151,5 +151,5 @@ module _ (each : Segment Occupancy → ℕ) (worth : Block → ℕ) (of-direct :
           ∙ sum-eq (λ q. share (blockAt m′ q)) (λ q. cond (eqb j g) 0 (share (blockAt m q))) (total m′ * pageBytes) (λ q _. ap (λ c. share c) (gone q) ∙ left (blockAt m q))
           ∙ ap (λ n. sumBelow (λ q. cond (eqb j g) 0 (share (blockAt m q))) (n * pageBytes)) size
           ∙ bool (eqb j g)
-            (λ t. rw t (sum-zero (λ q. 0) (total m * pageBytes) (λ q _. refl)))
-            (λ t. rw t (sym (figure-sum m h)))
+          (λ t. rw t (sum-zero (λ q. 0) (total m * pageBytes) (λ q _. refl)))
+          (λ t. rw t (sym (figure-sum m h)))

@@ -143,14 +143,10 @@ fn allocate_in(meta: &mut [u32], n: usize, group: u32, size: u32) -> Answer
 fn room_told(answer: Answer) -> u32
     ensures { λ r. ⌜ r ≡ roomTold answer ⌝ }
 {
-    match answer {
-        Answer::Granted { offset, looked } => 0,
-        Answer::Denied { refusal, looked } => 0,
-        Answer::Refused(refusal) => 0,
-        Answer::Done => 0,
-        Answer::Counted(count) => 0,
-        Answer::Block(group, room) => room,
+    if let Answer::Block(group, room) = answer {
+        return room;
     }
+    0
 }
 
 // The group's block that begins at the offset comes back.

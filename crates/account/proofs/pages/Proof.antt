@@ -7,29 +7,18 @@ use Rattle.account.proofs.Checked.{behind-is, pages-behind}
 use borrow.Author.Needs.{needs}
 use Rattle.account.proofs.pages.Statement.{statement}
 use Rattle.account.proofs.pages.Tie as tie
-use Rattle.account.proofs.pages.Reads as reads
-use Rattle.account.proofs.pages.Lts as lts
-use Rattle.metadata.proofs.pages.Reads as pages-reads
 
--- src/lib.rt:104:21
 sub-pages : tie.Need-sub-pages
 sub-pages c = omega (arith, has-figures _ (c .before .pre))
 
--- src/lib.rt:104:21
 part-pages-start : tie.Need-part-pages-start
 part-pages-start c = omega (arith, has-figures _ (c .before .pre))
 
--- src/lib.rt:104:21
-part-pages-end : tie.Need-part-pages-end
-part-pages-end c = search needs
-
--- src/lib.rt:104:5
 pages-requires : tie.Need-pages-requires
 pages-requires c κs = ap isState (behind-is (c .before .before .args .words .now)) ∙ passed (c .before .before .args .words .now) (c .before .before .pre) .0
 
--- src/lib.rt:100:1
 returns : tie.Need-returns
 returns c = c .pages .ensures ∙ pages-behind (c .before .before .before .args .words .now)
 
 pub pages-spec : {M : Type 1} → statement M
-pages-spec = tie.close (tie.spec sub-pages part-pages-start part-pages-end pages-requires returns)
+pages-spec = tie.close (tie.spec sub-pages part-pages-start (λ c. search needs) pages-requires returns)

@@ -10,9 +10,6 @@ use Rattle.account.proofs.Checked.{test, none-tested, one-fails, one-mo
 use borrow.Author.Needs.{needs}
 use Rattle.account.proofs.records_fit.Statement.{statement}
 use Rattle.account.proofs.records_fit.Tie as tie
-use Rattle.account.proofs.records_fit.Reads as reads
-use Rattle.account.proofs.records_fit.Lts as lts
-use Rattle.account.proofs.record_fits.Reads as record-fits-reads
 
 abbrev Inv-loop : tie.InvT-loop
 Inv-loop figures tally most i₀ i = (i ≤ mostGroup) × (allBelow (test figures tally most) i ≡ true)
@@ -20,15 +17,9 @@ Inv-loop figures tally most i₀ i = (i ≤ mostGroup) × (allBelow (test figure
 abbrev μ-loop : tie.MeasureT-loop
 μ-loop figures tally most i₀ i = mostGroup - i
 
--- src/lib.rt:52:5
 loop-holds : tie.Need-loop-holds Inv-loop μ-loop
 loop-holds c = let a = c .before .before .args in (omega arith, none-tested (a .figures .now) (a .tally .now) (a .most))
 
--- src/lib.rt:53:13
-record-fits-requires : tie.Need-record-fits-requires Inv-loop μ-loop
-record-fits-requires c κs = search needs
-
--- src/lib.rt:54:13
 returns : tie.Need-returns Inv-loop μ-loop
 returns c =
     let t = c .before .before in
@@ -36,22 +27,12 @@ returns c =
     let a = l .before .before .before .args in
     one-fails (a .figures .now) (a .tally .now) (a .most) (l .loop .i) (t .loop-test .taken) (sym (c .before .record-fits .ensures) ∙ not-true _ (c .if1 .taken))
 
--- src/lib.rt:56:9
-add-i : tie.Need-add-i Inv-loop μ-loop
-add-i c = search needs
-
--- src/lib.rt:52:5
-loop-less : tie.Need-loop-less Inv-loop μ-loop
-loop-less c = search needs
-
--- src/lib.rt:52:5
 loop-again : tie.Need-loop-again Inv-loop μ-loop
 loop-again c =
     let l = c .before .before .before in
     let a = l .before .before .before .args in
     (omega (arith, c .before .before .loop-test .taken), one-more (a .figures .now) (a .tally .now) (a .most) (l .loop .i) (l .loop .inv .1) (sym (c .before .record-fits .ensures) ∙ not-false _ (c .if1 .left)))
 
--- src/lib.rt:47:1
 returns-2 : tie.Need-returns-2 Inv-loop μ-loop
 returns-2 c =
     let l = c .before in
@@ -65,9 +46,9 @@ records-fit-spec =
     Inv-loop
     μ-loop
     loop-holds
-    record-fits-requires
+    (λ c κs. search needs)
     returns
-    add-i
-    loop-less
+    (λ c. search needs)
+    (λ c. search needs)
     loop-again
     returns-2)

@@ -18,14 +18,6 @@ use Rattle.slab.proofs.Granting.{grant-group, grant-size, grant-needs, 
 use borrow.Author.Needs.{needs}
 use Rattle.slab.proofs.allocate_in.Statement.{statement}
 use Rattle.slab.proofs.allocate_in.Tie as tie
-use Rattle.slab.proofs.allocate_in.Reads as reads
-use Rattle.slab.proofs.allocate_in.Lts as lts
-use Rattle.account.proofs.words_for.Reads as words-for-reads
-use Rattle.allocate.proofs.allocate.Reads as allocate-reads
-use Rattle.allocate.proofs.room_for.Reads as room-for-reads
-use Rattle.figures.proofs.steps.add.Reads as add-reads
-use Rattle.model.proofs.is_refused.Reads as is-refused-reads
-use Rattle.model.proofs.wide.Reads as wide-reads
 
 -- The places that answers speak of, each from the next one.
 abbrev start : tie.After-words-for → tie.Start
@@ -60,35 +52,15 @@ lent : (c : tie.After-wide) → take figureWords (putMid figureWords (sized (ans
     ≡ figuresEncoding (holdingOf (accountIn (begun c .args .meta .now)))
 lent c = let a = answered (kept c) in let w = sized a in figures-there (start w .pre) _ (w .words-for .ensures) (call (start w)) _ (a .allocate .ensures .1)
 
--- src/lib.rt:100:9
 words-for-requires : tie.Need-words-for-requires
 words-for-requires c κs = arena-few (c .before .pre)
 
--- src/lib.rt:101:37
-sub-allocate : tie.Need-sub-allocate
-sub-allocate c = search needs
-
--- src/lib.rt:101:37
-part-allocate-start : tie.Need-part-allocate-start
-part-allocate-start c = search needs
-
--- src/lib.rt:101:37
 part-allocate-end : tie.Need-part-allocate-end
 part-allocate-end c = arena-inside (start c .pre) _ (c .words-for .ensures)
 
--- src/lib.rt:101:9
 allocate-requires : tie.Need-allocate-requires
 allocate-requires c κs = let w = c .before in arena-good (start w .pre) _ (w .words-for .ensures)
 
--- src/lib.rt:102:8
-is-refused-requires : tie.Need-is-refused-requires
-is-refused-requires c κs = search needs
-
--- src/lib.rt:103:9
-same-length : tie.Need-same-length
-same-length c = search needs
-
--- src/lib.rt:103:9
 returns : tie.Need-returns
 returns c =
     let t = c .before in
@@ -99,38 +71,24 @@ returns c =
     let r = a .allocate .ensures in
     (arena-answer (s .pre) _ e (call s) _ (r .0), arena-refused (s .pre) _ e (call s) _ (r .1) (arena-not (s .pre) _ e (call s) _ (r .0) _ (t .is-refused .ensures) (c .if1 .taken)))
 
--- src/lib.rt:105:17
-wide-requires : tie.Need-wide-requires
-wide-requires c κs = search needs
-
--- src/lib.rt:105:17
 sub-index : tie.Need-sub-index
 sub-index c = let s = begun c in omega (arith, c .wide .ensures, grant-group (accountIn (s .args .meta .now)) (arena-valid (s .pre)) (s .args .group) (s .args .size) (done c) .0)
 
--- src/lib.rt:106:25
 slice-relend-prefix-add : tie.Need-slice-relend-prefix-add
 slice-relend-prefix-add c = let a = answered (kept c) in let w = sized a in long-there (start w .pre) _ (w .words-for .ensures) (call (start w)) _ (a .allocate .ensures .1)
 
--- src/lib.rt:106:25
 slice-aggregate-add : tie.Need-slice-aggregate-add
 slice-aggregate-add c = sym (ap length (lent (c .before)) ∙ length-figures (holdingOf (accountIn (begun (c .before) .args .meta .now))))
 
--- src/lib.rt:106:59
 room-for-requires : tie.Need-room-for-requires
 room-for-requires c κs = let s = begun (c .before) in grant-size (accountIn (s .args .meta .now)) (arena-valid (s .pre)) (s .args .group) (s .args .size) (done (c .before))
 
--- src/lib.rt:106:5
 add-requires : tie.Need-add-requires
 add-requires c κs =
     let i = c .before .before in
     let s = begun i in
     grant-needs (accountIn (s .args .meta .now)) (arena-valid (s .pre)) (s .args .group) (s .args .size) (done i) _ (lent i) _ (ap (λ g. g - 1) (i .wide .ensures)) _ (c .room-for .ensures)
 
--- src/lib.rt:95:1
-same-length-2 : tie.Need-same-length-2
-same-length-2 c = search needs
-
--- src/lib.rt:95:1
 returns-2 : tie.Need-returns-2
 returns-2 c =
     let b = c .before .before in
@@ -139,27 +97,29 @@ returns-2 c =
     let w = sized a in
     let s = start w in
     let e = w .words-for .ensures in
-    let r = a .allocate .ensures in
-    (arena-answer (s .pre) _ e (call s) _ (r .0), arena-stepped (s .pre) _ e (call s) _ (r .1) _
-    (grant-done (accountIn (s .args .meta .now)) (arena-valid (s .pre)) (s .args .group) (s .args .size) (done i) _ (lent i) _ (ap (λ g. g - 1) (i .wide .ensures)) _ (b .before .room-for .ensures) _ (b .add .ensures)))
+    let r = a .allocate .ensures in (
+      arena-answer (s .pre) _ e (call s) _ (r .0),
+      arena-stepped (s .pre) _ e (call s) _ (r .1) _
+          (grant-done (accountIn (s .args .meta .now)) (arena-valid (s .pre)) (s .args .group) (s .args .size) (done i) _ (lent i) _ (ap (λ g. g - 1) (i .wide .ensures)) _ (b .before .room-for .ensures) _ (b .add .ensures)),
+    )
 
 pub allocate-in-spec : {M : Type 1} → statement M
 allocate-in-spec =
     tie.close
     (tie.spec
     words-for-requires
-    sub-allocate
-    part-allocate-start
+    (λ c. search needs)
+    (λ c. search needs)
     part-allocate-end
     allocate-requires
-    is-refused-requires
-    same-length
+    (λ c κs. search needs)
+    (λ c. search needs)
     returns
-    wide-requires
+    (λ c κs. search needs)
     sub-index
     slice-relend-prefix-add
     slice-aggregate-add
     room-for-requires
     add-requires
-    same-length-2
+    (λ c. search needs)
     returns-2)

@@ -18,15 +18,6 @@ use Rattle.slab.proofs.Returning.{return-group, return-needs, return-do
 use borrow.Author.Needs.{needs}
 use Rattle.slab.proofs.free_in.Statement.{statement}
 use Rattle.slab.proofs.free_in.Tie as tie
-use Rattle.slab.proofs.free_in.Reads as reads
-use Rattle.slab.proofs.free_in.Lts as lts
-use Rattle.account.proofs.words_for.Reads as words-for-reads
-use Rattle.blocks.proofs.describe.Reads as describe-reads
-use Rattle.figures.proofs.steps.take.Reads as take-reads
-use Rattle.free.proofs.free.Reads as free-reads
-use Rattle.model.proofs.is_refused.Reads as is-refused-reads
-use Rattle.model.proofs.wide.Reads as wide-reads
-use Rattle.slab.proofs.room_told.Reads as room-told-reads
 
 -- The places that answers speak of, each from the next one.
 abbrev start : tie.After-words-for → tie.Start
@@ -61,55 +52,21 @@ lent : (c : tie.After-wide) → take figureWords (putMid figureWords (sized (ans
     ≡ figuresEncoding (holdingOf (accountIn (begun c .args .meta .now)))
 lent c = let a = answered (kept c) in let w = sized a in figures-there (start w .pre) _ (w .words-for .ensures) (call (start w)) _ (a .free .ensures .1)
 
--- src/lib.rt:130:9
 words-for-requires : tie.Need-words-for-requires
 words-for-requires c κs = arena-few (c .before .pre)
 
--- src/lib.rt:131:43
-sub-describe : tie.Need-sub-describe
-sub-describe c = search needs
-
--- src/lib.rt:131:43
-part-describe-start : tie.Need-part-describe-start
-part-describe-start c = search needs
-
--- src/lib.rt:131:43
 part-describe-end : tie.Need-part-describe-end
 part-describe-end c = let w = c .before in arena-inside (start w .pre) _ (w .words-for .ensures)
 
--- src/lib.rt:131:26
 describe-requires : tie.Need-describe-requires
 describe-requires c κs = let w = c .before .before in arena-good (start w .pre) _ (w .words-for .ensures)
 
--- src/lib.rt:131:9
-room-told-requires : tie.Need-room-told-requires
-room-told-requires c κs = search needs
-
--- src/lib.rt:132:29
-sub-free : tie.Need-sub-free
-sub-free c = search needs
-
--- src/lib.rt:132:29
-part-free-start : tie.Need-part-free-start
-part-free-start c = search needs
-
--- src/lib.rt:132:29
 part-free-end : tie.Need-part-free-end
 part-free-end c = let w = c .before .before .before .before in arena-inside (start w .pre) _ (w .words-for .ensures)
 
--- src/lib.rt:132:9
 free-requires : tie.Need-free-requires
 free-requires c κs = let w = c .before .before .before .before .before in arena-good (start w .pre) _ (w .words-for .ensures)
 
--- src/lib.rt:133:8
-is-refused-requires : tie.Need-is-refused-requires
-is-refused-requires c κs = search needs
-
--- src/lib.rt:134:9
-same-length : tie.Need-same-length
-same-length c = search needs
-
--- src/lib.rt:134:9
 returns : tie.Need-returns
 returns c =
     let t = c .before in
@@ -120,34 +77,21 @@ returns c =
     let r = a .free .ensures in
     (arena-answer (s .pre) _ e (call s) _ (r .0), arena-refused (s .pre) _ e (call s) _ (r .1) (arena-not (s .pre) _ e (call s) _ (r .0) _ (t .is-refused .ensures) (c .if1 .taken)))
 
--- src/lib.rt:136:17
-wide-requires : tie.Need-wide-requires
-wide-requires c κs = search needs
-
--- src/lib.rt:136:17
 sub-index : tie.Need-sub-index
 sub-index c = let s = begun c in omega (arith, c .wide .ensures, return-group (accountIn (s .args .meta .now)) (arena-valid (s .pre)) (s .args .group) (s .args .offset) (done c) .0)
 
--- src/lib.rt:137:26
 slice-relend-prefix-take : tie.Need-slice-relend-prefix-take
 slice-relend-prefix-take c = let a = answered (kept c) in let w = sized a in long-there (start w .pre) _ (w .words-for .ensures) (call (start w)) _ (a .free .ensures .1)
 
--- src/lib.rt:137:26
 slice-aggregate-take : tie.Need-slice-aggregate-take
 slice-aggregate-take c = sym (ap length (lent (c .before)) ∙ length-figures (holdingOf (accountIn (begun (c .before) .args .meta .now))))
 
--- src/lib.rt:137:5
 take-requires : tie.Need-take-requires
 take-requires c κs =
     let i = c .before in
     let s = begun i in
     return-needs (accountIn (s .args .meta .now)) (arena-valid (s .pre)) (s .args .group) (s .args .offset) (done i) _ (lent i) _ (ap (λ g. g - 1) (i .wide .ensures)) _ (let a = answered (kept i) in a .before .before .room-told .ensures ∙ told-room (start (sized a) .pre) _ (sized a .words-for .ensures) _ _ (a .before .before .before .describe .ensures))
 
--- src/lib.rt:125:1
-same-length-2 : tie.Need-same-length-2
-same-length-2 c = search needs
-
--- src/lib.rt:125:1
 returns-2 : tie.Need-returns-2
 returns-2 c =
     let b = c .before .before in
@@ -156,31 +100,33 @@ returns-2 c =
     let w = sized a in
     let s = start w in
     let e = w .words-for .ensures in
-    let r = a .free .ensures in
-    (arena-answer (s .pre) _ e (call s) _ (r .0), arena-stepped (s .pre) _ e (call s) _ (r .1) _
-    (return-done (accountIn (s .args .meta .now)) (arena-valid (s .pre)) (s .args .group) (s .args .offset) (done i) _ (lent i) _ (ap (λ g. g - 1) (i .wide .ensures)) _ (let a = answered (kept i) in a .before .before .room-told .ensures ∙ told-room (start (sized a) .pre) _ (sized a .words-for .ensures) _ _ (a .before .before .before .describe .ensures)) _ (b .take .ensures)))
+    let r = a .free .ensures in (
+      arena-answer (s .pre) _ e (call s) _ (r .0),
+      arena-stepped (s .pre) _ e (call s) _ (r .1) _
+          (return-done (accountIn (s .args .meta .now)) (arena-valid (s .pre)) (s .args .group) (s .args .offset) (done i) _ (lent i) _ (ap (λ g. g - 1) (i .wide .ensures)) _ (let a = answered (kept i) in a .before .before .room-told .ensures ∙ told-room (start (sized a) .pre) _ (sized a .words-for .ensures) _ _ (a .before .before .before .describe .ensures)) _ (b .take .ensures)),
+    )
 
 pub free-in-spec : {M : Type 1} → statement M
 free-in-spec =
     tie.close
     (tie.spec
     words-for-requires
-    sub-describe
-    part-describe-start
+    (λ c. search needs)
+    (λ c. search needs)
     part-describe-end
     describe-requires
-    room-told-requires
-    sub-free
-    part-free-start
+    (λ c κs. search needs)
+    (λ c. search needs)
+    (λ c. search needs)
     part-free-end
     free-requires
-    is-refused-requires
-    same-length
+    (λ c κs. search needs)
+    (λ c. search needs)
     returns
-    wide-requires
+    (λ c κs. search needs)
     sub-index
     slice-relend-prefix-take
     slice-aggregate-take
     take-requires
-    same-length-2
+    (λ c. search needs)
     returns-2)

@@ -18,13 +18,6 @@ use Rattle.slab.proofs.Resetting.{reset-group, reset-needs, reset-done}
 use borrow.Author.Needs.{needs}
 use Rattle.slab.proofs.reset_in.Statement.{statement}
 use Rattle.slab.proofs.reset_in.Tie as tie
-use Rattle.slab.proofs.reset_in.Reads as reads
-use Rattle.slab.proofs.reset_in.Lts as lts
-use Rattle.account.proofs.words_for.Reads as words-for-reads
-use Rattle.figures.proofs.steps.clear.Reads as clear-reads
-use Rattle.model.proofs.is_refused.Reads as is-refused-reads
-use Rattle.model.proofs.wide.Reads as wide-reads
-use Rattle.reset.proofs.reset.Reads as reset-reads
 
 -- The places that answers speak of, each from the next one.
 abbrev start : tie.After-words-for → tie.Start
@@ -59,35 +52,15 @@ lent : (c : tie.After-wide) → take figureWords (putMid figureWords (sized (ans
     ≡ figuresEncoding (holdingOf (accountIn (begun c .args .meta .now)))
 lent c = let a = answered (kept c) in let w = sized a in figures-there (start w .pre) _ (w .words-for .ensures) (call (start w)) _ (a .reset .ensures .1)
 
--- src/lib.rt:147:9
 words-for-requires : tie.Need-words-for-requires
 words-for-requires c κs = arena-few (c .before .pre)
 
--- src/lib.rt:148:31
-sub-reset : tie.Need-sub-reset
-sub-reset c = search needs
-
--- src/lib.rt:148:31
-part-reset-start : tie.Need-part-reset-start
-part-reset-start c = search needs
-
--- src/lib.rt:148:31
 part-reset-end : tie.Need-part-reset-end
 part-reset-end c = arena-inside (start c .pre) _ (c .words-for .ensures)
 
--- src/lib.rt:148:9
 reset-requires : tie.Need-reset-requires
 reset-requires c κs = let w = c .before in arena-good (start w .pre) _ (w .words-for .ensures)
 
--- src/lib.rt:149:8
-is-refused-requires : tie.Need-is-refused-requires
-is-refused-requires c κs = search needs
-
--- src/lib.rt:150:9
-same-length : tie.Need-same-length
-same-length c = search needs
-
--- src/lib.rt:150:9
 returns : tie.Need-returns
 returns c =
     let t = c .before in
@@ -98,34 +71,21 @@ returns c =
     let r = a .reset .ensures in
     (arena-answer (s .pre) _ e (call s) _ (r .0), arena-refused (s .pre) _ e (call s) _ (r .1) (arena-not (s .pre) _ e (call s) _ (r .0) _ (t .is-refused .ensures) (c .if1 .taken)))
 
--- src/lib.rt:152:17
-wide-requires : tie.Need-wide-requires
-wide-requires c κs = search needs
-
--- src/lib.rt:152:17
 sub-index : tie.Need-sub-index
 sub-index c = let s = begun c in omega (arith, c .wide .ensures, reset-group (accountIn (s .args .meta .now)) (arena-valid (s .pre)) (s .args .group) (done c) .0)
 
--- src/lib.rt:153:27
 slice-relend-prefix-clear : tie.Need-slice-relend-prefix-clear
 slice-relend-prefix-clear c = let a = answered (kept c) in let w = sized a in long-there (start w .pre) _ (w .words-for .ensures) (call (start w)) _ (a .reset .ensures .1)
 
--- src/lib.rt:153:27
 slice-aggregate-clear : tie.Need-slice-aggregate-clear
 slice-aggregate-clear c = sym (ap length (lent (c .before)) ∙ length-figures (holdingOf (accountIn (begun (c .before) .args .meta .now))))
 
--- src/lib.rt:153:5
 clear-requires : tie.Need-clear-requires
 clear-requires c κs =
     let i = c .before in
     let s = begun i in
     reset-needs (accountIn (s .args .meta .now)) (arena-valid (s .pre)) (s .args .group) (done i) _ (lent i) _ (ap (λ g. g - 1) (i .wide .ensures))
 
--- src/lib.rt:142:1
-same-length-2 : tie.Need-same-length-2
-same-length-2 c = search needs
-
--- src/lib.rt:142:1
 returns-2 : tie.Need-returns-2
 returns-2 c =
     let b = c .before .before in
@@ -134,26 +94,28 @@ returns-2 c =
     let w = sized a in
     let s = start w in
     let e = w .words-for .ensures in
-    let r = a .reset .ensures in
-    (arena-answer (s .pre) _ e (call s) _ (r .0), arena-stepped (s .pre) _ e (call s) _ (r .1) _
-    (reset-done (accountIn (s .args .meta .now)) (arena-valid (s .pre)) (s .args .group) (done i) _ (lent i) _ (ap (λ g. g - 1) (i .wide .ensures)) _ (b .clear .ensures)))
+    let r = a .reset .ensures in (
+      arena-answer (s .pre) _ e (call s) _ (r .0),
+      arena-stepped (s .pre) _ e (call s) _ (r .1) _
+          (reset-done (accountIn (s .args .meta .now)) (arena-valid (s .pre)) (s .args .group) (done i) _ (lent i) _ (ap (λ g. g - 1) (i .wide .ensures)) _ (b .clear .ensures)),
+    )
 
 pub reset-in-spec : {M : Type 1} → statement M
 reset-in-spec =
     tie.close
     (tie.spec
     words-for-requires
-    sub-reset
-    part-reset-start
+    (λ c. search needs)
+    (λ c. search needs)
     part-reset-end
     reset-requires
-    is-refused-requires
-    same-length
+    (λ c κs. search needs)
+    (λ c. search needs)
     returns
-    wide-requires
+    (λ c κs. search needs)
     sub-index
     slice-relend-prefix-clear
     slice-aggregate-clear
     clear-requires
-    same-length-2
+    (λ c. search needs)
     returns-2)
