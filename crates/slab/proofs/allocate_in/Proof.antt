@@ -39,6 +39,11 @@ begun c = start (sized (answered (kept c)))
 abbrev call : tie.Start → Action
 call s = group (record { group = s .args .group; operation = Allocate (s .args .size) })
 
+-- The figures, as they are lent for their step.
+lent : (c : tie.After-wide) → take figureWords (putMid figureWords (sized (answered (kept c)) .words-for .result - figureWords) (begun c .args .meta .now) (answered (kept c) .allocate .last .0))
+    ≡ figuresEncoding (holdingOf (accountIn (begun c .args .meta .now)))
+lent c = let a = answered (kept c) in let w = sized a in figures-there (start w .pre) _ (w .words-for .ensures) (call (start w)) _ (a .allocate .ensures .1)
+
 -- It was not refused.
 done : (c : tie.After-wide) → isRefused ((serve (accountIn (begun c .args .meta .now) .state) (call (begun c))) .answer) ≡ false
 done c =
@@ -46,11 +51,6 @@ done c =
     let a = answered t in
     let w = sized a in
     arena-done (start w .pre) _ (w .words-for .ensures) (call (start w)) _ (a .allocate .ensures .0) _ (t .is-refused .ensures) (c .before .if1 .left)
-
--- The figures, as they are lent for their step.
-lent : (c : tie.After-wide) → take figureWords (putMid figureWords (sized (answered (kept c)) .words-for .result - figureWords) (begun c .args .meta .now) (answered (kept c) .allocate .last .0))
-    ≡ figuresEncoding (holdingOf (accountIn (begun c .args .meta .now)))
-lent c = let a = answered (kept c) in let w = sized a in figures-there (start w .pre) _ (w .words-for .ensures) (call (start w)) _ (a .allocate .ensures .1)
 
 words-for-requires : tie.Need-words-for-requires
 words-for-requires c κs = arena-few (c .before .pre)

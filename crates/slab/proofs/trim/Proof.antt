@@ -32,7 +32,8 @@ returns-2 c =
     let h = arena (w .before) in
     let e = w .words-for .ensures in
     let r = c .before .before .trim-all .ensures in
-    (arena-answer h _ e trim _ (ap Counted (r .0)), arena-still h _ e trim _ (r .1) (trim-figures _ (arena-valid h)))
+    let words = arena-still h _ e trim _ (r .1) (trim-figures _ (arena-valid h)) in
+    (arena-answer h _ e trim _ (ap Counted (r .0)), words)
 
 pub trim-spec : {M : Type 1} → statement M
 trim-spec =
