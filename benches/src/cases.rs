@@ -9,9 +9,14 @@ use tests::zones::{by_turns, shuffle, zone_with};
 
 /// The greatest ratio with nothing but runs and direct blocks.
 const PAGES_BAR: f64 = 1.5;
-/// The greatest ratio with zones that have live chunks, be they one group's or all groups'. The check
-/// counts each group's chunks there, to hold the groups' figures to them.
-const LIVE_BAR: f64 = 12.0;
+/// What counting each group's chunks may add, where every chunk that a zone can have was handed out:
+/// it is in the bars of zones with live chunks, whoever holds them.
+const COUNTING: f64 = 8.0;
+/// The greatest ratio with zones of which every chunk is live.
+const FULL_BAR: f64 = 4.0 + COUNTING;
+/// The greatest ratio with zones of which one half is live, and the other untouched or returned.
+const HALF_BAR: f64 = 2.5 + COUNTING / 2.0;
+const HALF_RETURNED_BAR: f64 = 7.0 + COUNTING;
 /// The greatest ratio with zones of which every chunk was returned, in whatever order: there is none
 /// to count for a group.
 const RETURNED_BAR: f64 = 10.0;
@@ -52,13 +57,17 @@ pub fn cases(pages: u32) -> Vec<Case> {
     if pages >= ZONE_PAGES {
         let zones = |name, zone: Zone, bar| case(name, zones_throughout(pages, &zone), barred(bar));
         cases.extend([
-            zones("zones, half live, half untouched", half_live(), LIVE_BAR),
-            zones("zones, half live, half returned", half_returned(), LIVE_BAR),
-            zones("zones, full, of one group", full(), LIVE_BAR),
+            zones("zones, half live, half untouched", half_live(), HALF_BAR),
+            zones(
+                "zones, half live, half returned",
+                half_returned(),
+                HALF_RETURNED_BAR,
+            ),
+            zones("zones, full, of one group", full(), FULL_BAR),
             zones(
                 "zones, full, of twelve by turns",
                 by_turns(full()),
-                LIVE_BAR,
+                FULL_BAR,
             ),
             zones(
                 "zones, all returned in ascending order",

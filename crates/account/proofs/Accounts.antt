@@ -12,7 +12,6 @@ use lib.ListN.{length, getD, take, drop, length-append, length-drop}
 use lib.Seq.{ext-getD, getD-take, getD-drop, take-add, take-at, drop-at, take-all, length-take-le}
 use borrow.Author.Tests.{leb-true, leb-false, le-leb, eqb-true, eq-eqb}
 use Rattle.lemmas.specs.Below.{allBelow}
-use Rattle.lemmas.specs.Every.{every}
 use Rattle.lemmas.specs.Parts.{mid}
 use Rattle.lemmas.specs.Zeros.{zeros, isZero}
 use Rattle.lemmas.proofs.Below.{all-at, all-of}
@@ -28,7 +27,7 @@ use Rattle.model.specs.PageMap.{pageMap}
 use Rattle.model.specs.Valid.{Valid, ValidAccount}
 use Rattle.model.specs.Holdings.{blocksOf, heldOf, Account, holdingOf}
 use Rattle.model.specs.Perform.{allWords}
-use Rattle.figures.specs.Encoding.{atHeld, atGreatest, atRest, figuresEncoding, recordIn}
+use Rattle.figures.specs.Encoding.{atGreatest, atRest, figuresEncoding, recordIn}
 use Rattle.figures.proofs.Encoded.{length-figures, record-encoded, rest-encoded, is-figures}
 use Rattle.metadata.specs.Encoding as state
 use Rattle.metadata.specs.Encoding.{encode}

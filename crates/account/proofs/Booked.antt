@@ -1,15 +1,13 @@
 -- The figures after a call: where one group's words were stepped as its blocks and bytes changed, and no other group's changed, they are
 -- those of the account that follows. Assumes nothing.
-use Prim.Native.Nat.{ℕ, suc, _+_, _-_, _≤_, _<_, max}
-use mathlib.Core.Path.{_≡_, refl, sym, ap, _∙_, subst}
+use Prim.Native.Nat.{ℕ, suc, _+_, _-_, _<_, max}
+use mathlib.Core.Path.{_≡_, sym, ap, _∙_}
 use mathlib.Core.Bool.{cond}
 use mathlib.Core.List.{List}
 use native.Mathlib.Omega.{arith}
-use lib.Dec.{eqb}
-use lib.ListN.{length, getD}
-use borrow.Author.Tests.{eq-eqb, ne-eqb}
+use lib.ListN.{getD}
 use Rattle.lemmas.proofs.Cases.{by-eqb}
-use Rattle.model.specs.Numbers.{mostGroup, figureWords}
+use Rattle.model.specs.Numbers.{mostGroup}
 use Rattle.model.specs.declared.Holding.{Holding}
 use Rattle.model.specs.State.{State}
 use Rattle.model.specs.PageMap.{pageMap}
@@ -17,7 +15,7 @@ use Rattle.model.specs.Holdings.{blocksOf, heldOf, Account, accounted, holdingO
 use Rattle.model.specs.Valid.{ValidAccount}
 use Rattle.model.proofs.Figures.{Gains}
 use Rattle.model.proofs.Accounts.{greatest-next}
-use Rattle.figures.specs.Encoding.{atRest, figuresEncoding, recordIn}
+use Rattle.figures.specs.Encoding.{figuresEncoding, recordIn}
 use Rattle.figures.specs.Steps.{added, taken, cleared}
 use Rattle.figures.proofs.Encoded.{length-figures, record-encoded, rest-encoded, is-figures}
 use Rattle.figures.proofs.Stepped.{Stepped, added-steps, taken-steps, cleared-steps}

@@ -1,25 +1,25 @@
 -- The test of any words, case by case as the code finds them, and the words of a fresh account. Assumes nothing.
 use Prim.Native.Nat.{ℕ, suc, _+_, _-_, _*_, _≤_, _<_}
-use mathlib.Core.Path.{_≡_, refl, sym, ap, _∙_, subst}
+use mathlib.Core.Path.{_≡_, sym, ap, _∙_, subst}
 use mathlib.Core.List.{List, [], _++_}
 use mathlib.Core.Bool.{Bool, true, false, _&&_}
 use native.Mathlib.Omega.{arith}
-use lib.Dec.{leb, eqb}
+use lib.Dec.{leb}
 use lib.ListN.{length, getD, take, drop, replicate, length-drop, length-replicate, getD-replicate}
-use lib.Seq.{take-all, length-take-le}
+use lib.Seq.{take-all}
 use borrow.Author.Tests.{le-leb, eq-eqb}
 use Rattle.lemmas.specs.Below.{allBelow}
 use Rattle.lemmas.specs.Every.{every}
 use Rattle.lemmas.specs.Parts.{mid, putMid}
 use Rattle.lemmas.specs.Zeros.{zeros, isZero}
 use Rattle.lemmas.proofs.Below.{all-at, all-of, all-none, all-more, all-done}
-use Rattle.lemmas.proofs.Cases.{bool, refuted, true-false, and-left, and-right, and-both}
+use Rattle.lemmas.proofs.Cases.{refuted, true-false, and-both}
 use Rattle.lemmas.proofs.Tests.{agree}
 use Rattle.lemmas.proofs.Zeros.{length-zeros, getD-zeros}
 use Rattle.model.specs.Numbers.{pageBytes, mostGroup, mostPages, figureWords, headerWords, pageWords}
 use Rattle.model.specs.declared.Holding.{Holding}
 use Rattle.model.specs.Arena.{total}
-use Rattle.model.specs.State.{State, freshState}
+use Rattle.model.specs.State.{freshState}
 use Rattle.model.specs.PageMap.{shown, pageMap}
 use Rattle.model.specs.Holdings.{blocksOf, heldOf, freshAccount, holdingOf}
 use Rattle.model.specs.Perform.{wordsFor}
@@ -33,7 +33,7 @@ use Rattle.metadata.specs.Decoding.{headerPart, pagesPart, decode, isState}
 use Rattle.metadata.proofs.States.{state-valid, state-read, state-pages}
 use Rattle.metadata.proofs.Fresh.{put-behind}
 use Rattle.account.specs.Encoding.{accountEncoding}
-use Rattle.account.specs.Decoding.{figuresPart, statePart, accountIn, recordFits, figuresFit, isAccount}
+use Rattle.account.specs.Decoding.{statePart, accountIn, recordFits, figuresFit, isAccount}
 use Rattle.account.proofs.Accounts.{fitting, passed, has-figures}
 
 -- ---- one record

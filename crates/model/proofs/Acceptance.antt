@@ -15,7 +15,8 @@ use Rattle.model.specs.declared.Answer.{Answer}
 use Rattle.model.specs.declared.Answer.the-variants.{Granted, Denied, Refused, Done, Counted, Block}
 use Rattle.model.specs.Sizes.{step, rounded, classOf, room, chunksOf, chunks, pagesFor}
 use Rattle.model.specs.State.{listOf}
-use Rattle.model.specs.Holdings.{Account}
+use Rattle.model.specs.declared.Holding.{Holding}
+use Rattle.model.specs.Holdings.{Account, holdingsOf}
 use Rattle.model.specs.PageMap.{pageMap}
 use Rattle.model.specs.Pages.{claim}
 use Rattle.model.specs.Allocate.{sought}
@@ -24,8 +25,10 @@ use Rattle.model.specs.Ascii.{ascii}
 use Rattle.model.specs.Text.{digits, decimal, line, lines}
 use Rattle.model.specs.Listing.{section, listingText}
 use Rattle.model.specs.Perform.{Metadata, allWords, perform}
+use Rattle.lemmas.specs.ListFrom.{listFrom}
+use Rattle.lemmas.specs.Every.{count}
 use Rattle.lemmas.specs.Keep.{keep}
-use Rattle.lemmas.specs.Times.{remove}
+use Rattle.lemmas.specs.Times.{times, remove}
 
 -- The table marked P. A size gives a chunk (its room and class) or is whole pages; of chunks of a size a zone has so many.
 pub data Case : Type 0 where
@@ -119,6 +122,20 @@ first-listing = refl
 pub second-listing : text ((leaves blank (morning ++ afternoon)) .account) ≡ ascii "runs 1\n23 1\ndirect 3\n8 3 3\n11 6 4\n17 6 4\nzones 1\n0 12 2\n"
 unfolding leaves blank morning afternoon text step rounded classOf room chunks claim sought remove keep listingText section ascii line lines decimal digits
 second-listing = refl
+
+-- What each group holds then (document 02, c). Group 1 held 104 and 8,192 bytes at once; its blocks came back.
+pub held : Option Account → List Holding
+held none = []
+held (some a) = holdingsOf a
+
+pub holds : ℕ → ℕ → ℕ → Holding
+holds b h g = record { blocks = b; held = h; greatest = g }
+
+pub session-holdings : held ((leaves blank (morning ++ afternoon)) .account) ≡
+    holds 0 0 8296 ∷ holds 2 208 208 ∷ holds 1 12288 12288 ∷ holds 2 49152 49152 ∷ holds 0 0 0 ∷ holds 0 0 0
+    ∷ holds 0 0 0 ∷ holds 0 0 0 ∷ holds 0 0 0 ∷ holds 0 0 0 ∷ holds 0 0 0 ∷ holds 0 0 0 ∷ []
+unfolding leaves blank morning afternoon held holds step rounded classOf room chunks claim sought remove keep listFrom times count
+session-holdings = refl
 
 -- The nine-request case -----------------------------------------------------------------------------------------------------
 

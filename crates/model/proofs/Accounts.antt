@@ -1,24 +1,22 @@
 -- Every call keeps the account valid, and a refused call leaves everything as it was. Assumes nothing.
-use Prim.Native.Nat.{ℕ, suc, _+_, _*_, _≤_, _<_, max}
+use Prim.Native.Nat.{ℕ, suc, _+_, _≤_, _<_, max}
 use mathlib.Core.Path.{_≡_, refl, sym, _∙_, ap}
-use mathlib.Core.List.{List}
 use mathlib.Core.Option.{Option, none, some}
-use mathlib.Core.Bool.{true, false, _&&_}
+use mathlib.Core.Bool.{true, _&&_}
 use native.Mathlib.Omega.{arith}
 use lib.Dec.{leb}
-use lib.ListN.{length, getD, length-replicate, getD-replicate}
+use lib.ListN.{getD, length-replicate, getD-replicate}
 use lib.Seq.{ext-getD}
 use borrow.Author.Tests.{leb-true}
-use Rattle.lemmas.specs.ListFrom.{listFrom}
 use Rattle.lemmas.proofs.ListFrom.{length-listFrom, getD-listFrom}
 use Rattle.lemmas.proofs.Cases.{bool, true-false, and-left, and-right}
-use Rattle.model.specs.Numbers.{mostGroup, mostPages, pageBytes}
+use Rattle.model.specs.Numbers.{mostGroup, mostPages}
 use Rattle.model.specs.Arena.{total}
-use Rattle.model.specs.State.{State, freshState}
+use Rattle.model.specs.State.{State}
 use Rattle.model.specs.PageMap.{pageMap}
 use Rattle.model.specs.Holdings.{heldOf, Account, accounted, freshAccount}
 use Rattle.model.specs.Valid.{Valid, ValidAccount}
-use Rattle.model.specs.Calls.{Action, Command, init, act, Outcome, isRefused}
+use Rattle.model.specs.Calls.{Action, Command, init, act, isRefused}
 use Rattle.model.specs.Perform.{serve, Metadata, allWords, initialise, onAccount, perform}
 use Rattle.model.proofs.Held.{held-most}
 use Rattle.model.proofs.Totals.{serve-total}

@@ -3,14 +3,13 @@
 use Prim.Native.Nat.{ℕ, _+_, _*_, _<_}
 use mathlib.Core.Path.{_≡_, refl, sym, _∙_, ap}
 use mathlib.Core.Option.{Option, none, some}
-use mathlib.Core.Bool.{Bool, true, false, cond}
+use mathlib.Core.Bool.{true, cond}
 use native.Mathlib.Omega.{arith}
 use lib.Dec.{eqb}
 use borrow.Author.Tests.{eqb-true}
-use Rattle.lemmas.proofs.Cases.{bool, true-false, clash}
+use Rattle.lemmas.proofs.Cases.{bool, true-false}
 use Rattle.model.specs.declared.Refusal.{Refusal}
-use Rattle.model.specs.declared.Answer.{Answer}
-use Rattle.model.specs.declared.Answer.the-variants.{Granted, Denied, Refused, Done, Counted}
+use Rattle.model.specs.declared.Answer.the-variants.{Granted, Refused, Done}
 use Rattle.model.specs.Numbers.{pageBytes}
 use Rattle.model.specs.Sizes.{roomFor}
 use Rattle.model.specs.Arena.{Segment, direct, zone, total, Each}

@@ -2,17 +2,17 @@
 -- blocks after a call says what becomes of the figures. Assumes nothing.
 use Prim.Native.Nat.{ℕ, zero, suc, _+_, _-_, _*_, _/_, _%_, _≤_, _<_}
 use mathlib.Core.Path.{_≡_, refl, sym, _∙_, ap}
-use mathlib.Core.List.{List, [], _∷_}
+use mathlib.Core.List.{[], _∷_}
 use mathlib.Core.Option.{Option, none, some}
 use mathlib.Core.Bool.{Bool, true, false, cond}
 use native.Mathlib.Omega.{arith}
 use native.Mathlib.Nat.{mul-add-div-right, mul-add-mod-self-right, mod-eq-of-lt, div-eq-of-lt, div-mul-le-self, le-div-iff-mul-le}
-use lib.Dec.{ltb, eqb}
+use lib.Dec.{eqb}
 use lib.ListN.{length, getD, List·getD-eq-default}
-use borrow.Author.Tests.{lt-ltb, le-ltb, eqb-true, eqb-false, eq-eqb, ne-eqb}
+use borrow.Author.Tests.{lt-ltb, le-ltb, eq-eqb, ne-eqb}
 use Rattle.lemmas.specs.Below.{sumBelow}
 use Rattle.lemmas.specs.Times.{times}
-use Rattle.lemmas.proofs.Cases.{bool, by-eq, by-eqb, by-lt, cond-same, none-some}
+use Rattle.lemmas.proofs.Cases.{bool, by-eqb, by-lt, cond-same, none-some}
 use Rattle.lemmas.proofs.Below.{sum-eq, sum-zero, sum-split, sum-one, sum-scale, sum-stride, sum-changed, count-below}
 use Rattle.model.specs.Numbers.{pageBytes, zoneBytes}
 use Rattle.model.specs.Sizes.{room, chunks}

@@ -1,14 +1,14 @@
 -- Every call keeps validity, and a refused call leaves everything as it was. Assumes nothing.
 use Prim.Native.Nat.{ℕ, _*_, _≤_, _<_}
-use mathlib.Core.Path.{_≡_, refl, sym, _∙_, ap}
+use mathlib.Core.Path.{_≡_, refl, ap}
 use mathlib.Core.List.{List, [], List·Memᴰ·not-nil}
 use mathlib.Core.Option.{Option, none, some}
-use mathlib.Core.Bool.{Bool, true, false, _&&_}
+use mathlib.Core.Bool.{Bool, true, false}
 use native.Mathlib.Omega.{arith}
 use lib.Dec.{ltb, leb, eqb}
 use lib.ListN.{length, getD, replicate, length-replicate, getD-replicate, List·getD-eq-default}
-use borrow.Author.Tests.{ltb-true, ltb-false, leb-true}
-use Rattle.lemmas.proofs.Cases.{bool, true-false, and-left, and-right, clash}
+use borrow.Author.Tests.{ltb-true, ltb-false}
+use Rattle.lemmas.proofs.Cases.{bool, true-false, clash}
 use Rattle.model.specs.Numbers.{mostGroup, classCount, mostPages, pageBytes}
 use Rattle.model.specs.declared.Answer.{Answer}
 use Rattle.model.specs.declared.Operation.{Operation}

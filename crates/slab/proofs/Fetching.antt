@@ -1,11 +1,11 @@
 -- What the holdings answer and leave of the list, by the check of the words. Assumes nothing.
 use Prim.Native.Nat.{ℕ, _+_, _≤_, _<_}
-use mathlib.Core.Path.{_≡_, refl, sym, ap, _∙_}
+use mathlib.Core.Path.{_≡_, sym, ap, _∙_}
 use mathlib.Core.Bool.{true, false, cond}
 use mathlib.Core.List.{List}
 use native.Mathlib.Omega.{arith}
 use lib.Dec.{eqb}
-use lib.ListN.{length, getD, take}
+use lib.ListN.{length, take}
 use lib.Seq.{getD-take}
 use Rattle.lemmas.specs.ListFrom.{listFrom}
 use Rattle.lemmas.proofs.Cases.{bool}
@@ -17,7 +17,7 @@ use Rattle.model.specs.declared.Refusal.the-variants.{NoState}
 use Rattle.model.specs.Holdings.{Account, holdingOf, holdingsOf}
 use Rattle.model.specs.Calls.{holdings, act}
 use Rattle.model.specs.Perform.{serve}
-use Rattle.figures.specs.Encoding.{atHeld, atGreatest, figuresEncoding, recordIn}
+use Rattle.figures.specs.Encoding.{atHeld, atGreatest, recordIn}
 use Rattle.figures.specs.Records.{recordsIn, filled}
 use Rattle.figures.proofs.Encoded.{record-encoded}
 use Rattle.account.specs.Decoding.{accountIn, isAccount}

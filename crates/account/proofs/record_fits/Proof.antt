@@ -1,5 +1,4 @@
 -- `record_fits` meets its contract. Assumes nothing.
-use native.Mathlib.Omega.{arith}
 use Rattle.account.proofs.Checked.{other-blocks, other-bytes, too-low, last-test}
 use borrow.Author.Needs.{needs}
 use Rattle.account.proofs.record_fits.Statement.{statement}

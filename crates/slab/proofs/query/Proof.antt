@@ -1,5 +1,4 @@
 -- `query` meets its contract. Assumes nothing.
-use native.Mathlib.Omega.{arith}
 use mathlib.Core.Path.{sym}
 use Rattle.model.specs.Calls.{query}
 use Rattle.slab.specs.Arena.{Arena}

@@ -1,5 +1,4 @@
 -- `trim` meets its contract. Assumes nothing.
-use native.Mathlib.Omega.{arith}
 use mathlib.Core.Path.{ap}
 use Rattle.model.specs.declared.Answer.the-variants.{Counted}
 use Rattle.model.specs.Calls.{trim}

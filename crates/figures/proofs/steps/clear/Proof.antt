@@ -1,6 +1,6 @@
 -- `steps::clear` meets its contract. Assumes nothing.
 use native.Mathlib.Omega.{arith}
-use lib.ListN.{getD, set, length-set}
+use lib.ListN.{length-set}
 use borrow.Author.Needs.{needs}
 use Rattle.figures.proofs.steps.clear.Statement.{statement}
 use Rattle.figures.proofs.steps.clear.Tie as tie

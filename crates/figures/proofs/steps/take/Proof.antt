@@ -1,7 +1,7 @@
 -- `steps::take` meets its contract. Assumes nothing.
 use Prim.Native.Nat.{_-_}
 use native.Mathlib.Omega.{arith}
-use lib.ListN.{getD, set, length-set}
+use lib.ListN.{getD, length-set}
 use borrow.Author.Needs.{needs}
 use Rattle.figures.proofs.steps.take.Statement.{statement}
 use Rattle.figures.proofs.steps.take.Tie as tie
