@@ -1,5 +1,5 @@
 -- The figures of the twelve groups: their live blocks, group 1 first, then their held bytes. Assumes nothing.
-use Prim.Native.Nat.{ℕ, suc, _+_, _*_, _≤_, _<_}
+use Prim.Native.Nat.{ℕ, suc, min, _+_, _*_, _≤_, _<_}
 use mathlib.Core.Path.{_≡_}
 use mathlib.Core.List.{List}
 use lib.ListN.{length, getD}
@@ -8,10 +8,24 @@ use Rattle.model.specs.Arena.{Segment, retold}
 use Rattle.model.specs.Zone.{Zone}
 use Rattle.model.specs.PageMap.{PageMap, occupancy}
 use Rattle.model.specs.Holdings.{blocksIn, roomIn, blocksOf, heldOf}
+use Rattle.zone.specs.Encoding.{positionBase}
+use Rattle.zone.specs.Decoding.{stateIn}
 
 -- The slots whose groups are counted at once: fewer than a byte counts, and whole vectors of bytes.
 abbrev pub stretch : ℕ
 stretch = 192
+
+-- The slots that become bytes at once: whole vectors of bytes, and few, since their states take stack.
+abbrev pub piece : ℕ
+piece = 32
+
+-- The byte of a chunk's state: a live one's group, 0 for an untouched one, and for every returned one a number above all groups.
+abbrev pub ownerByte : ℕ → ℕ
+ownerByte x = min x positionBase
+
+-- .. and of a slot, by its state.
+abbrev pub slotByte : ℕ → ℕ
+slotByte x = ownerByte (stateIn x)
 
 -- The figures t are those of the page map m.
 pub record Tallied (t : List ℕ) (m : PageMap) : Type 0 where

@@ -11,10 +11,10 @@ ghost use Rattle.model.specs.Sizes.{room};
 ghost use Rattle.model.specs.Arena.{Segment};
 ghost use Rattle.model.specs.Zone.{Zone};
 ghost use Rattle.model.specs.PageMap.{shown};
-ghost use Rattle.zone.specs.Decoding.{ownerIn, isZone, zoneOf};
+ghost use Rattle.zone.specs.Decoding.{stateIn, ownerIn, isZone, zoneOf};
 ghost use Rattle.pages.specs.Decoding.{segmentsOf, Holds};
 ghost use Rattle.pages.specs.Places.{Stands};
-ghost use Rattle.tally.specs.Figures.{stretch, arenas, Tallied, Added, Adds, Within};
+ghost use Rattle.tally.specs.Figures.{stretch, piece, ownerByte, slotByte, arenas, Tallied, Added, Adds, Within};
 use model::numbers::MOST_GROUP;
 use model::numbers::PAGE_BYTES;
 use zone::layout::HALF;
@@ -26,30 +26,71 @@ use zone::layout::POSITION_BASE;
 // The slots whose groups are counted at once: fewer than a byte counts, and whole vectors of bytes.
 const STRETCH: usize = 192;
 
+// The slots that become bytes at once: whole vectors of bytes, and few, since their states take stack.
+const PIECE: usize = 32;
+
+// Stands for no group: a state from here on is a returned chunk's.
+const NOBODY: u16 = POSITION_BASE as u16;
+
 // Where the held bytes begin, behind the live blocks.
 const GROUPS: usize = MOST_GROUP as usize;
 
-// The group in a slot, 0 where the chunk is not live.
-fn owner_byte(slot: u32) -> u8
-    ensures { λ r. ⌜ r ≡ ownerIn slot ⌝ }
-{
-    let state = slot % HALF;
-    if state < POSITION_BASE {
-        return state as u8;
-    }
-    0
-}
-
-// The groups in slots, as the first of the bytes.
-fn squeeze(slots: &[u32], bytes: &mut [u8])
-    requires { ⌜ length (now slots) ≤ length (now bytes) ⌝ }
-    ensures { λ _. ⌜ now (bytes .exit) ≡ map ownerIn (now (slots .entry)) ++ drop (length (now (slots .entry))) (now (bytes .entry)) ⌝ }
+// The states in slots, as the first of those lent. A loop of its own: one that makes bytes of words runs in shorter vectors.
+fn take_states(slots: &[u32], states: &mut [u16])
+    requires { ⌜ length (now slots) ≤ length (now states) ⌝ }
+    ensures { λ _. ⌜ now (states .exit) ≡ map stateIn (now (slots .entry)) ++ drop (length (now (slots .entry))) (now (states .entry)) ⌝ }
 {
     let mut i = 0;
     while i < slots.len() {
-        bytes[i] = owner_byte(slots[i]);
+        states[i] = (slots[i] % HALF) as u16;
         i += 1;
     }
+}
+
+// The byte of a state: its group, or NOBODY. The lesser of the two is quick in vectors, a group or 0 is not.
+fn owner_byte(state: u16) -> u8
+    ensures { λ r. ⌜ r ≡ ownerByte state ⌝ }
+{
+    if state < NOBODY {
+        return state as u8;
+    }
+    NOBODY as u8
+}
+
+// The bytes of states, as the first of those lent.
+fn narrow(states: &[u16], bytes: &mut [u8])
+    requires { ⌜ length (now states) ≤ length (now bytes) ⌝ }
+    ensures { λ _. ⌜ now (bytes .exit) ≡ map ownerByte (now (states .entry)) ++ drop (length (now (states .entry))) (now (bytes .entry)) ⌝ }
+{
+    let mut i = 0;
+    while i < states.len() {
+        bytes[i] = owner_byte(states[i]);
+        i += 1;
+    }
+}
+
+// The bytes of slots, as all of those lent: of a piece at most.
+fn squeeze_piece(slots: &[u32], bytes: &mut [u8])
+    requires { ⌜ (length (now slots) ≡ length (now bytes)) × (length (now slots) ≤ piece) ⌝ }
+    ensures { λ _. ⌜ now (bytes .exit) ≡ map slotByte (now (slots .entry)) ⌝ }
+{
+    let mut states = [0u16; PIECE];
+    take_states(slots, &mut states);
+    narrow(&states[0..slots.len()], bytes);
+}
+
+// The bytes of slots, as the first of those lent, piece by piece.
+fn squeeze(slots: &[u32], bytes: &mut [u8])
+    requires { ⌜ length (now slots) ≤ length (now bytes) ⌝ }
+    ensures { λ _. ⌜ now (bytes .exit) ≡ map slotByte (now (slots .entry)) ++ drop (length (now (slots .entry))) (now (bytes .entry)) ⌝ }
+{
+    let mut i = 0;
+    while i + PIECE <= slots.len() {
+        let end = i + PIECE;
+        squeeze_piece(&slots[i..end], &mut bytes[i..end]);
+        i = end;
+    }
+    squeeze_piece(&slots[i..], &mut bytes[i..slots.len()]);
 }
 
 // How many bytes are the group. All of them are read, and counted in a byte: so the loop runs in vectors.
@@ -107,11 +148,14 @@ fn add_slots(slots: &[u32], room: u32, figures: &mut [u32])
     add_stretch(&slots[i..], room, figures);
 }
 
-// Adds the live chunks of a zone. Slots behind those handed out are nobody's, and are not read.
+// Adds the live chunks of a zone. Where there is none no slot is read; those behind the ones handed out are nobody's, and never read.
 fn add_zone(part: &[u32], figures: &mut [u32])
     requires { ⌜ (isZone (now part) ≡ true) × Within 1 (now figures) ⌝ }
     ensures { λ _. ⌜ Added (λ g. times g (zoneOf (now (part .entry)) .owners)) (room (zoneOf (now (part .entry)) .class)) (now (figures .entry)) (now (figures .exit)) ⌝ }
 {
+    if zone::is_idle(part) {
+        return;
+    }
     let room = zone::sizes::room(zone::class_of(part));
     let end = HEAD + model::wide(zone::touched(part));
     add_slots(&part[HEAD..end], room, figures);

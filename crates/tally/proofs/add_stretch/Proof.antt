@@ -24,9 +24,9 @@ abbrev μ-loop : tie.MeasureT-loop
 abbrev start : tie.At-loop Inv-loop μ-loop → tie.Start Inv-loop μ-loop
 start c = c .before .before .before .before .before .before
 
--- The count is that of the chunks, since the bytes behind are zero.
-counted : (l : tie.At-loop Inv-loop μ-loop) (g : ℕ) → 0 < g → times g (l .before .before .squeeze .last .1 .0) ≡ times g (map ownerIn (start l .args .slots .now))
-counted l g p = times-squeezed g ownerIn (start l .args .slots .now) stretch _ p (l .before .before .squeeze .ensures)
+-- The count is that of the chunks: nothing else in the bytes is a group.
+counted : (l : tie.At-loop Inv-loop μ-loop) (g : ℕ) → 0 < g → g ≤ mostGroup → times g (l .before .before .squeeze .last .1 .0) ≡ times g (map ownerIn (start l .args .slots .now))
+counted l g p q = times-squeezed g p q (start l .args .slots .now) _ stretch (l .before .before .squeeze .ensures)
 
 squeeze-requires : tie.Need-squeeze-requires Inv-loop μ-loop
 squeeze-requires c κs = c .before .before .before .pre .0
@@ -58,7 +58,7 @@ loop-again : tie.Need-loop-again Inv-loop μ-loop
 loop-again c =
     let l : tie.At-loop Inv-loop μ-loop = c .before .before .before .before .before .before .before in
     let n : ℕ → ℕ = λ g. times g (map ownerIn (start l .args .slots .now)) in
-    let same = c .before .before .before .before .count-byte .ensures .0 ∙ counted l _ (omega arith) in
+    let same = c .before .before .before .before .count-byte .ensures .0 ∙ counted l _ (omega arith) (omega arith) in
     (omega arith, up-more n _ _ _ _ _ _ same (l .loop .inv .1) (c .before .before .add-blocks .ensures))
 
 same-length : tie.Need-same-length Inv-loop μ-loop
