@@ -109,11 +109,11 @@ pub passes : (w : List ℕ) → isState (statePart w) ≡ true → figuresFit (f
 unfolding isAccount
 passes w t u = and-both (isState (statePart w)) _ t u
 
--- Words that a state stands in behind the figures have the figures' words.
-begins-front : (v e : List ℕ) → take (length e) v ≡ e → length e ≤ length v
-begins-front v e b = bool (leb (length e) (length v))
-    (λ t. leb-true (length e) (length v) t)
-    (λ t. absurd (omega (arith, leb-false (length e) (length v) t, ap length (sym (take-all (length e) v (omega (arith, leb-false (length e) (length v) t))) ∙ b))))
+-- Words that begin with e are long enough for it.
+pub front-fits {ℓ} : {A : Type ℓ} (e w : List A) → take (length e) w ≡ e → length e ≤ length w
+front-fits e w b = bool (leb (length e) (length w))
+    (λ t. leb-true (length e) (length w) t)
+    (λ t. absurd (omega (arith, leb-false (length e) (length w) t, ap length (sym (take-all (length e) w (omega (arith, leb-false (length e) (length w) t))) ∙ b))))
 
 module _ (w : List ℕ) (t : isAccount w ≡ true) where
   abbrev s : State
@@ -127,7 +127,7 @@ module _ (w : List ℕ) (t : isAccount w ≡ true) where
 
   -- There are words behind the figures, so there are the figures.
   pub has-figures : figureWords < length w
-  has-figures = omega (arith, length-drop figureWords w, begins-front (statePart w) (encode s) (state-begins (statePart w) state-ok), encode-long s state-part)
+  has-figures = omega (arith, length-drop figureWords w, front-fits (encode s) (statePart w) (state-begins (statePart w) state-ok), encode-long s state-part)
 
   front-long : length (figuresPart w) ≡ figureWords
   front-long = length-take-le figureWords w (omega (arith, has-figures))
@@ -183,7 +183,7 @@ module _ (a : Account) (v : ValidAccount a) where
     both = sym (take-add figureWords (length S) w) ∙ ap (λ k. take k w) (sym (length-append F S ∙ ap (λ k. k + length S) F-long)) ∙ b
 
     in-words : length (accountEncoding a) ≤ length w
-    in-words = begins-front w (accountEncoding a) b
+    in-words = front-fits (accountEncoding a) w b
 
     front : length (take figureWords w) ≡ figureWords
     front = length-take-le figureWords w (omega (arith, in-words, account-long))

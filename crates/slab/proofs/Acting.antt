@@ -37,12 +37,12 @@ use Rattle.metadata.specs.Decoding.{headerPart, pagesPart, decode, isState}
 use Rattle.metadata.proofs.States.{state-read, state-pages, encode-long}
 use Rattle.account.specs.Encoding.{accountEncoding}
 use Rattle.account.specs.Decoding.{statePart, accountIn, isAccount, accountOf}
-use Rattle.account.proofs.Accounts.{passed, account-valid, account-begins, account-long, accountOf-some, accountOf-none}
+use Rattle.account.proofs.Accounts.{front-fits, passed, account-valid, account-begins, account-long, accountOf-some, accountOf-none}
 use Rattle.steps.specs.Lent.{Good}
 use Rattle.steps.proofs.Kept.{good-of, good-decoded}
 use Rattle.slab.specs.Calls.{stateOf, answerOf, metaAfter, listedOf, textAfter}
 use Rattle.slab.specs.Arena.{pagesOf, Arena, roomTold}
-use Rattle.slab.proofs.Words.{front-fits, front-same, following, refused-same, unserved-answer, served-long, served-answer, served-words}
+use Rattle.slab.proofs.Words.{front-same, following, refused-same, unserved-answer, served-long, served-answer, served-words}
 
 -- A test that cannot come out so proves any.
 pub never-true : {b : Bool} → false ≡ true → b ≡ true

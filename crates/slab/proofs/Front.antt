@@ -22,9 +22,9 @@ use Rattle.metadata.specs.Decoding.{decode}
 use Rattle.metadata.proofs.States.{state-pages}
 use Rattle.account.specs.Encoding.{accountEncoding, BeginsWith}
 use Rattle.account.specs.Decoding.{statePart, accountIn, isAccount, accountOf}
-use Rattle.account.proofs.Accounts.{passed, account-valid, account-begins, account-long, begins-passes, accountOf-some, accountOf-none}
+use Rattle.account.proofs.Accounts.{front-fits, passed, account-valid, account-begins, account-long, begins-passes, accountOf-some, accountOf-none}
 use Rattle.slab.specs.Calls.{written, answerOf, metaAfter, legalPages, extent}
-use Rattle.slab.proofs.Words.{front-fits, following, holding-of, by-account, refused-same, unserved-answer, served-long, served-answer, served-words}
+use Rattle.slab.proofs.Words.{following, holding-of, by-account, refused-same, unserved-answer, served-long, served-answer, served-words}
 use Rattle.slab.proofs.Fresh.{bad-answer, short-answer, fresh-done, fresh-words}
 
 -- A call on the words w is the call on the first k of them, with the others behind.

@@ -8,8 +8,8 @@ use mathlib.Core.Bool.{true, _&&_}
 use native.Mathlib.Omega.{arith}
 use lib.Dec.{leb, eqb}
 use lib.ListN.{length, take, drop, length-append, length-drop, take-append-drop}
-use lib.Seq.{take-all, take-append-seam, drop-append-seam, drop-drop}
-use borrow.Author.Tests.{leb-true, leb-false}
+use lib.Seq.{take-append-seam, drop-append-seam, drop-drop}
+use borrow.Author.Tests.{leb-true}
 use Rattle.lemmas.proofs.Cases.{bool, and-left, and-right, some-inj, none-some}
 use Rattle.model.specs.Numbers.{mostGroup, mostPages}
 use Rattle.model.specs.declared.Refusal.the-variants.{NoState}
@@ -26,18 +26,13 @@ use Rattle.model.proofs.Accounts.{accounted-same, fresh-account, serve-account,
 use Rattle.model.proofs.Totals.{serve-total}
 use Rattle.account.specs.Encoding.{accountEncoding, BeginsWith}
 use Rattle.account.specs.Decoding.{isAccount, accountOf}
-use Rattle.account.proofs.Accounts.{account-valid, account-begins, account-long, accountOf-some}
+use Rattle.account.proofs.Accounts.{account-valid, account-begins, account-long, accountOf-some, front-fits}
 use Rattle.slab.specs.Calls.{viewOf, stateOf, written, answerOf, metaAfter}
 
 -- Words in front of others --------------------------------------------------------------------------------------------------------
 
 module _ {A : Type 0} (e w : List A) where
-  -- Words that begin with e are long enough for it, and are e and what stands behind it.
-  pub front-fits : take (length e) w ≡ e → length e ≤ length w
-  front-fits b = bool (leb (length e) (length w))
-      (λ t. leb-true (length e) (length w) t)
-      (λ t. absurd (omega (arith, leb-false (length e) (length w) t, ap length (sym (take-all (length e) w (omega (arith, leb-false (length e) (length w) t))) ∙ b))))
-
+  -- Words that begin with e are e and what stands behind it.
   pub front-same : take (length e) w ≡ e → e ++ drop (length e) w ≡ w
   front-same b = ap (λ l. l ++ drop (length e) w) (sym b) ∙ take-append-drop (length e) w
 
