@@ -232,8 +232,9 @@ pub extern "C" fn nostrimel_listing(meta: &mut [u32], text: &mut [u8], used: &mu
 
 // The list is a slice of structs, which the borrow checker does not cover: the proof is by hand.
 #[no_mangle]
-pub extern "C" fn nostrimel_holdings(meta: &[u32], list: &mut [Holding]) -> u32
+pub extern "C" fn nostrimel_holdings(meta: &mut [u32], list: &mut [Holding]) -> u32
     ensures { λ r. ⌜ r ≡ reading (answerOf (now (meta .entry)) (rules.act (rules.holdings (length (now (list .entry)))))) .refusal ⌝ }
+    ensures { λ _. ⌜ now (meta .exit) ≡ metaAfter (now (meta .entry)) (rules.act (rules.holdings (length (now (list .entry))))) ⌝ }
     ensures { λ _. ⌜ now (list .exit) ≡ listAfter (now (meta .entry)) (now (list .entry)) ⌝ }
 {
     refusal_of(slab::holdings(meta, list))

@@ -112,8 +112,9 @@ fn unread() -> Answer
 
 // Writes what each group holds, group 1 first, to the list, if it has as many records as there are groups. The words are only read. (The
 // list is a slice of structs, which the borrow checker does not cover: the proof is a walk of the function's MIR, by hand.)
-pub fn holdings(meta: &[u32], list: &mut [Holding]) -> Answer
+pub fn holdings(meta: &mut [u32], list: &mut [Holding]) -> Answer
     ensures { λ r. ⌜ r ≡ answerOf (now (meta .entry)) (rules.act (rules.holdings (length (now (list .entry))))) ⌝ }
+    ensures { λ _. ⌜ now (meta .exit) ≡ metaAfter (now (meta .entry)) (rules.act (rules.holdings (length (now (list .entry))))) ⌝ }
     ensures { λ _. ⌜ now (list .exit) ≡ listAfter (now (meta .entry)) (now (list .entry)) ⌝ }
 {
     if account::check(meta) {

@@ -25,8 +25,8 @@ use denote.Laws.{Is, shows}
 use denote.Plain.{uint-lawful}
 use denote.Builtin.{u32}
 use denote.Ref.{RefT}
-use denote.Signature.{plain, shrSlice}
-use denote.Slice.{sliceVal, slice-vals, Room, finally, mut-slice-tells, shr-slice-tells}
+use denote.Signature.{plain}
+use denote.Slice.{sliceVal, slice-vals, Room, finally, mut-slice-tells}
 use denote.Steps.{peeks, heard, nothing}
 use denote.Enum.Laws as EL
 use denote.Triple.Statement.{Contract, Triple}
@@ -34,16 +34,15 @@ use denote.Triple.Call.{calls-at}
 use denote.Triple.Spec.{Meets, tripleOf}
 use denote.Triple.Table.{entered, cited}
 use denote.Triple.Clauses.{ensured, lasts}
-use denote.Exit.{yes}
-use denote.Triple.Walked.{Stays, stay-dropped, gave-slice, walkOf, goes-dropped, goes-gave-slice, Walks, ends-at, walked, walk-meets}
+use denote.Triple.Walked.{Stays, gave-slice, walkOf, goes-gave-slice, Walks, ends-at, walked, walk-meets}
 use Rattle.model.specs.Calls.{holdings, act, reading}
 use Rattle.model.specs.declared.Answer.{Answer}
 use Rattle.model.specs.declared.Holding.{Holding}
 use Rattle.model.proofs.Holding as T
 use Rattle.model.proofs.Answer as E
 use Rattle.model.proofs.Answer.Laws as E′
-use Rattle.slab.specs.Calls.{answerOf, listAfter}
-use Rattle.slab.proofs.Clauses.{both}
+use Rattle.slab.specs.Calls.{answerOf, metaAfter, listAfter}
+use Rattle.slab.proofs.Clauses.{all-three}
 use Rattle.slab.proofs.holdings as g
 use Rattle.slab.proofs.holdings.Symbol as inner-def
 use Rattle.slab.proofs.holdings.Symbol.{name as #slab·holdings}
@@ -57,9 +56,9 @@ use Rattle.capi.proofs.nostrimel_holdings as f
 use Rattle.capi.proofs.nostrimel_holdings.Statement as stated
 use Rattle.capi.proofs.nostrimel_holdings.Code as code
 
--- nothing is had of the words at exit, and the list is given up for good
+-- both borrows are given up for good
 abbrev stayed : Stays (f.ended .signature .params) (f.ended .kept)
-stayed = (stay-dropped (shrSlice 0 tt (λ _. u32)) yes, (gave-slice (1 ∷ []) tt (plain (λ _. T.the-row)), tt))
+stayed = (gave-slice (0 ∷ []) tt (plain (λ _. u32)), (gave-slice (1 ∷ []) tt (plain (λ _. T.the-row)), tt))
 
 module _ {M : Type 1} (𝓤 : URA M) (H : Heap 𝓤) (A : Atoms 𝓤) (mem : Memory → SProp 𝓤) (run : Routine → Fun 𝓤) where
   -- the contracts that the proof cites
@@ -97,19 +96,20 @@ module _ {M : Type 1} (𝓤 : URA M) (H : Heap 𝓤) (A : Atoms 𝓤) (W : Given
   abbrev Tokens : Item 𝓤
   Tokens = ‵ (flft κ q) ⊛ ‵ (flft κ′ q′) ⊛ ‵ ftrue
 
-  -- what `holdings` ensures of its answer and of the list's last value
-  abbrev Held : Answer → List Holding → Type 0
-  Held r ys = (r ≡ answerOf ws (act (holdings (length xs)))) × (ys ≡ listAfter ws xs)
+  -- what `holdings` ensures of its answer, and of the last values of the words and of the list
+  abbrev Held : Answer → List ℕ → List Holding → Type 0
+  Held r zs ys = (r ≡ answerOf ws (act (holdings (length xs)))) × (zs ≡ metaAfter ws (act (holdings (length xs)))) × (ys ≡ listAfter ws xs)
 
-  -- what is had at the end, with the list at ys
-  abbrev Ends : ℕ → Val → List Holding → List (Item 𝓤)
-  Ends k u ys = Tokens ∷ ‵ (finally T.the-row (y .name) ys) ∷ ‵ (u32 .own k (u ∷ [])) ∷ []
+  -- what is had at the end, with the words at zs and the list at ys
+  abbrev Ends : ℕ → Val → List ℕ → List Holding → List (Item 𝓤)
+  Ends k u zs ys = Tokens ∷ ‵ (finally u32 (x .name) zs) ∷ ‵ (finally T.the-row (y .name) ys) ∷ ‵ (u32 .own k (u ∷ [])) ∷ []
 
-  exits : (r : Answer) (k : ℕ) (u : Val) (ys : List Holding) → Held r ys → k ≡ reading r .refusal → length ys ≡ length xs → ent 𝓤 (⋆ 𝓤 H A (Ends k u ys)) (Post u)
-  exits r k u ys e e₂ l =
-      qed W (Ends k u ys) ∵ suffices ! _ (ends-at 𝓤 H A f.ended stayed (f.clauses 𝓤 H A mem run) W to u k (tt, (ys, tt)) (tt, (l, tt))) $
-      suffices ! _ (both 𝓤 _ (e₂ ∙ ap (λ (s : Answer). reading s .refusal) (e .0)) (e .1)) $ frame ! $
-      nothing ! $ move ! (1 ∷ 0 ∷ []) $ fjoin ! $ nothing ! $ fjoin ! $ frame ! $ done !
+  exits : (r : Answer) (k : ℕ) (u : Val) (zs : List ℕ) (ys : List Holding) → Held r zs ys → k ≡ reading r .refusal → length zs ≡ length ws → length ys ≡ length xs
+      → ent 𝓤 (⋆ 𝓤 H A (Ends k u zs ys)) (Post u)
+  exits r k u zs ys e e₂ l l′ =
+      qed W (Ends k u zs ys) ∵ suffices ! _ (ends-at 𝓤 H A f.ended stayed (f.clauses 𝓤 H A mem run) W to u k (zs, (ys, tt)) (l, (l′, tt))) $
+      suffices ! _ (all-three 𝓤 _ (e₂ ∙ ap (λ (s : Answer). reading s .refusal) (e .0)) (e .1) (e .2)) $ frame ! $
+      nothing ! $ move ! (2 ∷ 0 ∷ []) $ fjoin ! $ move ! (1 ∷ 0 ∷ []) $ fjoin ! $ frame ! $ done !
 
   typed : (r : Answer) (u : Val) → Is E.the-row r (u ∷ []) → Holds (hasTy E′.mir u) × WT u
   typed r u is = EL.lawful E.the-type E′.the-laws 𝓤 H A W tt .typed r _ is .0
@@ -129,43 +129,49 @@ module _ {M : Type 1} (𝓤 : URA M) (H : Heap 𝓤) (A : Atoms 𝓤) (W : Given
       → ent 𝓤 (Inner 𝓤 H A mem run .pre to) (WpFn 𝓤 H (𝓣 .C) (𝓣 .Λ) code.function (v ∷ v′ ∷ []) Post)
   walk 𝓣 known fits fits′ =
       qed W (raw (Inner 𝓤 H A mem run .pre to) ∷ []) ∵ enter ! (𝓣 .C) (𝓣 .Λ) code.function (v ∷ v′ ∷ []) _ $
-      alloc1 ! (λ l₀. alloc1 ! (λ l₁. alloc1 ! (λ l₂. alloc1 ! (λ l₃. alloc1 ! (λ l₄. alloc1 ! (λ l₅. alloc0 ! $ params1 ! $
-      pass1 ! (init ! 8 refl (tt, (tt, (record { fits = fits .0 }, tt)))) $ pass1 ! (init ! 6 refl (tt, (tt, (record { fits = fits′ .0 }, tt)))) $ pass0 ! $
-      -- the list is lent on: local k stands at 2 · (5 - k)
-      assigns ! (addr ! (from ! (fld ! refl (hop ! (look-in ! 6 (sub ! 0 refl (whole !))) (stop !))))) (from ! (stop !)) (init ! 2 refl (tt, tt)) $
-      assigns ! (agg ! (and-then ! (load ! (from ! (stop !)) (look ! 2 refl)) (and-then ! (load ! (from ! (fld ! refl (stop !))) (look-in ! 6 (sub ! 1 refl (whole !)))) (no-more !))))
+      alloc1 ! (λ l₀. alloc1 ! (λ l₁. alloc1 ! (λ l₂. alloc1 ! (λ l₃. alloc1 ! (λ l₄. alloc1 ! (λ l₅. alloc1 ! (λ l₆. alloc1 ! (λ l₇. alloc0 ! $ params1 ! $
+      pass1 ! (init ! 12 refl (tt, (tt, (record { fits = fits .0 }, tt)))) $ pass1 ! (init ! 10 refl (tt, (tt, (record { fits = fits′ .0 }, tt)))) $ pass0 ! $
+      -- the words and the list are lent on: local k stands at 2 · (7 - k)
+      assigns ! (addr ! (from ! (fld ! refl (hop ! (look-in ! 12 (sub ! 0 refl (whole !))) (stop !))))) (from ! (stop !)) (init ! 6 refl (tt, tt)) $
+      assigns ! (agg ! (and-then ! (load ! (from ! (stop !)) (look ! 6 refl)) (and-then ! (load ! (from ! (fld ! refl (stop !))) (look-in ! 12 (sub ! 1 refl (whole !)))) (no-more !))))
+      (from ! (stop !)) (init ! 4 refl (tt, (tt, (record { fits = fits .0 }, tt)))) $
+      assigns ! (addr ! (from ! (fld ! refl (hop ! (look-in ! 10 (sub ! 0 refl (whole !))) (stop !))))) (from ! (stop !)) (init ! 2 refl (tt, tt)) $
+      assigns ! (agg ! (and-then ! (load ! (from ! (stop !)) (look ! 2 refl)) (and-then ! (load ! (from ! (fld ! refl (stop !))) (look-in ! 10 (sub ! 1 refl (whole !)))) (no-more !))))
       (from ! (stop !)) (init ! 0 refl (tt, (tt, (record { fits = fits′ .0 }, tt)))) $
-      move ! (12 ∷ []) $ calls-at ! (fmOf 𝓤 H (W .laws) 𝓣) (Inner 𝓤 H A mem run) (known .0) to
-      (and-then ! (load ! (from ! (stop !)) (look ! 9 refl)) (and-then ! (load ! (from ! (stop !)) (look ! 1 refl)) (no-more !))) (λ u.
+      move ! (16 ∷ []) $ calls-at ! (fmOf 𝓤 H (W .laws) 𝓣) (Inner 𝓤 H A mem run) (known .0) to
+      (and-then ! (load ! (from ! (stop !)) (look ! 5 refl)) (and-then ! (load ! (from ! (stop !)) (look ! 1 refl)) (no-more !))) (λ u.
       use1 W (later (some (λ (r : Answer). (Tokens ⊛ ‵ (E.the-row .own r (u ∷ [])))
       ⊛ raw (ensured 𝓤 H A g.ended (g.clauses 𝓤 H A mem run) (κ, (κ′, tt)) (x, (y, tt)) tt r)))) (id⊢ 𝓤 _) $ await ! tt $ pick ! (λ r. split ! $ move ! (1 ∷ []) $
-      use1 W (some (λ (zs : Unit {0} × (List Holding × Unit {0})). ‵ (lasts g.ended (κ, (κ′, tt)) (x, (y, tt)) zs)
-      ⊛ raw (fact 𝓤 (r ≡ answerOf ws (act (holdings (length xs))))) ⊛ raw (fact 𝓤 (zs .1 .0 ≡ listAfter ws xs)))) (id⊢ 𝓤 _) $ pick ! (λ zs.
-      split ! $ move ! (1 ∷ []) $ split ! $ heard ! (r ≡ answerOf ws (act (holdings (length xs)))) (λ e. heard ! (zs .1 .0 ≡ listAfter ws xs) (λ e₁. fsplit ! $ drop ! $ fsplit ! $ fsplit ! $ move ! (1 ∷ []) $
-      feqL ! (λ l.
-      move ! (2 ∷ []) $ split ! $ move ! (1 ∷ []) $ peeks ! E.the-row (Is E.the-row) (shows 𝓤 H A E.the-row) r (u ∷ []) (λ is.
-      -- [the answer; the tokens; how the list ends; true; the locals, _5 first, from 4 on]
-      land ! (from ! (stop !)) (init ! 8 refl (typed r u is)) $ use1 W (raw (Number 𝓤 H A mem run .pre (to-number r u))) (asks r u) $
-      calls-at ! (fmOf 𝓤 H (W .laws) 𝓣) (Number 𝓤 H A mem run) (known .1) (to-number r u) (and-then ! (load ! (from ! (stop !)) (look ! 8 refl)) (no-more !)) (λ w.
+      use1 W (some (λ (zs : List ℕ × (List Holding × Unit {0})). ‵ (lasts g.ended (κ, (κ′, tt)) (x, (y, tt)) zs)
+      ⊛ raw (fact 𝓤 (r ≡ answerOf ws (act (holdings (length xs))))) ⊛ raw (fact 𝓤 (zs .0 ≡ metaAfter ws (act (holdings (length xs)))))
+      ⊛ raw (fact 𝓤 (zs .1 .0 ≡ listAfter ws xs)))) (id⊢ 𝓤 _) $ pick ! (λ zs.
+      split ! $ move ! (1 ∷ []) $ split ! $ heard ! (r ≡ answerOf ws (act (holdings (length xs)))) (λ e. split ! $
+      heard ! (zs .0 ≡ metaAfter ws (act (holdings (length xs)))) (λ e₁. heard ! (zs .1 .0 ≡ listAfter ws xs) (λ e₂.
+      fsplit ! $ fsplit ! $ move ! (1 ∷ []) $ feqL ! (λ l. move ! (1 ∷ []) $ fsplit ! $ fsplit ! $ move ! (1 ∷ []) $ feqL ! (λ l′.
+      move ! (3 ∷ []) $ split ! $ move ! (1 ∷ []) $ peeks ! E.the-row (Is E.the-row) (shows 𝓤 H A E.the-row) r (u ∷ []) (λ is.
+      -- [the answer; the tokens; how the list ends; true; how the words end; the locals, _7 first, from 5 on]
+      land ! (from ! (stop !)) (init ! 13 refl (typed r u is)) $ use1 W (raw (Number 𝓤 H A mem run .pre (to-number r u))) (asks r u) $
+      calls-at ! (fmOf 𝓤 H (W .laws) 𝓣) (Number 𝓤 H A mem run) (known .1) (to-number r u) (and-then ! (load ! (from ! (stop !)) (look ! 13 refl)) (no-more !)) (λ w.
       use1 W (later (some (λ (k : ℕ). (‵ ftrue ⊛ ‵ (u32 .own k (w ∷ []))) ⊛ raw (ensured 𝓤 H A n.ended (n.clauses 𝓤 H A mem run) tt (r, tt) tt k)))) (id⊢ 𝓤 _) $
-      await ! tt $ pick ! (λ k. split ! $ move ! (1 ∷ []) $ use1 W (raw (fact 𝓤 (k ≡ reading r .refusal))) (numbered r u k) $ heard ! (k ≡ reading r .refusal) (λ e₂.
+      await ! tt $ pick ! (λ k. split ! $ move ! (1 ∷ []) $ use1 W (raw (fact 𝓤 (k ≡ reading r .refusal))) (numbered r u k) $ heard ! (k ≡ reading r .refusal) (λ e₃.
       split ! $ drop ! $ peeks ! u32 (Is u32) (shows 𝓤 H A u32) k (w ∷ []) (λ is₂.
-      -- [the number; the tokens; how the list ends; true; the locals from 4 on]
-      land ! (from ! (stop !)) (init ! 14 refl (uint-lawful 𝓤 H A W w32 .typed k _ is₂ .0)) $ returns ! (look ! 14 refl) $
-      forget ! 4 refl $ forget ! 6 refl $ forget ! 8 refl $ forget ! 10 refl $ forget ! 12 refl $ forget ! 14 refl $
-      move ! (14 ∷ 15 ∷ []) $ free1 ! $ move ! (12 ∷ 13 ∷ []) $ free1 ! $ move ! (10 ∷ 11 ∷ []) $ free1 ! $ move ! (8 ∷ 9 ∷ []) $ free1 ! $ move ! (6 ∷ 7 ∷ []) $ free1 ! $
-      move ! (4 ∷ 5 ∷ []) $ free1 ! $ free0 ! $ keep ! (1 ∷ 2 ∷ 0 ∷ []) $ by ! (exits r k w (zs .1 .0) (e, e₁) e₂ l))))))))))))))))))
+      -- [the number; the tokens; how the list ends; true; how the words end; the locals from 5 on]
+      land ! (from ! (stop !)) (init ! 19 refl (uint-lawful 𝓤 H A W w32 .typed k _ is₂ .0)) $ returns ! (look ! 19 refl) $
+      forget ! 5 refl $ forget ! 7 refl $ forget ! 9 refl $ forget ! 11 refl $ forget ! 13 refl $ forget ! 15 refl $ forget ! 17 refl $ forget ! 19 refl $
+      move ! (19 ∷ 20 ∷ []) $ free1 ! $ move ! (17 ∷ 18 ∷ []) $ free1 ! $ move ! (15 ∷ 16 ∷ []) $ free1 ! $ move ! (13 ∷ 14 ∷ []) $ free1 ! $ move ! (11 ∷ 12 ∷ []) $ free1 ! $
+      move ! (9 ∷ 10 ∷ []) $ free1 ! $ move ! (7 ∷ 8 ∷ []) $ free1 ! $ move ! (5 ∷ 6 ∷ []) $ free1 ! $ free0 ! $ keep ! (1 ∷ 4 ∷ 2 ∷ 0 ∷ []) $
+      by ! (exits r k w (zs .0) (zs .1 .0) (e, e₁, e₂) e₃ l l′))))))))))))))))))))))
 
 module _ {M : Type 1} (𝓤 : URA M) (H : Heap 𝓤) (A : Atoms 𝓤) (W : Given 𝓤 H A) (mem : Memory → SProp 𝓤) (run : Routine → Fun 𝓤)
     (𝓣 : Tables 𝓤 H) (known : Known 𝓤 H A mem run 𝓣) where
   nostrimel-holdings-walks : Walks 𝓤 H A f.ended stayed (WpFn 𝓤 H (𝓣 .C) (𝓣 .Λ) code.function) (f.clauses 𝓤 H A mem run)
   nostrimel-holdings-walks = walked 𝓤 H A f.ended stayed (f.clauses 𝓤 H A mem run) (WpFn 𝓤 H (𝓣 .C) (𝓣 .Λ) code.function)
-      (λ κs. (slice-vals, (slice-vals, tt))) (λ κs. (shr-slice-tells (named 0) (κs .0) u32, (mut-slice-tells (named 1) (κs .1 .0) T.the-row, tt)))
+      (λ κs. (slice-vals, (slice-vals, tt))) (λ κs. (mut-slice-tells (named 0) (κs .0) u32, (mut-slice-tells (named 1) (κs .1 .0) T.the-row, tt)))
       (λ κs qs bounds a g are. walk 𝓤 H A W mem run (κs .0) (κs .1 .0) (qs .0) (qs .1 .0) (a .0) (a .1 .0) 𝓣 known (are .0 .0 .1) (are .1 .0 .0 .1))
 
   nostrimel-holdings-meets : Meets 𝓤 H A f.signature (WpFn 𝓤 H (𝓣 .C) (𝓣 .Λ) code.function) (f.spec 𝓤 H A mem run)
   nostrimel-holdings-meets = walk-meets 𝓤 H A f.ended stayed W
-      (goes-dropped 𝓤 H A W 2 (shrSlice 0 tt (λ _. u32)) yes (λ κs x f. refl), (goes-gave-slice 𝓤 H A W 2 1 tt (plain (λ _. T.the-row)), tt)) (f.clauses 𝓤 H A mem run)
+      (goes-gave-slice 𝓤 H A W 2 0 tt (plain (λ _. u32)), (goes-gave-slice 𝓤 H A W 2 1 tt (plain (λ _. T.the-row)), tt)) (f.clauses 𝓤 H A mem run)
       (WpFn 𝓤 H (𝓣 .C) (𝓣 .Λ) code.function) (WpFn-mono 𝓤 H (W .laws) 𝓣 code.function) nostrimel-holdings-walks
 
 pub nostrimel-holdings-spec : {M : Type 1} → stated.statement M
