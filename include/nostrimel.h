@@ -44,7 +44,8 @@
  *   - Memory: four bytes a word, which is 4,352 bytes and 2,080 for each page. So the metadata are about half as large as the
  *     arena: 54,272 bytes for 24 pages (98,304 bytes), 536,832 for 256 (1,048,576).
  *   - Time: each call but nostrimel_init reads all of its state's words before it does anything, since any of them may be wrong. On
- *     one machine most calls took one to two microseconds at 24 pages and 8 to 24 at 256; docs/PERFORMANCE.md has the others.
+ *     one machine most calls took one to four microseconds at 24 pages and 6 to 52 at 256, by how many chunks were live;
+ *     docs/PERFORMANCE.md has the others.
  *   - Stack: NOSTRIMEL_STACK_BYTES are enough for any call.
  */
 #ifndef NOSTRIMEL_H
@@ -87,7 +88,7 @@ extern "C" {
 
 /*
  * Bytes of stack that a call uses at most. That is measured and not proved: in twenty thousand calls of all kinds, on painted stacks,
- * a listing used 504 at most and any other call 376 (tests/c/stack.c, which fails where a call uses more than this).
+ * none used more than 816, a request the most (tests/c/stack.c, which fails where a call uses more than this).
  */
 #define NOSTRIMEL_STACK_BYTES 2048u
 

@@ -8,11 +8,14 @@ use Rattle.lemmas.specs.Parts.{putMid}
 use Rattle.model.specs.Numbers.{figureWords}
 use Rattle.model.specs.declared.Operation.the-variants.{Free}
 use Rattle.model.specs.Holdings.{holdingOf}
+use Rattle.model.specs.PageMap.{pageMap, blockAt}
+use Rattle.model.specs.Trim.{described}
 use Rattle.model.specs.Calls.{Action, group, isRefused}
 use Rattle.model.specs.Perform.{serve}
 use Rattle.figures.specs.Encoding.{figuresEncoding}
 use Rattle.figures.proofs.Encoded.{length-figures}
 use Rattle.account.specs.Decoding.{accountIn}
+use Rattle.slab.specs.Arena.{roomTold}
 use Rattle.slab.proofs.Acting.{arena-few, arena-valid, arena-inside, arena-good, arena-answer, arena-done, arena-not, figures-there, long-there, arena-stepped, arena-refused, told-room}
 use Rattle.slab.proofs.Returning.{return-group, return-needs, return-done}
 use borrow.Author.Needs.{needs}
@@ -52,6 +55,13 @@ done c =
     let w = sized a in
     arena-done (start w .pre) _ (w .words-for .ensures) (call (start w)) _ (a .free .ensures .0) _ (t .is-refused .ensures) (c .before .if1 .left)
 
+-- The room that was told before the block came back.
+told : (c : tie.After-wide) → answered (kept c) .before .before .room-told .result ≡ roomTold (described (blockAt (pageMap (accountIn (begun c .args .meta .now) .state)) (begun c .args .offset)))
+told c =
+    let a = answered (kept c) in
+    let w = sized a in
+    a .before .before .room-told .ensures ∙ told-room (start w .pre) _ (w .words-for .ensures) _ _ (a .before .before .before .describe .ensures)
+
 words-for-requires : tie.Need-words-for-requires
 words-for-requires c κs = arena-few (c .before .pre)
 
@@ -90,7 +100,7 @@ take-requires : tie.Need-take-requires
 take-requires c κs =
     let i = c .before in
     let s = begun i in
-    return-needs (accountIn (s .args .meta .now)) (arena-valid (s .pre)) (s .args .group) (s .args .offset) (done i) _ (lent i) _ (ap (λ g. g - 1) (i .wide .ensures)) _ (let a = answered (kept i) in a .before .before .room-told .ensures ∙ told-room (start (sized a) .pre) _ (sized a .words-for .ensures) _ _ (a .before .before .before .describe .ensures))
+    return-needs (accountIn (s .args .meta .now)) (arena-valid (s .pre)) (s .args .group) (s .args .offset) (done i) _ (lent i) _ (ap (λ g. g - 1) (i .wide .ensures)) _ (told i)
 
 returns-2 : tie.Need-returns-2
 returns-2 c =
@@ -103,7 +113,7 @@ returns-2 c =
     let r = a .free .ensures in (
       arena-answer (s .pre) _ e (call s) _ (r .0),
       arena-stepped (s .pre) _ e (call s) _ (r .1) _
-          (return-done (accountIn (s .args .meta .now)) (arena-valid (s .pre)) (s .args .group) (s .args .offset) (done i) _ (lent i) _ (ap (λ g. g - 1) (i .wide .ensures)) _ (let a = answered (kept i) in a .before .before .room-told .ensures ∙ told-room (start (sized a) .pre) _ (sized a .words-for .ensures) _ _ (a .before .before .before .describe .ensures)) _ (b .take .ensures)),
+          (return-done (accountIn (s .args .meta .now)) (arena-valid (s .pre)) (s .args .group) (s .args .offset) (done i) _ (lent i) _ (ap (λ g. g - 1) (i .wide .ensures)) _ (told i) _ (b .take .ensures)),
     )
 
 pub free-in-spec : {M : Type 1} → statement M
