@@ -5,7 +5,7 @@ use mathlib.Core.Option.{Option, none, some}
 use mathlib.Core.Bool.{true, _&&_}
 use native.Mathlib.Omega.{arith}
 use lib.Dec.{leb}
-use lib.ListN.{getD, length-replicate, getD-replicate}
+use lib.ListN.{length, getD, length-replicate, getD-replicate}
 use lib.Seq.{ext-getD}
 use borrow.Author.Tests.{leb-true}
 use Rattle.lemmas.proofs.ListFrom.{length-listFrom, getD-listFrom}
@@ -14,7 +14,7 @@ use Rattle.model.specs.Numbers.{mostGroup, mostPages}
 use Rattle.model.specs.Arena.{total}
 use Rattle.model.specs.State.{State}
 use Rattle.model.specs.PageMap.{pageMap}
-use Rattle.model.specs.Holdings.{heldOf, Account, accounted, freshAccount}
+use Rattle.model.specs.Holdings.{heldOf, Account, raised, accounted, freshAccount}
 use Rattle.model.specs.Valid.{Valid, ValidAccount}
 use Rattle.model.specs.Calls.{Action, Command, init, act, isRefused}
 use Rattle.model.specs.Perform.{serve, Metadata, allWords, initialise, onAccount, perform}
@@ -23,26 +23,29 @@ use Rattle.model.proofs.Totals.{serve-total}
 use Rattle.model.proofs.Validity.{fresh-valid, serve-valid, Leaves, guarded, serve-leaves}
 
 -- A group's greatest figure in the next account.
-pub greatest-next : (a : Account) (s : State) (i : ℕ) → i < mostGroup → getD (accounted a s .greatest) i 0 ≡ max (getD (a .greatest) i 0) (heldOf (suc i) (pageMap s))
-greatest-next a s i h = getD-listFrom (λ i. max (getD (a .greatest) i 0) (heldOf (suc i) (pageMap s))) 0 mostGroup i 0 h ∙ ap (λ i. max (getD (a .greatest) i 0) (heldOf (suc i) (pageMap s))) (let e : 0 + i ≡ i = omega arith in e)
+pub greatest-next : (a : Account) (s : State) (i : ℕ) → i < mostGroup → getD (accounted a s .greatest) i 0 ≡ raised a s i
+greatest-next a s i h = getD-listFrom (raised a s) 0 mostGroup i 0 h ∙ ap (raised a s) (let e : 0 + i ≡ i = omega arith in e)
 
 -- The next account of a valid one is valid, if the state that it is to have is, and has as many pages.
 pub accounted-valid : (a : Account) → ValidAccount a → (s : State) → Valid s → total (s .segments) ≡ total (a .state .segments) → ValidAccount (accounted a s)
 accounted-valid a v s u e = record {
   state = u;
-  groups = length-listFrom (λ i. max (getD (a .greatest) i 0) (heldOf (suc i) (pageMap s))) 0 mostGroup;
+  groups = length-listFrom (raised a s) 0 mostGroup;
   least = λ i h. let n = greatest-next a s i h in omega arith;
-  most = λ i h. let n = greatest-next a s i h in let o = v .most i h in let m = held-most (suc i) (omega arith) (s .segments) (u .sound) in omega arith;
+  most = λ i h. let n = greatest-next a s i h in let o = v .most i h in let m = held-most (suc i) (s .segments) (u .sound) in omega arith;
 }
 
 -- Where the state stays, so does the account.
 pub accounted-same : (a : Account) → ValidAccount a → accounted a (a .state) ≡ a
 accounted-same a v = λ i. record { state = a .state; greatest = same i }
   where
+    long : length (accounted a (a .state) .greatest) ≡ mostGroup
+    long = length-listFrom (raised a (a .state)) 0 mostGroup
+
     same : accounted a (a .state) .greatest ≡ a .greatest
-    same = ext-getD 0 (accounted a (a .state) .greatest) (a .greatest)
-        (length-listFrom (λ i. max (getD (a .greatest) i 0) (heldOf (suc i) (pageMap (a .state)))) 0 mostGroup ∙ sym (v .groups))
-        (λ i h. let b : i < mostGroup = omega (arith, length-listFrom (λ i. max (getD (a .greatest) i 0) (heldOf (suc i) (pageMap (a .state)))) 0 mostGroup) in let n = greatest-next a (a .state) i b in let l = v .least i b in omega arith)
+    same = ext-getD 0 (accounted a (a .state) .greatest) (a .greatest) (long ∙ sym (v .groups)) (λ i h.
+        let b : i < mostGroup = omega (arith, long) in
+        omega (arith, greatest-next a (a .state) i b, v .least i b))
 
 pub fresh-account : (n : ℕ) → 0 < n → n ≤ mostPages → ValidAccount (freshAccount n)
 fresh-account n least most = record {

@@ -12,10 +12,10 @@ use Rattle.model.specs.declared.Refusal.{Refusal}
 use Rattle.model.specs.declared.Answer.the-variants.{Granted, Refused, Done}
 use Rattle.model.specs.Numbers.{pageBytes}
 use Rattle.model.specs.Sizes.{roomFor}
-use Rattle.model.specs.Arena.{Segment, direct, zone, total, Each}
+use Rattle.model.specs.Arena.{total, Each}
 use Rattle.model.specs.State.{State}
-use Rattle.model.specs.PageMap.{Occupancy, pageMap, Block, whole, chunk, groupOf, roomOf, blockAt}
-use Rattle.model.specs.Holdings.{roomIn, figureOf, one, blocksOf, heldOf}
+use Rattle.model.specs.PageMap.{pageMap, Block, groupOf, roomOf, blockAt}
+use Rattle.model.specs.Holdings.{figureOf, blocksOf, heldOf}
 use Rattle.model.specs.Valid.{Valid}
 use Rattle.model.specs.Calls.{groupOk, isRefused}
 use Rattle.model.specs.Allocate.{allocate}
@@ -30,28 +30,27 @@ use Rattle.model.proofs.ValidAllocate.{allocate-valid}
 use Rattle.model.proofs.ValidFree.{freed-valid, reset-valid}
 use Rattle.model.proofs.ValidTrim.{trimmed-valid}
 use Rattle.model.proofs.Disjoint.{all-sized}
-use Rattle.model.proofs.Sums.{share, begins-inside, figure-only, figure-still, figure-gone}
+use Rattle.model.proofs.Sums.{Measure, by-one, by-room, share, begins-inside, figure-only, figure-still, figure-gone}
 
 pub sized-map : (s : State) → Valid s → Each Sized (pageMap s)
 sized-map s v = all-sized (s .segments) (v .sound)
 
 -- ---- a block more, a block less, for any figure
 
-module _ (each : Segment Occupancy → ℕ) (worth : Block → ℕ) (of-direct : (n h : ℕ) → worth (whole n h) ≡ each (direct n h))
-    (of-chunk : (l : Occupancy) (i h : ℕ) → worth (chunk (l .class) i h) ≡ each (zone l)) (h : ℕ) (pos : 0 < h) (s t : State) (v : Valid s) (u : Valid t) (o : ℕ) (b : Block) where
+module _ (f : Measure) (h : ℕ) (pos : 0 < h) (s t : State) (v : Valid s) (u : Valid t) (o : ℕ) (b : Block) where
   pub block-more : blockAt (pageMap s) o ≡ none → Only (pageMap s) (pageMap t) o (some b) →
-      figureOf each h (pageMap t) ≡ figureOf each h (pageMap s) + cond (eqb (groupOf b) h) (worth b) 0
+      figureOf (f .each) h (pageMap t) ≡ figureOf (f .each) h (pageMap s) + cond (eqb (groupOf b) h) (f .worth b) 0
   block-more fresh only =
       let inside : o < total (pageMap s) * pageBytes = omega (arith, begins-inside (pageMap t) o b (only .0), only .2) in
-      let e = figure-only each worth of-direct of-chunk h pos (pageMap s) (pageMap t) (sized-map s v) (sized-map t u) o (some b) inside only in
-      omega (arith, e, ap (λ c. share each worth of-direct of-chunk h pos c) fresh)
+      let e = figure-only f h pos (pageMap s) (pageMap t) (sized-map s v) (sized-map t u) o (some b) inside only in
+      omega (arith, e, ap (λ c. share f h pos c) fresh)
 
   pub block-less : blockAt (pageMap s) o ≡ some b → Only (pageMap s) (pageMap t) o none →
-      figureOf each h (pageMap t) + cond (eqb (groupOf b) h) (worth b) 0 ≡ figureOf each h (pageMap s)
+      figureOf (f .each) h (pageMap t) + cond (eqb (groupOf b) h) (f .worth b) 0 ≡ figureOf (f .each) h (pageMap s)
   block-less there only =
       let inside = begins-inside (pageMap s) o b there in
-      let e = figure-only each worth of-direct of-chunk h pos (pageMap s) (pageMap t) (sized-map s v) (sized-map t u) o none inside only in
-      omega (arith, e, ap (λ c. share each worth of-direct of-chunk h pos c) there)
+      let e = figure-only f h pos (pageMap s) (pageMap t) (sized-map s v) (sized-map t u) o none inside only in
+      omega (arith, e, ap (λ c. share f h pos c) there)
 
 -- ---- the two figures, call by call
 
@@ -69,8 +68,8 @@ module _ (s : State) (v : Valid s) (h : ℕ) (pos : 0 < h) where
       go (denies i j ans st) = true-false (ap isRefused ans) (ap isRefused e)
       go (gives q j b ans fresh grp rm only) =
           let u = allocate-valid s v g n in record {
-            blocks = block-more one (λ _. 1) (λ _ _. refl) (λ _ _ _. refl) h pos s ((allocate g n s) .after) v u q b fresh only ∙ ap (λ i. blocksOf h (pageMap s) + cond (eqb i h) 1 0) grp;
-            held = block-more roomIn roomOf (λ _ _. refl) (λ _ _ _. refl) h pos s ((allocate g n s) .after) v u q b fresh only
+            blocks = block-more by-one h pos s ((allocate g n s) .after) v u q b fresh only ∙ ap (λ i. blocksOf h (pageMap s) + cond (eqb i h) 1 0) grp;
+            held = block-more by-room h pos s ((allocate g n s) .after) v u q b fresh only
                 ∙ (λ i. heldOf h (pageMap s) + cond (eqb (grp i) h) (rm i) 0);
           }
 
@@ -86,8 +85,8 @@ module _ (s : State) (v : Valid s) (h : ℕ) (pos : 0 < h) where
       less b there own =
           let u = freed-valid s v o b there in
           let only = freed-only s o b there in record {
-            blocks = sym (block-less one (λ _. 1) (λ _ _. refl) (λ _ _ _. refl) h pos s (freed o b s) v u o b there only) ∙ ap (λ i. blocksOf h (pageMap (freed o b s)) + cond (eqb i h) 1 0) own;
-            held = sym (block-less roomIn roomOf (λ _ _. refl) (λ _ _ _. refl) h pos s (freed o b s) v u o b there only)
+            blocks = sym (block-less by-one h pos s (freed o b s) v u o b there only) ∙ ap (λ i. blocksOf h (pageMap (freed o b s)) + cond (eqb i h) 1 0) own;
+            held = sym (block-less by-room h pos s (freed o b s) v u o b there only)
                 ∙ ap (λ i. heldOf h (pageMap (freed o b s)) + cond (eqb i h) (roomOf b) 0) own;
           }
 
@@ -106,8 +105,8 @@ module _ (s : State) (v : Valid s) (h : ℕ) (pos : 0 < h) where
       let u : Valid (freedAll (offsetsOf g s) s) = rw t at (reset-valid s v g) in
       let w = sized-map (freedAll (offsetsOf g s) s) u in
       rw t (
-        figure-gone one (λ _. 1) (λ _ _. refl) (λ _ _ _. refl) h pos (pageMap s) (pageMap (freedAll (offsetsOf g s) s)) (sized-map s v) w g (r .0) (r .1),
-        figure-gone roomIn roomOf (λ _ _. refl) (λ _ _ _. refl) h pos (pageMap s) (pageMap (freedAll (offsetsOf g s) s)) (sized-map s v) w g (r .0) (r .1),
+        figure-gone by-one h pos (pageMap s) (pageMap (freedAll (offsetsOf g s) s)) (sized-map s v) w g (r .0) (r .1),
+        figure-gone by-room h pos (pageMap s) (pageMap (freedAll (offsetsOf g s) s)) (sized-map s v) w g (r .0) (r .1),
       )
 
   -- A trim.
@@ -115,6 +114,6 @@ module _ (s : State) (v : Valid s) (h : ℕ) (pos : 0 < h) where
   trim-gains =
       let k = trimmed-still s in
       let w = sized-map (trimmed s) (trimmed-valid s v) in record {
-        blocks = figure-still one (λ _. 1) (λ _ _. refl) (λ _ _ _. refl) h pos (pageMap s) (pageMap (trimmed s)) (sized-map s v) w k ∙ omega arith;
-        held = figure-still roomIn roomOf (λ _ _. refl) (λ _ _ _. refl) h pos (pageMap s) (pageMap (trimmed s)) (sized-map s v) w k ∙ omega arith;
+        blocks = figure-still by-one h pos (pageMap s) (pageMap (trimmed s)) (sized-map s v) w k ∙ omega arith;
+        held = figure-still by-room h pos (pageMap s) (pageMap (trimmed s)) (sized-map s v) w k ∙ omega arith;
       }

@@ -62,8 +62,8 @@ figure-most : (each : Segment Occupancy → ℕ) (g : ℕ) → ((x : Segment Zon
 figure-most each g h [] v = omega arith
 figure-most each g h (x ∷ m) v = let a = h x (v .0) in let b = figure-most each g h m (v .1) in omega arith
 
-pub held-most : (g : ℕ) → 0 < g → (m : List (Segment Zone)) → Each ValidSegment m → heldOf g (shown m) ≤ total m * pageBytes
-held-most g p m v = figure-most roomIn g (held-in g) m v
+pub held-most : (g : ℕ) (m : List (Segment Zone)) → Each ValidSegment m → heldOf g (shown m) ≤ total m * pageBytes
+held-most g m v = figure-most roomIn g (held-in g) m v
 
-pub blocks-most : (g : ℕ) → 0 < g → (m : List (Segment Zone)) → Each ValidSegment m → blocksOf g (shown m) ≤ total m * pageBytes
-blocks-most g p m v = figure-most one g (blocks-in g) m v
+pub blocks-most : (g : ℕ) (m : List (Segment Zone)) → Each ValidSegment m → blocksOf g (shown m) ≤ total m * pageBytes
+blocks-most g m v = figure-most one g (blocks-in g) m v

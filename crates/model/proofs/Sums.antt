@@ -6,7 +6,7 @@ use mathlib.Core.List.{[], _∷_}
 use mathlib.Core.Option.{Option, none, some}
 use mathlib.Core.Bool.{Bool, true, false, cond}
 use native.Mathlib.Omega.{arith}
-use native.Mathlib.Nat.{mul-add-div-right, mul-add-mod-self-right, mod-eq-of-lt, div-eq-of-lt, div-mul-le-self, le-div-iff-mul-le}
+use native.Mathlib.Nat.{mul-add-div-right, mul-add-mod-self-right, mod-eq-of-lt, div-eq-of-lt, le-div-iff-mul-le}
 use lib.Dec.{eqb}
 use lib.ListN.{length, getD, List·getD-eq-default}
 use borrow.Author.Tests.{lt-ltb, le-ltb, eq-eqb, ne-eqb}
@@ -17,28 +17,40 @@ use Rattle.lemmas.proofs.Below.{sum-eq, sum-zero, sum-split, sum-one, sum-scale
 use Rattle.model.specs.Numbers.{pageBytes, zoneBytes}
 use Rattle.model.specs.Sizes.{room, chunks}
 use Rattle.model.specs.Arena.{Segment, run, direct, zone, bytes, total, Each}
-use Rattle.model.specs.PageMap.{Occupancy, PageMap, Block, whole, chunk, groupOf, chunkOf, blockIn, blockThere, blockAt}
-use Rattle.model.specs.Holdings.{blocksIn, figureOf}
+use Rattle.model.specs.PageMap.{Occupancy, PageMap, Block, whole, chunk, groupOf, roomOf, chunkOf, blockIn, blockThere, blockAt}
+use Rattle.model.specs.Holdings.{blocksIn, roomIn, figureOf, one}
 use Rattle.model.proofs.Sizes.{room-pos}
 use Rattle.model.proofs.Arena.{locate-past}
 use Rattle.model.proofs.Blocks.{Sized, Only, Still}
+use Rattle.model.proofs.Held.{rooms-most}
 use Rattle.model.proofs.Reset.{isOf, without}
 
 -- A block begins inside the arena.
 pub begins-inside : (m : PageMap) (o : ℕ) (b : Block) → blockAt m o ≡ some b → o < total m * pageBytes
 begins-inside m o b e = by-lt o (total m * pageBytes) (λ h. h) (λ h. none-some (sym (ap blockThere (locate-past m o h)) ∙ e))
 
-chunks-fit : (c : ℕ) → chunks c * room c ≤ zoneBytes
-unfolding chunks
-chunks-fit c = div-mul-le-self zoneBytes (room c)
+-- What a block counts for in a figure: told of its segment, as the rules do, and the same told of the block.
+pub record Measure : Type 0 where
+  pub each : Segment Occupancy → ℕ
+  pub worth : Block → ℕ
+  pub of-direct : (n h : ℕ) → worth (whole n h) ≡ each (direct n h)
+  pub of-chunk : (l : Occupancy) (i h : ℕ) → worth (chunk (l .class) i h) ≡ each (zone l)
 
--- `each` tells of a segment what a block in it counts for, `worth` of a block.
-module _ (each : Segment Occupancy → ℕ) (worth : Block → ℕ) (of-direct : (n h : ℕ) → worth (whole n h) ≡ each (direct n h))
-    (of-chunk : (l : Occupancy) (i h : ℕ) → worth (chunk (l .class) i h) ≡ each (zone l)) (g : ℕ) (pos : 0 < g) where
+-- The two figures: live blocks, and held bytes.
+abbrev pub by-one : Measure
+by-one = record { each = one; worth = λ _. 1; of-direct = λ _ _. refl; of-chunk = λ _ _ _. refl }
+
+abbrev pub by-room : Measure
+by-room = record { each = roomIn; worth = roomOf; of-direct = λ _ _. refl; of-chunk = λ _ _ _. refl }
+
+module _ (f : Measure) (g : ℕ) (pos : 0 < g) where
+  abbrev each : Segment Occupancy → ℕ
+  each = f .each
+
   -- What the block counts for the group.
   abbrev pub share : Option Block → ℕ
   share none = 0
-  share (some b) = cond (eqb (groupOf b) g) (worth b) 0
+  share (some b) = cond (eqb (groupOf b) g) (f .worth b) 0
 
   -- ---- one segment
 
@@ -48,16 +60,16 @@ module _ (each : Segment Occupancy → ℕ) (worth : Block → ℕ) (of-direct :
 
   direct-sum : (n h : ℕ) → 0 < n → sumBelow (λ o. share (blockIn o (direct n h))) (n * pageBytes) ≡ blocksIn g (direct n h) * each (direct n h)
   direct-sum n h k =
-      let v = cond (eqb h g) (worth (whole n h)) 0 in
+      let v = cond (eqb h g) (f .worth (whole n h)) 0 in
       sum-eq (λ o. share (blockIn o (direct n h))) (λ o. cond (eqb o 0) v 0) (n * pageBytes) (λ o _. bool (eqb o 0) (λ t. rw t) (λ t. rw t))
       ∙ sum-one 0 v (n * pageBytes) (omega arith)
-      ∙ times-cond (eqb h g) (worth (whole n h))
-      ∙ ap (λ e. cond (eqb h g) 1 0 * e) (of-direct n h)
+      ∙ times-cond (eqb h g) (f .worth (whole n h))
+      ∙ ap (λ e. cond (eqb h g) 1 0 * e) (f .of-direct n h)
 
   chunk-share : (l : Occupancy) (i k : ℕ) → share (chunkOf (l .class) i k) ≡ cond (eqb g k) 1 0 * each (zone l)
   chunk-share l i zero = rw (ne-eqb g 0 (λ e. omega arith)) (omega arith)
-  chunk-share l i (suc k) = by-eqb (λ t. cond t (worth (chunk (l .class) i (suc k))) 0 ≡ cond (eqb g (suc k)) 1 0 * each (zone l)) (suc k) g
-      (λ e. rw (eq-eqb g (suc k) (sym e)) (of-chunk l i (suc k) ∙ omega arith))
+  chunk-share l i (suc k) = by-eqb (λ t. cond t (f .worth (chunk (l .class) i (suc k))) 0 ≡ cond (eqb g (suc k)) 1 0 * each (zone l)) (suc k) g
+      (λ e. rw (eq-eqb g (suc k) (sym e)) (f .of-chunk l i (suc k) ∙ omega arith))
       (λ e. rw (ne-eqb g (suc k) (λ q. e (sym q))) (omega arith))
 
   module _ (l : Occupancy) (sized : length (l .groups) ≡ chunks (l .class)) where
@@ -85,7 +97,7 @@ module _ (each : Segment Occupancy → ℕ) (worth : Block → ℕ) (of-direct :
     unfolding times
     zone-sum =
         let k = chunks (l .class) in
-        let few = chunks-fit (l .class) in
+        let few = rooms-most (l .class) k (omega arith) in
         let in-front = sum-stride here by-number r k (room-pos (l .class)) at-chunk in
         let behind = sum-zero (λ i. here (k * r + i)) (zoneBytes - k * r) (λ i _. past-chunks (k * r + i) (omega arith)) in
         ap (sumBelow here) (let e : zoneBytes ≡ k * r + (zoneBytes - k * r) = omega arith in e)
@@ -106,12 +118,12 @@ module _ (each : Segment Occupancy → ℕ) (worth : Block → ℕ) (of-direct :
   pub figure-sum : (m : PageMap) → Each Sized m → figureOf each g m ≡ sumBelow (λ o. share (blockAt m o)) (total m * pageBytes)
   figure-sum [] h = sym (sum-zero (λ o. 0) 0 (λ i _. refl))
   figure-sum (x ∷ r) h =
-      let f : ℕ → ℕ = λ o. share (blockAt (x ∷ r) o) in
-      let first = sum-eq f (λ o. share (blockIn o x)) (bytes x) (λ o k. rw (lt-ltb o (bytes x) k)) in
-      let others = sum-eq (λ i. f (bytes x + i)) (λ o. share (blockAt r o)) (total r * pageBytes)
+      let at : ℕ → ℕ = λ o. share (blockAt (x ∷ r) o) in
+      let first = sum-eq at (λ o. share (blockIn o x)) (bytes x) (λ o k. rw (lt-ltb o (bytes x) k)) in
+      let others = sum-eq (λ i. at (bytes x + i)) (λ o. share (blockAt r o)) (total r * pageBytes)
       (λ i _. rw (le-ltb (bytes x + i) (bytes x) (omega arith)) (ap (λ o. share (blockAt r o)) (let e : bytes x + i - bytes x ≡ i = omega arith in e))) in
-      let both = sum-split f (bytes x) (total r * pageBytes) in
-      omega (arith, first, others, both, segment-sum x (h .0), figure-sum r (h .1), ap (sumBelow f) (let e : bytes x + total r * pageBytes ≡ total (x ∷ r) * pageBytes = omega arith in e))
+      let both = sum-split at (bytes x) (total r * pageBytes) in
+      omega (arith, first, others, both, segment-sum x (h .0), figure-sum r (h .1), ap (sumBelow at) (let e : bytes x + total r * pageBytes ≡ total (x ∷ r) * pageBytes = omega arith in e))
 
   -- ---- what becomes of it
 

@@ -44,10 +44,13 @@ pub record Account : Type 0 where
   pub state : State
   pub greatest : List ℕ
 
--- The one place where an account is made from another: the state is now s, and a group's greatest is what it was or what the group
--- holds now, whichever is more. What a group holds is the state's to tell, so no call can leave it wrong.
+-- The greatest of the group at an index, once the state is s: what it was or what the group holds now, whichever is more.
+abbrev pub raised : Account → State → ℕ → ℕ
+raised a s i = max (getD (a .greatest) i 0) (heldOf (suc i) (pageMap s))
+
+-- The one place where an account is made from another. What a group holds is the state's to tell, so no call can leave it wrong.
 abbrev pub accounted : Account → State → Account
-accounted a s = record { state = s; greatest = listFrom (λ i. max (getD (a .greatest) i 0) (heldOf (suc i) (pageMap s))) 0 mostGroup }
+accounted a s = record { state = s; greatest = listFrom (raised a s) 0 mostGroup }
 
 -- The account of a start: nobody holds anything, or has.
 abbrev pub freshAccount : ℕ → Account

@@ -30,7 +30,7 @@ gains-own b h k s t e g = rw e at g
 -- A figure is no more than the bytes of the largest arena.
 module _ (s : State) (v : Valid s) (i : ℕ) where
   pub blocks-few : blocksOf (suc i) (pageMap s) ≤ mostBytes
-  blocks-few = omega (arith, blocks-most (suc i) (omega arith) (s .segments) (v .sound), v .most)
+  blocks-few = omega (arith, blocks-most (suc i) (s .segments) (v .sound), v .most)
 
   pub held-few : heldOf (suc i) (pageMap s) ≤ mostBytes
-  held-few = omega (arith, held-most (suc i) (omega arith) (s .segments) (v .sound), v .most)
+  held-few = omega (arith, held-most (suc i) (s .segments) (v .sound), v .most)

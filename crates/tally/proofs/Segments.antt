@@ -69,8 +69,8 @@ all-valid (x ∷ m) h = (h .0 .1, all-valid m (h .1))
 rest-within : {t : List ℕ} (l m : List (Segment Zone)) → Each Writable m → total m ≤ mostPages → Rest t l m → Within 1 t
 rest-within l m v few h = record {
   long = h .long;
-  blocks = λ i b. let p = h .blocks i b in let q = blocks-most (suc i) (omega arith) m (all-valid m v) in omega arith;
-  held = λ i b. let p = h .held i b in let q = held-most (suc i) (omega arith) m (all-valid m v) in omega arith;
+  blocks = λ i b. let p = h .blocks i b in let q = blocks-most (suc i) m (all-valid m v) in omega arith;
+  held = λ i b. let p = h .held i b in let q = held-most (suc i) m (all-valid m v) in omega arith;
 }
 
 -- At page p, with the figures t.
