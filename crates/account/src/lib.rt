@@ -16,8 +16,8 @@ ghost use Rattle.account.specs.Decoding.{recordFits, figuresFit, account
 use figures::layout::AT_GREATEST;
 use figures::layout::AT_HELD;
 use figures::layout::AT_REST;
-use figures::layout::GROUPS;
 use model::numbers::FIGURE_WORDS;
+use model::numbers::GROUPS;
 use model::numbers::HEADER_WORDS;
 use model::numbers::PAGE_BYTES;
 

@@ -1,8 +1,5 @@
 // Where the figures' words stand; specs/Encoding.antt says what each holds.
-use model::numbers::MOST_GROUP;
-
-// How many groups there are, as a count of words and of records.
-pub const GROUPS: usize = MOST_GROUP as usize;
+use model::numbers::GROUPS;
 
 pub const AT_HELD: usize = GROUPS;
 

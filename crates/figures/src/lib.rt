@@ -13,8 +13,8 @@ pub mod steps;
 
 use layout::AT_GREATEST;
 use layout::AT_HELD;
-use layout::GROUPS;
 use model::Holding;
+use model::numbers::GROUPS;
 
 // The record of the group at an index (group 1 first).
 fn holding_at(words: &[u32], index: usize) -> Holding

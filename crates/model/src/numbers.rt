@@ -12,8 +12,10 @@ pub const LARGE_SIZE: u32 = 8192;
 
 pub const MOST_BYTES: u32 = 1048576;
 
-// Groups are 1 to this.
+// Groups are 1 to this; and how many they are, as a count of words and of records.
 pub const MOST_GROUP: u32 = 12;
+
+pub const GROUPS: usize = MOST_GROUP as usize;
 
 // How many classes there are; they count from 0.
 pub const CLASS_COUNT: u32 = 64;

@@ -15,6 +15,7 @@ ghost use Rattle.zone.specs.Decoding.{stateIn, ownerIn, isZone, zoneOf};
 ghost use Rattle.pages.specs.Decoding.{segmentsOf, Holds};
 ghost use Rattle.pages.specs.Places.{Stands};
 ghost use Rattle.tally.specs.Figures.{stretch, piece, ownerByte, slotByte, arenas, Tallied, Added, Adds, Within};
+use model::numbers::GROUPS;
 use model::numbers::MOST_GROUP;
 use model::numbers::PAGE_BYTES;
 use zone::layout::HALF;
@@ -31,9 +32,6 @@ const PIECE: usize = 32;
 
 // Stands for no group: a state from here on is a returned chunk's.
 const NOBODY: u16 = POSITION_BASE as u16;
-
-// Where the held bytes begin, behind the live blocks.
-const GROUPS: usize = MOST_GROUP as usize;
 
 // The states in slots, as the first of those lent. A loop of its own: one that makes bytes of words runs in shorter vectors.
 fn take_states(slots: &[u32], states: &mut [u16])
