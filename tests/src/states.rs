@@ -48,6 +48,21 @@ pub fn odd(pages: u32, seed: u64) -> State {
     state
 }
 
+/// Arenas of many sizes: a fresh one of each, one that calls reach, and an odd one.
+pub fn of_all_kinds() -> Vec<State> {
+    let sizes = [1, 8, 24, 32, 100, 255, 256];
+    sizes
+        .into_iter()
+        .flat_map(|pages| {
+            [
+                State::fresh(pages),
+                reached(pages, 300, u64::from(pages)),
+                odd(pages, u64::from(pages)),
+            ]
+        })
+        .collect()
+}
+
 /// An arena with one zone again and again, and a run where no further one fits.
 pub fn zones_throughout(pages: u32, zone: &Zone) -> State {
     let zones = pages / ZONE_PAGES;

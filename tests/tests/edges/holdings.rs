@@ -6,26 +6,11 @@ use reference::state::State;
 use tests::calls::{holdings, Record, UNFILLED};
 use tests::layout::{encode, used_words};
 use tests::pair::{noise, Pair};
-use tests::states::{odd, reached, zones_throughout, Plan};
+use tests::states::{odd, of_all_kinds, reached, zones_throughout, Plan};
 use tests::zones::zone_with;
 
 /// Records of a list that is refused.
 const WRONG: [usize; 13] = [0, 1, 2, 3, 4, 5, 6, 7, 8, 9, 10, 11, 13];
-
-/// Arenas of all sizes and kinds.
-fn states() -> Vec<State> {
-    let sizes = [1, 8, 24, 32, 100, 255, 256];
-    sizes
-        .into_iter()
-        .flat_map(|pages| {
-            [
-                State::fresh(pages),
-                reached(pages, 300, u64::from(pages)),
-                odd(pages, u64::from(pages)),
-            ]
-        })
-        .collect()
-}
 
 /// Records that could be fetched ones, or not.
 fn fillings() -> [Record; 3] {
@@ -39,7 +24,7 @@ fn fillings() -> [Record; 3] {
 
 #[test]
 fn a_list_of_twelve_is_filled() {
-    for state in states() {
+    for state in of_all_kinds() {
         let mut pair = Pair::over(encode(&state));
         assert_eq!(pair.holdings(12), Ok(state.holdings));
     }
@@ -47,7 +32,7 @@ fn a_list_of_twelve_is_filled() {
 
 #[test]
 fn a_list_of_any_other_length_is_refused_by_9() {
-    for state in states() {
+    for state in of_all_kinds() {
         let mut pair = Pair::over(encode(&state));
         for records in WRONG.into_iter().chain([24, 36, 1_000]) {
             assert_eq!(pair.holdings(records), Err(9), "{records} records");

@@ -6,27 +6,12 @@ use reference::state::State;
 use tests::calls::listing;
 use tests::layout::{encode, used_words};
 use tests::pair::Pair;
-use tests::states::{odd, reached, zones_throughout, Plan};
+use tests::states::{of_all_kinds, reached, zones_throughout, Plan};
 use tests::zones::zone_with;
-
-/// Arenas of all sizes and kinds.
-fn states() -> Vec<State> {
-    let sizes = [1, 24, 32, 100, 255, 256];
-    sizes
-        .into_iter()
-        .flat_map(|pages| {
-            [
-                State::fresh(pages),
-                reached(pages, 300, u64::from(pages)),
-                odd(pages, u64::from(pages)),
-            ]
-        })
-        .collect()
-}
 
 #[test]
 fn a_buffer_one_byte_short_is_refused_by_12() {
-    for state in states() {
+    for state in of_all_kinds() {
         let mut pair = Pair::over(encode(&state));
         let length = pair.text().len();
         assert_eq!(pair.listing(length - 1), Err(12));
@@ -38,7 +23,7 @@ fn a_buffer_one_byte_short_is_refused_by_12() {
 
 #[test]
 fn a_buffer_exactly_long_enough_is_served() {
-    for state in states() {
+    for state in of_all_kinds() {
         let mut pair = Pair::over(encode(&state));
         let text = pair.text();
         assert_eq!(pair.listing(text.len()), Ok(text));
@@ -47,7 +32,7 @@ fn a_buffer_exactly_long_enough_is_served() {
 
 #[test]
 fn a_longer_buffer_keeps_its_later_bytes() {
-    for state in states() {
+    for state in of_all_kinds() {
         let mut pair = Pair::over(encode(&state));
         let text = pair.text();
         for more in [1, 2, 64, 10_000] {
