@@ -47,15 +47,15 @@ module _ (s : State) (g n : ℕ) where
   pub small : (k : ℕ) → n < largeSize → k ≡ classOf n → chunkFrom k g s (listOf s k) ≡ supplied g n s
   small k h e = ap (λ j. chunkFrom j g s (listOf s j)) e ∙ rw (lt-ltb n largeSize h)
 
-  pub large : largeSize ≤ n → wholePages (pagesFor n) g s ≡ supplied g n s
-  large h = rw (le-ltb n largeSize h)
+  pub large : (k : ℕ) → largeSize ≤ n → k ≡ pagesFor n → wholePages k g s ≡ supplied g n s
+  large k h e = rw (e, le-ltb n largeSize h)
 
 -- The room of a request.
 pub small-room : (n : ℕ) → n < largeSize → room (classOf n) ≡ roomFor n
 small-room n h = rw (lt-ltb n largeSize h)
 
-pub large-room : (n : ℕ) → largeSize ≤ n → pagesFor n * pageBytes ≡ roomFor n
-large-room n h = rw (le-ltb n largeSize h)
+pub large-room : (n k : ℕ) → largeSize ≤ n → k ≡ pagesFor n → k * pageBytes ≡ roomFor n
+large-room n k h e = rw (e, le-ltb n largeSize h)
 
 -- Whole pages.
 module _ {w : List ℕ} {n need : ℕ} (h : Good w n) (pos : 0 < need) (g : ℕ) where

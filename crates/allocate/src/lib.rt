@@ -4,7 +4,7 @@ ghost use mathlib.Core.Path.{_≡_};
 ghost use Prim.Native.Nat.{_≤_, _<_};
 ghost use Rattle.model.specs.State.{listOf};
 ghost use Rattle.model.specs.declared.Answer.the-variants.{Granted};
-ghost use Rattle.model.specs.Sizes.{roomFor};
+ghost use Rattle.model.specs.Sizes.{pagesFor, roomFor};
 ghost use Rattle.model.specs.Calls.{sizeOk};
 ghost use Rattle.model.specs.Pages.{claim};
 ghost use Rattle.model.specs.Allocate.{sought, wholePages, chunkFrom, supplied, allocate as allocated};
@@ -166,6 +166,14 @@ fn supply_chunk(words: &mut [u32], n: usize, class: u32, group: u32) -> Answer
 
 // ---- the request
 
+// The pages that a request of this size takes, where it takes pages.
+fn pages_for(size: u32) -> u32
+    requires { ⌜ size ≤ mostBytes ⌝ }
+    ensures { λ r. ⌜ r ≡ pagesFor size ⌝ }
+{
+    (size + (PAGE_BYTES - 1)) / PAGE_BYTES
+}
+
 // A request of `size` bytes by the group: a chunk below 8,192 bytes, whole pages from there. (The group and the size have been
 // tested.)
 fn supply(words: &mut [u32], n: usize, group: u32, size: u32) -> Answer
@@ -176,8 +184,7 @@ fn supply(words: &mut [u32], n: usize, group: u32, size: u32) -> Answer
     if size < LARGE_SIZE {
         return supply_chunk(words, n, zone::sizes::class_of_size(size), group);
     }
-    let need = (size + (PAGE_BYTES - 1)) / PAGE_BYTES;
-    supply_pages(words, n, group, need as usize)
+    supply_pages(words, n, group, pages_for(size) as usize)
 }
 
 // The bytes that a request of this size is given.
@@ -186,7 +193,7 @@ pub fn room_for(size: u32) -> u32
     ensures { λ r. ⌜ r ≡ roomFor size ⌝ }
 {
     if LARGE_SIZE <= size {
-        return (size + (PAGE_BYTES - 1)) / PAGE_BYTES * PAGE_BYTES;
+        return pages_for(size) * PAGE_BYTES;
     }
     zone::sizes::room(zone::sizes::class_of_size(size))
 }

@@ -9,7 +9,7 @@ use Rattle.allocate.proofs.room_for.Statement.{statement}
 use Rattle.allocate.proofs.room_for.Tie as tie
 
 returns : tie.Need-returns
-returns c = large-room (c .before .args .size) (c .if1 .taken)
+returns c = let t : tie.Then1 = c .before in large-room (t .before .args .size) _ (t .if1 .taken) (c .pages-for .ensures)
 
 room-requires : tie.Need-room-requires
 room-requires c κs = let e : tie.Else1 = c .before in omega (arith, c .class-of-size .ensures, classed (e .before .args .size) (e .before .pre .0) (e .if1 .left) .below)
@@ -21,8 +21,7 @@ pub room-for-spec : {M : Type 1} → statement M
 room-for-spec =
     tie.close
     (tie.spec
-    (λ c. search needs)
-    (λ c. search needs)
+    (λ c κs. search needs)
     (λ c. search needs)
     returns
     (λ c κs. search needs)

@@ -28,9 +28,9 @@ returns c =
 
 returns-2 : tie.Need-returns-2
 returns-2 c =
-    let e = c .before .before .before .before in
+    let e = c .before .before .before .before .before in
     let s = start-before-else1 e in
-    let a = s .args in made (large (decode (a .words .now)) (a .group) (a .size) (e .if1 .left)) (c .before .before .supply-pages .ensures)
+    let a = s .args in made (large (decode (a .words .now)) (a .group) (a .size) _ (e .if1 .left) (c .before .before .before .pages-for .ensures)) (c .before .before .supply-pages .ensures)
 
 pub supply-spec : {M : Type 1} → statement M
 supply-spec =
@@ -40,7 +40,6 @@ supply-spec =
     supply-chunk-requires
     (λ c. omega arith)
     returns
-    (λ c. omega arith)
     (λ c. omega arith)
     (λ c. omega arith)
     (λ c κs. search needs)
