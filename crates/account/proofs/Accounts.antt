@@ -34,7 +34,7 @@ use Rattle.metadata.specs.Encoding.{encode}
 use Rattle.metadata.specs.Decoding.{decode, isState}
 use Rattle.metadata.proofs.States.{state-valid, state-begins, begins-state, begins-decoded, encode-long, zeros-none as state-zeros}
 use Rattle.account.specs.Encoding.{accountEncoding, BeginsWith}
-use Rattle.account.specs.Decoding.{figuresPart, statePart, accountIn, recordFits, figuresFit, isAccount, accountOf}
+use Rattle.account.specs.Decoding.{figuresPart, statePart, accountIn, recordFits, stateFits, figuresFit, isAccount, accountOf}
 
 -- ---- one group's record
 
@@ -71,7 +71,7 @@ fits h b r most f =
 
 module _ (f : List ℕ) (long : length f ≡ figureWords) (s : State) where
   abbrev test : ℕ → Bool
-  test i = recordFits (recordIn f i) (blocksOf (suc i) (pageMap s)) (heldOf (suc i) (pageMap s)) (total (s .segments) * pageBytes)
+  test = stateFits f s
 
   abbrev Each-fits : Type 0
   Each-fits = (i : ℕ) → i < mostGroup → Fitting (recordIn f i) (blocksOf (suc i) (pageMap s)) (heldOf (suc i) (pageMap s)) (total (s .segments) * pageBytes)

@@ -33,7 +33,7 @@ use Rattle.metadata.specs.Decoding.{headerPart, pagesPart, decode, isState}
 use Rattle.metadata.proofs.States.{state-valid, state-read, state-pages}
 use Rattle.metadata.proofs.Fresh.{put-behind}
 use Rattle.account.specs.Encoding.{accountEncoding}
-use Rattle.account.specs.Decoding.{statePart, accountIn, recordFits, figuresFit, isAccount}
+use Rattle.account.specs.Decoding.{statePart, accountIn, recordFits, stateFits, tallyFits, figuresFit, isAccount}
 use Rattle.account.proofs.Accounts.{fitting, passed, has-figures}
 
 -- ---- one record
@@ -49,24 +49,24 @@ module _ (f g : List ℕ) (i most : ℕ) where
   abbrev r : ℕ
   r = getD g (mostGroup + i) 0
 
-  pub other-blocks : (getD f i 0 ≡ getD g i 0 → ⊥) → false ≡ recordFits (recordIn f i) (getD g i 0) (getD g (mostGroup + i) 0) most
+  pub other-blocks : (getD f i 0 ≡ getD g i 0 → ⊥) → false ≡ tallyFits f g most i
   other-blocks n = sym (refuted _ (λ t. n (fitting h b r most t .blocks)))
 
-  pub other-bytes : (getD f (atHeld + i) 0 ≡ getD g (mostGroup + i) 0 → ⊥) → false ≡ recordFits (recordIn f i) (getD g i 0) (getD g (mostGroup + i) 0) most
+  pub other-bytes : (getD f (atHeld + i) 0 ≡ getD g (mostGroup + i) 0 → ⊥) → false ≡ tallyFits f g most i
   other-bytes n = sym (refuted _ (λ t. n (fitting h b r most t .held)))
 
-  pub too-low : getD f (atGreatest + i) 0 < getD f (atHeld + i) 0 → false ≡ recordFits (recordIn f i) (getD g i 0) (getD g (mostGroup + i) 0) most
+  pub too-low : getD f (atGreatest + i) 0 < getD f (atHeld + i) 0 → false ≡ tallyFits f g most i
   too-low n = sym (refuted _ (λ t. omega (arith, fitting h b r most t .least)))
 
   pub last-test : getD f i 0 ≡ getD g i 0 → getD f (atHeld + i) 0 ≡ getD g (mostGroup + i) 0 → getD f (atHeld + i) 0 ≤ getD f (atGreatest + i) 0 →
-      leb (getD f (atGreatest + i) 0) most ≡ recordFits (recordIn f i) (getD g i 0) (getD g (mostGroup + i) 0) most
+      leb (getD f (atGreatest + i) 0) most ≡ tallyFits f g most i
   last-test p q l = rw (eq-eqb (h .blocks) b p, eq-eqb (h .held) r q, le-leb (h .held) (h .greatest) l)
 
 -- ---- all records, one after another
 
 module _ (f g : List ℕ) (most : ℕ) where
-  abbrev pub test : ℕ → Bool
-  test i = recordFits (recordIn f i) (getD g i 0) (getD g (mostGroup + i) 0) most
+  abbrev test : ℕ → Bool
+  test = tallyFits f g most
 
   pub none-tested : allBelow test 0 ≡ true
   none-tested = all-none test
@@ -112,10 +112,10 @@ module _ (w : List ℕ) (t : isState w ≡ true) where
       held-are i l = tallied .held i l ∙ ap (heldOf (suc i)) map-is
 
       abbrev by-tally : ℕ → Bool
-      by-tally i = recordFits (recordIn f i) (getD g i 0) (getD g (mostGroup + i) 0) most
+      by-tally = tallyFits f g most
 
       abbrev by-state : ℕ → Bool
-      by-state i = recordFits (recordIn f i) (blocksOf (suc i) (pageMap (decode w))) (heldOf (suc i) (pageMap (decode w))) (total (decode w .segments) * pageBytes)
+      by-state = stateFits f (decode w)
 
       same-test : (i : ℕ) → i < mostGroup → by-tally i ≡ by-state i
       same-test i l = λ j. recordFits (recordIn f i) (blocks-are i l j) (held-are i l j) ((bytes ∙ ap (λ k. k * pageBytes) is) j)

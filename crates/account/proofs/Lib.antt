@@ -1,3 +1,3 @@
 pub mod Accounts
-pub mod Booked
+pub mod Next
 pub mod Checked

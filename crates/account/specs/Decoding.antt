@@ -1,11 +1,11 @@
 -- The account that words encode. `isAccount` tests any words, and `account-iff` says that it is exact; `accountIn` tests nothing.
 -- Assumes nothing.
-use Prim.Native.Nat.{ℕ, suc, _-_, _*_}
+use Prim.Native.Nat.{ℕ, suc, _+_, _-_, _*_}
 use mathlib.Core.Bool.{Bool, cond, _&&_}
 use mathlib.Core.List.{List}
 use mathlib.Core.Option.{Option, none, some}
 use lib.Dec.{leb, eqb}
-use lib.ListN.{take, drop}
+use lib.ListN.{getD, take, drop}
 use Rattle.lemmas.specs.Below.{allBelow}
 use Rattle.lemmas.specs.Every.{every}
 use Rattle.lemmas.specs.Parts.{mid}
@@ -33,12 +33,17 @@ accountIn w = record { state = decode (statePart w); greatest = mid atGreatest m
 abbrev pub recordFits : Holding → ℕ → ℕ → ℕ → Bool
 recordFits h b r most = eqb (h .blocks) b && eqb (h .held) r && leb (h .held) (h .greatest) && leb (h .greatest) most
 
+-- The record of the group at an index, among the figures f, fits the state s; ..
+abbrev pub stateFits : List ℕ → State → ℕ → Bool
+stateFits f s i = let m = pageMap s in recordFits (recordIn f i) (blocksOf (suc i) m) (heldOf (suc i) m) (total (s .segments) * pageBytes)
+
+-- .. or a tally t, which has the blocks of all groups and then their bytes, in an arena of so many bytes.
+abbrev pub tallyFits : List ℕ → List ℕ → ℕ → ℕ → Bool
+tallyFits f t most i = recordFits (recordIn f i) (getD t i 0) (getD t (mostGroup + i) 0) most
+
 -- The figures fit the state: every group's record does, and the words behind them are zero.
 unfoldable pub figuresFit : List ℕ → State → Bool
-figuresFit f s =
-    let m = pageMap s in
-    allBelow (λ i. recordFits (recordIn f i) (blocksOf (suc i) m) (heldOf (suc i) m) (total (s .segments) * pageBytes)) mostGroup
-    && every isZero (mid atRest (figureWords - atRest) f)
+figuresFit f s = allBelow (stateFits f s) mostGroup && every isZero (mid atRest (figureWords - atRest) f)
 
 -- The words begin with the encoding of a valid account.
 unfoldable pub isAccount : List ℕ → Bool

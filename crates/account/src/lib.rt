@@ -3,16 +3,15 @@
 ghost use mathlib.Core.Path.{_≡_};
 ghost use mathlib.Core.Bool.{true};
 ghost use Prim.Native.Nat.{_+_, _≤_, _<_};
-ghost use lib.ListN.{length, getD};
+ghost use lib.ListN.{length};
 ghost use Rattle.lemmas.specs.Below.{allBelow};
 ghost use Rattle.model.specs.Numbers.{mostGroup, mostPages, figureWords};
 ghost use Rattle.model.specs.Arena.{total};
 ghost use Rattle.model.specs.Holdings.{freshAccount};
 ghost use Rattle.model.specs.Perform.{allWords};
-ghost use Rattle.figures.specs.Encoding.{recordIn};
 ghost use Rattle.metadata.specs.Decoding.{decode, isState};
 ghost use Rattle.account.specs.Encoding.{accountEncoding};
-ghost use Rattle.account.specs.Decoding.{recordFits, figuresFit, accountIn, isAccount};
+ghost use Rattle.account.specs.Decoding.{tallyFits, figuresFit, accountIn, isAccount};
 use figures::layout::AT_GREATEST;
 use figures::layout::AT_HELD;
 use figures::layout::AT_REST;
@@ -27,7 +26,7 @@ use model::numbers::PAGE_BYTES;
 // greatest is not below what it holds, nor above the bytes of the arena.
 fn record_fits(figures: &[u32], tally: &[u32], index: usize, most: u32) -> bool
     requires { ⌜ (length (now figures) ≡ figureWords) × (length (now tally) ≡ mostGroup + mostGroup) × (index < mostGroup) ⌝ }
-    ensures { λ r. ⌜ r ≡ recordFits (recordIn (now (figures .entry)) index) (getD (now (tally .entry)) index 0) (getD (now (tally .entry)) (mostGroup + index) 0) most ⌝ }
+    ensures { λ r. ⌜ r ≡ tallyFits (now (figures .entry)) (now (tally .entry)) most index ⌝ }
 {
     if figures[index] != tally[index] {
         return false;
@@ -46,7 +45,7 @@ fn record_fits(figures: &[u32], tally: &[u32], index: usize, most: u32) -> bool
 // Whether every group's do.
 fn records_fit(figures: &[u32], tally: &[u32], most: u32) -> bool
     requires { ⌜ (length (now figures) ≡ figureWords) × (length (now tally) ≡ mostGroup + mostGroup) ⌝ }
-    ensures { λ r. ⌜ r ≡ allBelow (λ i. recordFits (recordIn (now (figures .entry)) i) (getD (now (tally .entry)) i 0) (getD (now (tally .entry)) (mostGroup + i) 0) most) mostGroup ⌝ }
+    ensures { λ r. ⌜ r ≡ allBelow (tallyFits (now (figures .entry)) (now (tally .entry)) most) mostGroup ⌝ }
 {
     let mut i: usize = 0;
     while i < GROUPS {

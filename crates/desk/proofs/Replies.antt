@@ -4,7 +4,7 @@ use Prim.Native.Nat.{ℕ, _+_, _≤_}
 use mathlib.Core.Path.{_≡_, refl, sym, ap, _∙_, subst}
 use mathlib.Core.Bool.{Bool, true, false, cond}
 use mathlib.Core.List.{List, _++_}
-use mathlib.Core.Option.{Option, Option·map}
+use mathlib.Core.Option.{Option}
 use native.Mathlib.Omega.{arith}
 use lib.Dec.{leb}
 use lib.ListN.{length, drop}
@@ -27,7 +27,7 @@ use Rattle.listing.proofs.Into.{sets-front}
 use Rattle.uplink.specs.declared.Line.{Line}
 use Rattle.uplink.specs.declared.Line.the-variants.{Init, Group, Trim, Query, Listing, Bad}
 use Rattle.uplink.specs.Answers.{answerText, badText, answerRoom}
-use Rattle.slab.specs.Calls.{viewOf, answerOf, metaAfter, listedOf, textAfter}
+use Rattle.slab.specs.Calls.{viewOf, stateIn, answerOf, metaAfter, listedOf, textAfter}
 use Rattle.slab.proofs.Words.{by-account}
 use Rattle.slab.proofs.Promises.{listing-unchanged}
 use Rattle.desk.specs.Replies.{listingOf, replyTo, wordsAfter, Replied}
@@ -109,7 +109,7 @@ unfolding answerOf textAfter replyTo
 listing-listed w b =
     let n = length b in
     let said : Option Account → Answer = λ y. (onAccount (viewOf w) (listing n) y) .answer in
-    by-account (λ y. Listed b (said y) (listedOf y b) (cond (isRefused (said y)) (answerText (said y)) (listingOf (Option·map (λ a. a .state) y)))) w
+    by-account (λ y. Listed b (said y) (listedOf y b) (cond (isRefused (said y)) (answerText (said y)) (listingOf (stateIn y)))) w
     (λ _. refused refl refl refl)
     (λ x _ _. let t = listingText (pageMap (x .state)) in listed-by b (x .state) t (leb (length t) n) refl)
 

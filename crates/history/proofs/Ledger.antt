@@ -28,7 +28,7 @@ use Rattle.model.proofs.Trimmed.{trimmed-still}
 use Rattle.model.proofs.Allocated.{Allocated, gives, denies, allocated, group-least}
 use Rattle.model.proofs.Freed.{freed-only}
 use Rattle.model.proofs.Reset.{isOf, without, reset-blocks}
-use Rattle.model.proofs.Disjoint.{all-sized}
+use Rattle.model.proofs.Disjoint.{sized-map}
 use Rattle.history.specs.Ledger.{Held, Effect, nothing, ofGrant, ofOperation, ofAction, applied, Agrees}
 
 -- An entry of a ledger that knows what block it is; what the public ledger tells of it is `told`.
@@ -201,7 +201,7 @@ module _ (n : ℕ) (s : State) (l : List Entry) (v : Valid s) (agree : (o : ℕ)
 
   after-reset : (g : ℕ) → After n s l (ofOperation g Reset ((reset g s) .answer)) ((reset g s) .after)
   after-reset g = bool (groupOk g)
-      (λ t. rw t (let r = reset-blocks g s (group-least g t) (all-sized (s .segments) (v .sound)) in record {
+      (λ t. rw t (let r = reset-blocks g s (group-least g t) (sized-map s v) in record {
         entries = kept (otherGroup g) l;
         live = keep-told _ l;
         agree = λ q. cc (r .0 q, agree q, ended-group g q l single);

@@ -27,7 +27,7 @@ use Rattle.model.specs.Allocate.{zoneNeeded, needed, allocate}
 use Rattle.model.proofs.Arena.{total-retold}
 use Rattle.model.proofs.Claim.{claim-none, has-retold}
 use Rattle.model.proofs.Joins.{zero-run, joined-see, some-run}
-use Rattle.model.proofs.Disjoint.{all-sized}
+use Rattle.model.proofs.Disjoint.{sized-map}
 use Rattle.model.proofs.NoRoom.{Short, no-room, granted-else}
 use Rattle.model.proofs.Trimmed.{trimmed-map, trimmed-list, trimmed-empty, joined-gone}
 use Rattle.history.specs.Rows.{clearThere, Row}
@@ -49,7 +49,7 @@ module _ (s : State) (v : Valid s) (bare : Bare (pageMap s)) where
   bare-trimmed =
       let n = total (s .segments) in
       trimmed-map s
-      ∙ same-trimmed (pageMap s) (run n ∷ []) (all-sized (s .segments) (v .sound)) (tt, tt) (λ o. bare o ∙ sym (one-run n o)) (total-retold occupancy (s .segments) ∙ omega arith)
+      ∙ same-trimmed (pageMap s) (run n ∷ []) (sized-map s v) (tt, tt) (λ o. bare o ∙ sym (one-run n o)) (total-retold occupancy (s .segments) ∙ omega arith)
       ∙ joined-one n (v .least)
 
   pub empty-board : (g n : ℕ) → groupOk g ≡ true → sizeOk n ≡ true → ((k : ℕ) → needed n s ≡ some k → k ≤ total (s .segments)) → (o : ℕ) × GrantedAt o ((allocate g n s) .answer)

@@ -19,7 +19,7 @@ use Rattle.model.specs.declared.Answer.{Answer}
 use Rattle.model.specs.Arena.{total, Each}
 use Rattle.model.specs.State.{State}
 use Rattle.model.specs.PageMap.{pageMap, blockAt}
-use Rattle.model.specs.Holdings.{blocksOf, heldOf, Account, accounted, freshAccount}
+use Rattle.model.specs.Holdings.{blocksOf, heldOf, Account, raised, accounted, freshAccount}
 use Rattle.model.specs.Valid.{Valid, ValidAccount}
 use Rattle.model.specs.Calls.{Action, group, trim, Command, init, act, isRefused, DeniedBy, GrantedAt}
 use Rattle.model.specs.Trim.{trimmed}
@@ -29,7 +29,7 @@ use Rattle.model.proofs.Trimmed.{trimmed-map}
 use Rattle.model.proofs.Validity.{serve-valid}
 use Rattle.model.proofs.Accounts.{greatest-next, fresh-account, serve-account, perform-leaves}
 use Rattle.model.proofs.Blocks.{Sized}
-use Rattle.model.proofs.Disjoint.{all-sized}
+use Rattle.model.proofs.Disjoint.{sized-map}
 use Rattle.history.specs.Ledger.{begins, unlessRefused, effect, Agrees}
 use Rattle.history.specs.Demand.{mapOf, mapAt, History, after, afterAll, begun, NoStart, Allowed, Sequence, answersTo, ExactCall, Exact, Alike, Demand3, LedgerAgrees}
 use Rattle.history.specs.Holdings.{blocksHeld, bytesHeld, mostHeld, HoldingsTold}
@@ -128,7 +128,7 @@ module _ (B : Type 0) (view : B → Metadata) (next : B → Command → B) (says
   alike j k b d m e om oe vm ve h t =
       let tm = on-next j b m trim om in
       let te = on-next k d e trim oe in
-      let maps : pageMap (trimmed m) ≡ pageMap (trimmed e) = trimmed-map m ∙ same-trimmed (pageMap m) (pageMap e) (all-sized (m .segments) (vm .sound)) (all-sized (e .segments) (ve .sound)) (λ o. sym (h o)) (sym t) ∙ sym (trimmed-map e) in
+      let maps : pageMap (trimmed m) ≡ pageMap (trimmed e) = trimmed-map m ∙ same-trimmed (pageMap m) (pageMap e) (sized-map m vm) (sized-map e ve) (λ o. sym (h o)) (sym t) ∙ sym (trimmed-map e) in
       record {
         map = (pageMap (trimmed m), on-map j _ (trimmed m) tm, on-map k _ (trimmed e) te ∙ ap some (sym maps));
         answers = λ q. go q tm te maps;
@@ -165,7 +165,7 @@ module _ (B : Type 0) (view : B → Metadata) (next : B → Command → B) (says
   -- What a group holds, by the ledger.
   module _ (N t : ℕ) (M : List Entry) (f : ℕ → ℕ) (w : History B view next says) (r : Reached N t M f w) (i : ℕ) where
     sized : Each Sized (pageMap (r .account .state))
-    sized = all-sized (r .account .state .segments) (r .valid .state .sound)
+    sized = sized-map (r .account .state) (r .valid .state)
 
     blocks-are : blocksOf (suc i) (pageMap (r .account .state)) ≡ blocksHeld (suc i) (w .live)
     blocks-are = blocks-told (suc i) (omega arith) (pageMap (r .account .state)) sized (r .entries) (r .single) (r .agree) ∙ ap (λ l. blocksHeld (suc i) l) (sym (r .live))
@@ -176,7 +176,7 @@ module _ (B : Type 0) (view : B → Metadata) (next : B → Command → B) (says
   -- One call more, with what is known after it.
   reach-by : (N t : ℕ) (M : List Entry) (f : ℕ → ℕ) (w : History B view next says) (c : Command) (r : Reached N t M f w) (x : Account) → Keeps (r .words) (next (w .lent) c) x → ValidAccount x →
       After (w .calls) (r .account .state) (r .entries) (effect c (says (w .lent) c)) (x .state) →
-      ((i : ℕ) → i < mostGroup → getD (x .greatest) i 0 ≡ max (getD (r .account .greatest) i 0) (heldOf (suc i) (pageMap (x .state)))) →
+      ((i : ℕ) → i < mostGroup → getD (x .greatest) i 0 ≡ raised (r .account) (x .state) i) →
       Reached N t M (peaks f (after B view next says w c)) (after B view next says w c)
   reach-by N t M f w c r x on v a up = record {
     words = r .words;
@@ -197,7 +197,7 @@ module _ (B : Type 0) (view : B → Metadata) (next : B → Command → B) (says
       live = cc
 
       held : (i : ℕ) → heldOf (suc i) (pageMap (x .state)) ≡ bytesHeld (suc i) (after B view next says w c .live)
-      held i = held-told (suc i) (omega arith) (pageMap (x .state)) (all-sized (x .state .segments) (v .state .sound)) (a .entries) (a .single) (a .agree) ∙ ap (λ l. bytesHeld (suc i) l) (sym live)
+      held i = held-told (suc i) (omega arith) (pageMap (x .state)) (sized-map (x .state) (v .state)) (a .entries) (a .single) (a .agree) ∙ ap (λ l. bytesHeld (suc i) l) (sym live)
 
   reach : (N t : ℕ) (M : List Entry) (f : ℕ → ℕ) (w : History B view next says) (c : Command) → Reached N t M f w → (effect c (says (w .lent) c) ≡ begins → ⊥) →
       Reached N t M (peaks f (after B view next says w c)) (after B view next says w c)

@@ -1,5 +1,5 @@
 -- Every call keeps the account valid, and a refused call leaves everything as it was. Assumes nothing.
-use Prim.Native.Nat.{ℕ, suc, _+_, _≤_, _<_, max}
+use Prim.Native.Nat.{ℕ, suc, _+_, _≤_, _<_}
 use mathlib.Core.Path.{_≡_, refl, sym, _∙_, ap}
 use mathlib.Core.Option.{Option, none, some}
 use mathlib.Core.Bool.{true, _&&_}
@@ -13,8 +13,7 @@ use Rattle.lemmas.proofs.Cases.{bool, true-false, and-left, and-right}
 use Rattle.model.specs.Numbers.{mostGroup, mostPages}
 use Rattle.model.specs.Arena.{total}
 use Rattle.model.specs.State.{State}
-use Rattle.model.specs.PageMap.{pageMap}
-use Rattle.model.specs.Holdings.{heldOf, Account, raised, accounted, freshAccount}
+use Rattle.model.specs.Holdings.{Account, raised, accounted, freshAccount}
 use Rattle.model.specs.Valid.{Valid, ValidAccount}
 use Rattle.model.specs.Calls.{Action, Command, init, act, isRefused}
 use Rattle.model.specs.Perform.{serve, Metadata, allWords, initialise, onAccount, perform}

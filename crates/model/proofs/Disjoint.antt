@@ -23,11 +23,14 @@ use Rattle.model.proofs.Blocks.{Sized, padded-length}
 use Rattle.model.proofs.Released.{whole-there, ChunkThere, chunk-there}
 
 -- The page map of valid segments has the sizes that it says.
-pub all-sized : (m : List (Segment Zone)) → Each ValidSegment m → Each Sized (map (retold occupancy) m)
+all-sized : (m : List (Segment Zone)) → Each ValidSegment m → Each Sized (map (retold occupancy) m)
 all-sized [] h = tt
 all-sized (run n ∷ r) h = (tt, all-sized r (h .1))
 all-sized (direct n g ∷ r) h = (h .0 .0, all-sized r (h .1))
 all-sized (zone z ∷ r) h = (padded-length _ (z .owners), all-sized r (h .1))
+
+pub sized-map : (s : State) → Valid s → Each Sized (pageMap s)
+sized-map s v = all-sized (s .segments) (v .sound)
 
 -- In one segment ---------------------------------------------------------------------------------------------------------
 
@@ -86,7 +89,7 @@ map-apart (x ∷ r) h o q b c e f l = bool (ltb o (bytes x))
 
 -- A live block lies inside the arena.
 pub inside-arena : (s : State) → Valid s → (o : ℕ) (b : Block) → blockAt (pageMap s) o ≡ some b → o + roomOf b ≤ total (s .segments) * pageBytes
-inside-arena s v o b e = omega (arith, map-inside (pageMap s) (all-sized (s .segments) (v .sound)) o b e, total-retold occupancy (s .segments))
+inside-arena s v o b e = omega (arith, map-inside (pageMap s) (sized-map s v) o b e, total-retold occupancy (s .segments))
 
 -- A byte x that two live blocks hold is held by one block.
 pub never-share : (s : State) → Valid s → (o q : ℕ) (b c : Block) → blockAt (pageMap s) o ≡ some b → blockAt (pageMap s) q ≡ some c → (x : ℕ) → o ≤ x → x < o + roomOf b → q ≤ x → x < q + roomOf c → (o ≡ q) × (b ≡ c)
@@ -97,4 +100,4 @@ never-share s v o q b c e f x a k a′ k′ = by-eq o q
     (λ t. omega (arith, map-apart (pageMap s) sized q o c b f e (omega (arith, ltb-false))))))
   where
     sized : Each Sized (pageMap s)
-    sized = all-sized (s .segments) (v .sound)
+    sized = sized-map s v

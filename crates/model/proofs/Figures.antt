@@ -12,7 +12,7 @@ use Rattle.model.specs.declared.Refusal.{Refusal}
 use Rattle.model.specs.declared.Answer.the-variants.{Granted, Refused, Done}
 use Rattle.model.specs.Numbers.{pageBytes}
 use Rattle.model.specs.Sizes.{roomFor}
-use Rattle.model.specs.Arena.{total, Each}
+use Rattle.model.specs.Arena.{total}
 use Rattle.model.specs.State.{State}
 use Rattle.model.specs.PageMap.{pageMap, Block, groupOf, roomOf, blockAt}
 use Rattle.model.specs.Holdings.{figureOf, blocksOf, heldOf}
@@ -21,7 +21,7 @@ use Rattle.model.specs.Calls.{groupOk, isRefused}
 use Rattle.model.specs.Allocate.{allocate}
 use Rattle.model.specs.Free.{freed, freeBlock, free, freedAll, offsetsOf, reset}
 use Rattle.model.specs.Trim.{trimmed}
-use Rattle.model.proofs.Blocks.{Sized, Only}
+use Rattle.model.proofs.Blocks.{Only}
 use Rattle.model.proofs.Trimmed.{trimmed-still}
 use Rattle.model.proofs.Allocated.{Allocated, gives, denies, allocated, group-least}
 use Rattle.model.proofs.Freed.{freed-only}
@@ -29,11 +29,8 @@ use Rattle.model.proofs.Reset.{reset-blocks}
 use Rattle.model.proofs.ValidAllocate.{allocate-valid}
 use Rattle.model.proofs.ValidFree.{freed-valid, reset-valid}
 use Rattle.model.proofs.ValidTrim.{trimmed-valid}
-use Rattle.model.proofs.Disjoint.{all-sized}
+use Rattle.model.proofs.Disjoint.{sized-map}
 use Rattle.model.proofs.Sums.{Measure, by-one, by-room, share, begins-inside, figure-only, figure-still, figure-gone}
-
-pub sized-map : (s : State) → Valid s → Each Sized (pageMap s)
-sized-map s v = all-sized (s .segments) (v .sound)
 
 -- ---- a block more, a block less, for any figure
 

@@ -58,11 +58,17 @@ fresh-valid n least most = bare-valid _ (omega arith) (omega arith) (refl, least
 
 -- Calls on a valid state ------------------------------------------------------------------------------------------------
 
-listing-same : (n : ℕ) (s : State) → (listInto n s) .after ≡ s
-listing-same n s = bool (leb (length (listingText (pageMap s))) n) (λ t. rw t) (λ t. rw t)
+pub list-same : (n : ℕ) (s : State) → (listInto n s) .after ≡ s
+list-same n s = bool (leb (length (listingText (pageMap s))) n) (λ t. rw t) (λ t. rw t)
 
-fetch-same : (n : ℕ) (s : State) → (fetch n s) .after ≡ s
+pub fetch-same : (n : ℕ) (s : State) → (fetch n s) .after ≡ s
 fetch-same n s = bool (eqb n mostGroup) (λ t. rw t) (λ t. rw t)
+
+-- A group's call that is not refused is that of a legal group.
+pub asked-group : (g : ℕ) (q : Operation) (s : State) → isRefused ((asked g q s) .answer) ≡ false → groupOk g ≡ true
+asked-group g (Allocate n) s d = bool (groupOk g) (λ t. t) (λ t. true-false refl (rw t at d))
+asked-group g (Free o) s d = bool (groupOk g) (λ t. t) (λ t. true-false refl (rw t at d))
+asked-group g Reset s d = bool (groupOk g) (λ t. t) (λ t. true-false refl (rw t at d))
 
 asked-valid : (s : State) → Valid s → (g : ℕ) (q : Operation) → Valid ((asked g q s) .after)
 asked-valid s h g (Allocate n) = allocate-valid s h g n
@@ -73,7 +79,7 @@ pub serve-valid : (s : State) → Valid s → (a : Action) → Valid ((serve s a
 serve-valid s h (group c) = asked-valid s h (c .group) (c .operation)
 serve-valid s h trim = trimmed-valid s h
 serve-valid s h (query o) = h
-serve-valid s h (listing n) = rw (listing-same n s) h
+serve-valid s h (listing n) = rw (list-same n s) h
 serve-valid s h (holdings n) = rw (fetch-same n s) h
 
 -- Refusals --------------------------------------------------------------------------------------------------------------
@@ -109,5 +115,5 @@ pub serve-leaves : (s : State) → Valid s → (a : Action) → Leaves s (serve 
 serve-leaves s h (group c) = asked-leaves s h (c .group) (c .operation)
 serve-leaves s h trim = λ t. true-false t refl
 serve-leaves s h (query o) = λ _. refl
-serve-leaves s h (listing n) = λ _. listing-same n s
+serve-leaves s h (listing n) = λ _. list-same n s
 serve-leaves s h (holdings n) = λ _. fetch-same n s

@@ -3,7 +3,7 @@
 use Prim.Native.Nat.{ℕ, _+_, _-_, _*_, _≤_}
 use mathlib.Core.Path.{_≡_, refl, sym, ap, _∙_, subst}
 use mathlib.Core.List.{List, _++_, append-assoc}
-use mathlib.Core.Option.{none, some, Option·map}
+use mathlib.Core.Option.{none, some}
 use mathlib.Core.Bool.{Bool, true, false}
 use native.Mathlib.Omega.{arith}
 use lib.ListN.{length, take, drop, length-append}
@@ -40,7 +40,7 @@ use Rattle.account.specs.Decoding.{statePart, accountIn, isAccount, accountOf}
 use Rattle.account.proofs.Accounts.{front-fits, passed, account-valid, account-begins, account-long, accountOf-some, accountOf-none}
 use Rattle.steps.specs.Lent.{Good}
 use Rattle.steps.proofs.Kept.{good-of, good-decoded}
-use Rattle.slab.specs.Calls.{stateOf, answerOf, metaAfter, listedOf, textAfter}
+use Rattle.slab.specs.Calls.{stateIn, stateOf, answerOf, metaAfter, listedOf, textAfter}
 use Rattle.slab.specs.Arena.{pagesOf, Arena, roomTold}
 use Rattle.slab.proofs.Words.{front-same, following, refused-same, unserved-answer, served-long, served-answer, served-words}
 
@@ -58,10 +58,10 @@ module _ (w : List ℕ) where
   account-is t = accountOf-some w (accountIn w) (account-valid w t) (account-begins w t)
 
   pub pages-none : isAccount w ≡ false → 0 ≡ pagesOf (stateOf w)
-  pages-none t = ap (λ y. pagesOf (Option·map (λ a. a .state) y)) (sym (accountOf-none w t))
+  pages-none t = ap (λ y. pagesOf (stateIn y)) (sym (accountOf-none w t))
 
   pub pages-some : isAccount w ≡ true → (n : ℕ) → n ≡ total (accountIn w .state .segments) → n ≡ pagesOf (stateOf w)
-  pages-some t n e = e ∙ ap (λ y. pagesOf (Option·map (λ a. a .state) y)) (sym (account-is t))
+  pages-some t n e = e ∙ ap (λ y. pagesOf (stateIn y)) (sym (account-is t))
 
   module _ (n : ℕ) (is : n ≡ pagesOf (stateOf w)) where
     -- No pages: the words encode no account, and the call is refused.

@@ -1,5 +1,6 @@
 -- What the holdings answer and leave of the list, by the check of the words. Assumes nothing.
 use Prim.Native.Nat.{ℕ, _+_, _≤_, _<_}
+use mathlib.Core.Option.{some}
 use mathlib.Core.Path.{_≡_, sym, ap, _∙_}
 use mathlib.Core.Bool.{true, false, cond}
 use mathlib.Core.List.{List}
@@ -16,14 +17,17 @@ use Rattle.model.specs.declared.Answer.the-variants.{Refused}
 use Rattle.model.specs.declared.Refusal.the-variants.{NoState}
 use Rattle.model.specs.Holdings.{Account, holdingOf, holdingsOf}
 use Rattle.model.specs.Calls.{holdings, act}
-use Rattle.model.specs.Perform.{serve}
 use Rattle.figures.specs.Encoding.{atHeld, atGreatest, recordIn}
 use Rattle.figures.specs.Records.{recordsIn, filled}
 use Rattle.figures.proofs.Encoded.{record-encoded}
-use Rattle.account.specs.Decoding.{accountIn, isAccount}
+use Rattle.account.specs.Decoding.{accountIn, isAccount, accountOf}
 use Rattle.account.proofs.Accounts.{has-figures, figures-are, account-valid, account-begins, accountOf-some, accountOf-none}
 use Rattle.slab.specs.Calls.{answerOf, heldIn, fetchedIf, listAfter}
-use Rattle.slab.proofs.Words.{unserved-answer, served-answer}
+use Rattle.slab.proofs.Words.{encodes-of, unserved-answer, served-answer}
+
+-- Words that encode an account: the answer goes by the list's length.
+pub fetched-answer : (w : List ℕ) (x : Account) → accountOf w ≡ some x → (n : ℕ) → answerOf w (act (holdings n)) ≡ fetchedIf (eqb n mostGroup)
+fetched-answer w x e n = let k = encodes-of w x e in served-answer w x (k .valid) (k .begins) (holdings n) ∙ bool (eqb n mostGroup) (λ t. rw t) (λ t. rw t)
 
 module _ (w : List ℕ) (l : List Holding) where
   module _ (t : isAccount w ≡ true) where
@@ -33,11 +37,11 @@ module _ (w : List ℕ) (l : List Holding) where
     pub good-long : figureWords ≤ length w
     good-long = omega (arith, has-figures w t)
 
+    account-is : accountOf w ≡ some x
+    account-is = accountOf-some w x (account-valid w t) (account-begins w t)
+
     pub good-answer : fetchedIf (eqb (length l) mostGroup) ≡ answerOf w (act (holdings (length l)))
-    good-answer = sym (served-answer w x (account-valid w t) (account-begins w t) (holdings (length l)) ∙ by-length)
-      where
-        by-length : (serve (accountIn w .state) (holdings (length l))) .answer ≡ fetchedIf (eqb (length l) mostGroup)
-        by-length = bool (eqb (length l) mostGroup) (λ u. rw u) (λ u. rw u)
+    good-answer = sym (fetched-answer w x account-is (length l))
 
     -- The records in the words are the account's.
     front : (i : ℕ) → i < mostGroup → recordIn w i ≡ recordIn (take figureWords w) i
@@ -57,7 +61,7 @@ module _ (w : List ℕ) (l : List Holding) where
 
     pub good-list : filled w l ≡ listAfter w l
     unfolding filled listAfter
-    good-list = ap (λ r. cond (eqb (length l) mostGroup) r l) records ∙ ap (λ y. heldIn y l) (sym (accountOf-some w x (account-valid w t) (account-begins w t)))
+    good-list = ap (λ r. cond (eqb (length l) mostGroup) r l) records ∙ ap (λ y. heldIn y l) (sym account-is)
 
   module _ (t : isAccount w ≡ false) where
     pub bad-answer : Refused NoState ≡ answerOf w (act (holdings (length l)))

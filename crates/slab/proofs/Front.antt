@@ -24,7 +24,7 @@ use Rattle.account.specs.Encoding.{accountEncoding, BeginsWith}
 use Rattle.account.specs.Decoding.{statePart, accountIn, isAccount, accountOf}
 use Rattle.account.proofs.Accounts.{front-fits, passed, account-valid, account-begins, account-long, begins-passes, accountOf-some, accountOf-none}
 use Rattle.slab.specs.Calls.{written, answerOf, metaAfter, legalPages, extent}
-use Rattle.slab.proofs.Words.{following, holding-of, by-account, refused-same, unserved-answer, served-long, served-answer, served-words}
+use Rattle.slab.proofs.Words.{following, encodes-of, by-account, refused-same, unserved-answer, served-long, served-answer, served-words}
 use Rattle.slab.proofs.Fresh.{bad-answer, short-answer, fresh-done, fresh-words}
 
 -- A call on the words w is the call on the first k of them, with the others behind.
@@ -78,7 +78,7 @@ module _ (w : List ℕ) (k : ℕ) where
   acted-front : (a : Action) → allWords (legalPages (pagesIn (drop figureWords w))) ≤ k → Alone w (act a) k
   acted-front a h = by-account (λ _. Alone w (act a) k) w
       (λ e. let no = unserved-answer w e a in refused-front (act a) (ap isRefused no ∙ refusal-refused a NoState) (no ∙ sym (unserved-answer (take k w) (front-account h ∙ e) a)))
-      (λ x e p. let q = holding-of (take k w) x (front-account h ∙ e) in (
+      (λ x e p. let q = encodes-of (take k w) x (front-account h ∙ e) in (
         served-answer w x (p .valid) (p .begins) a ∙ sym (served-answer (take k w) x (q .valid) (q .begins) a),
         served-words w x (p .valid) (p .begins) a
             ∙ written-front (following x a) (omega (arith, served-long x (p .valid) a, front-fits (accountEncoding x) (take k w) (q .begins)))

@@ -8,20 +8,22 @@ use lib.Dec.{eqb}
 use lib.ListN.{length}
 use Rattle.lemmas.proofs.Cases.{bool, true-false}
 use Rattle.model.specs.Numbers.{mostGroup, mostBytes, figureWords}
+use Rattle.model.specs.declared.Operation.the-variants.{Allocate}
 use Rattle.model.specs.Sizes.{roomFor}
 use Rattle.model.specs.State.{State}
 use Rattle.model.specs.Holdings.{Account, accounted, holdingOf}
 use Rattle.model.specs.Valid.{ValidAccount}
-use Rattle.model.specs.Calls.{isRefused, groupOk, sizeOk}
+use Rattle.model.specs.Calls.{isRefused, sizeOk}
 use Rattle.model.specs.Allocate.{allocate}
-use Rattle.model.proofs.Allocated.{Allocated, gives, denies, allocated, group-least, group-most, size-least, size-most}
+use Rattle.model.proofs.Allocated.{Allocated, gives, denies, allocated, size-least, size-most}
 use Rattle.model.proofs.ValidAllocate.{allocate-valid}
+use Rattle.model.proofs.Validity.{asked-group}
 use Rattle.model.proofs.Figures.{Gains, grant-gains}
 use Rattle.figures.specs.Encoding.{figuresEncoding, recordIn}
 use Rattle.figures.specs.Steps.{added}
 use Rattle.figures.proofs.Encoded.{length-figures, record-encoded}
-use Rattle.account.proofs.Booked.{added-figures}
-use Rattle.slab.proofs.Booking.{other-group, own-group, gains-other, gains-own, blocks-few, held-few}
+use Rattle.account.proofs.Next.{added-figures}
+use Rattle.slab.proofs.Caller.{caller, other-group, own-group, gains-other, gains-own, blocks-few, held-few}
 
 module _ (x : Account) (v : ValidAccount x) (g n : ℕ) (done : isRefused ((allocate g n (x .state)) .answer) ≡ false) where
   abbrev s : State
@@ -30,14 +32,11 @@ module _ (x : Account) (v : ValidAccount x) (g n : ℕ) (done : isRefused ((allo
   abbrev t : State
   t = (allocate g n (x .state)) .after
 
-  legal-group : groupOk g ≡ true
-  legal-group = bool (groupOk g) (λ u. u) (λ u. true-false refl (rw u at done))
-
   legal-size : sizeOk n ≡ true
-  legal-size = bool (sizeOk n) (λ u. u) (λ u. true-false refl (rw (legal-group, u) at done))
+  legal-size = bool (sizeOk n) (λ u. u) (λ u. true-false refl (rw (asked-group g (Allocate n) s done, u) at done))
 
-  pub grant-group : (0 < g) × (g ≤ mostGroup)
-  grant-group = (group-least g legal-group, group-most g legal-group)
+  legal : (0 < g) × (g ≤ mostGroup)
+  legal = caller g (Allocate n) s done
 
   pub grant-size : (0 < n) × (n ≤ mostBytes)
   grant-size = (size-least n legal-size, size-most n legal-size)
@@ -50,10 +49,10 @@ module _ (x : Account) (v : ValidAccount x) (g n : ℕ) (done : isRefused ((allo
       go (gives o k b ans fresh grp rm only) = grant-gains s (v .state) h p g n o k ans
 
   own : Gains (suc (g - 1)) s t 1 (roomFor n)
-  own = gains-own (eqb g (suc (g - 1))) (suc (g - 1)) (roomFor n) s t (own-group g (grant-group .0)) (gains (suc (g - 1)) (omega arith))
+  own = gains-own (eqb g (suc (g - 1))) (suc (g - 1)) (roomFor n) s t (own-group g (legal .0)) (gains (suc (g - 1)) (omega arith))
 
   index-low : g - 1 < mostGroup
-  index-low = omega (arith, grant-group .0, grant-group .1)
+  index-low = omega (arith, legal .0, legal .1)
 
   pub grant-fits : let h = recordIn (figuresEncoding (holdingOf x)) (g - 1) in (h .blocks ≤ mostBytes) × (h .held + roomFor n ≤ mostBytes)
   grant-fits =
@@ -62,7 +61,7 @@ module _ (x : Account) (v : ValidAccount x) (g n : ℕ) (done : isRefused ((allo
 
   pub grant-figures : added (g - 1) (roomFor n) (figuresEncoding (holdingOf x)) ≡ figuresEncoding (holdingOf (accounted x ((allocate g n (x .state)) .after)))
   grant-figures = added-figures x v t (g - 1) index-low
-      (λ i l ne. gains-other (eqb g (suc i)) (suc i) (roomFor n) s t (other-group g i (grant-group .0) ne) (gains (suc i) (omega arith)))
+      (λ i l ne. gains-other (eqb g (suc i)) (suc i) (roomFor n) s t (other-group g i (legal .0) ne) (gains (suc i) (omega arith)))
       (roomFor n) own
 
   -- As the code has them: the figures f lent for the step, the index i and the room r.

@@ -1,7 +1,7 @@
 pub mod Words
 pub mod Promises
 pub mod Acting
-pub mod Booking
+pub mod Caller
 pub mod Granting
 pub mod Returning
 pub mod Resetting

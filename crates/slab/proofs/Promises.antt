@@ -5,7 +5,7 @@ use Prim.Native.Nat.{ℕ, _+_, _*_, _%_, _≤_, _<_}
 use mathlib.Core.Path.{_≡_, refl, sym, ap, _∙_, subst}
 use mathlib.Core.Logic.{_⊎_, inl, inr, _↔_}
 use mathlib.Core.List.{List, _++_}
-use mathlib.Core.Option.{Option, none, some, Option·map}
+use mathlib.Core.Option.{Option, none, some}
 use native.Mathlib.Omega.{arith}
 use lib.ListN.{length, take, drop}
 use lib.Seq.{take-all}
@@ -47,10 +47,11 @@ use Rattle.account.specs.Encoding.{accountEncoding, BeginsWith}
 use Rattle.account.specs.Decoding.{accountOf}
 use Rattle.account.proofs.Accounts.{accountOf-some}
 use Rattle.slab.specs.Arena.{pagesOf}
-use Rattle.slab.specs.Calls.{viewOf, stateOf, written, answerOf, metaAfter, listedOf, textAfter, heldIn, fetchedIf, listAfter, extent}
-use Rattle.slab.proofs.Words.{following, holding-of, by-account, standing, by-state, written-later, view-after, after-is, same-length, refused-same}
+use Rattle.slab.specs.Calls.{viewOf, stateIn, stateOf, written, answerOf, metaAfter, listedOf, textAfter, heldIn, fetchedIf, listAfter, extent}
+use Rattle.slab.proofs.Words.{following, encodes-of, by-account, standing, by-state, written-later, view-after, after-is, same-length, refused-same}
 use Rattle.slab.proofs.Words.{query-same, listing-same, unserved-answer, served-long, served-answer, served-words, holdings-same}
 use Rattle.slab.proofs.Fresh.{no-pages, many-pages, short-answer, fresh-done, fresh-words}
+use Rattle.slab.proofs.Fetching.{fetched-answer}
 use Rattle.slab.proofs.Front.{front-account, front-alone}
 use Rattle.model.proofs.Aligned as aligned
 use Rattle.model.proofs.Aligned.{Aligned}
@@ -76,7 +77,7 @@ holdings-unchanged w n = holdings-same w n
 pub later-unchanged : (w : List ℕ) (c : Command) (s : State) → stateOf (metaAfter w c) ≡ some s → (k : ℕ) → allWords (total (s .segments)) ≤ k → drop k (metaAfter w c) ≡ drop k w
 later-unchanged w c s e k h =
     let t = standing (metaAfter w c) s e in
-    let v = holding-of (metaAfter w c) (t .account) (t .encoded) .valid in
+    let v = encodes-of (metaAfter w c) (t .account) (t .encoded) .valid in
     ap (drop k) (after-is w c ∙ ap (λ y. written w y) (t .encoded)) ∙ written-later w (t .account) v k (omega (arith, ap (λ r. total (r .segments)) (t .state)))
 
 -- .. there are as many words as before, ..
@@ -138,9 +139,6 @@ unfolding answerOf
 words-ledger-agrees = ledger-agrees (List ℕ) viewOf metaAfter answerOf view-after (λ w c. refl)
 
 -- What each group holds (document 02, c). Of words that encode an account the list of twelve is filled with the account's records, ..
-fetched-answer : (w : List ℕ) (x : Account) → accountOf w ≡ some x → (n : ℕ) → answerOf w (act (holdings n)) ≡ fetchedIf (eqb n mostGroup)
-fetched-answer w x e n = let k = holding-of w x e in served-answer w x (k .valid) (k .begins) (holdings n) ∙ bool (eqb n mostGroup) (λ t. rw t) (λ t. rw t)
-
 pub holdings-fetched : (w : List ℕ) (x : Account) → accountOf w ≡ some x → (l : List Holding) → length l ≡ mostGroup →
     (answerOf w (act (holdings (length l))) ≡ Done) × (listAfter w l ≡ holdingsOf x)
 unfolding listAfter
@@ -206,9 +204,9 @@ trim-needless w g n = go (accountOf w) refl
     go none e = (λ r. absurd (no-room-without w g n e r), λ r. absurd (no-room-without (metaAfter w (act trim)) g n (after none e ∙ e) r))
     go (some x) e =
         let s = x .state in
-        let on : stateOf w ≡ some s = ap (Option·map (λ a. a .state)) e in
+        let on : stateOf w ≡ some s = ap stateIn e in
         let here = no-room-on w s on g n in
-        let there = no-room-on (metaAfter w (act trim)) (trimmed s) (ap (Option·map (λ a. a .state)) (after (some x) e)) g n in
+        let there = no-room-on (metaAfter w (act trim)) (trimmed s) (ap stateIn (after (some x) e)) g n in
         let same = second.short-trimmed s (standing w s on .valid) g n in
         (λ r. there .1 (same .0 (here .0 r)), λ r. here .1 (same .1 (there .0 r)))
 
@@ -268,7 +266,7 @@ bounds-met n a b =
     let v = accounted-valid (freshAccount n) (fresh-account n a b) s (met.comb-valid n a b) (met.comb-total n ∙ omega arith) in
     let w = accountEncoding x in
     let here : BeginsWith w x = take-all (length w) w (omega arith) in
-    (w, s, ap (Option·map (λ a. a .state)) (accountOf-some w x v here), met.comb-total n, met.search-met n, served-answer w x v here (request 1 8192) ∙ met.request-met n)
+    (w, s, ap stateIn (accountOf-some w x v here), met.comb-total n, met.search-met n, served-answer w x v here (request 1 8192) ∙ met.request-met n)
 
 -- A live block begins at a multiple of every number that divides a page's bytes and the block's room, ..
 pub block-aligned : (w : List ℕ) (s : State) → stateOf w ≡ some s → (o : ℕ) (b : Block) → blockAt (pageMap s) o ≡ some b → (d : ℕ) → pageBytes % d ≡ 0 → roomOf b % d ≡ 0 → o % d ≡ 0

@@ -1,50 +1,47 @@
 -- The figures at a reset and at a trim: their step leaves those of the account that follows. Assumes nothing.
 use Prim.Native.Nat.{ℕ, suc, _-_, _≤_, _<_}
-use mathlib.Core.Path.{_≡_, refl, ap, _∙_}
-use mathlib.Core.Bool.{true, false, cond}
+use mathlib.Core.Path.{_≡_, ap, _∙_}
+use mathlib.Core.Bool.{false, cond}
 use mathlib.Core.List.{List}
 use native.Mathlib.Omega.{arith}
 use lib.Dec.{eqb}
 use lib.ListN.{length}
-use Rattle.lemmas.proofs.Cases.{bool, true-false}
 use Rattle.model.specs.Numbers.{mostGroup, figureWords}
+use Rattle.model.specs.declared.Operation.the-variants.{Reset}
 use Rattle.model.specs.State.{State}
 use Rattle.model.specs.PageMap.{pageMap}
 use Rattle.model.specs.Holdings.{blocksOf, heldOf, Account, accounted, holdingOf}
 use Rattle.model.specs.Valid.{ValidAccount}
-use Rattle.model.specs.Calls.{isRefused, groupOk}
+use Rattle.model.specs.Calls.{isRefused}
 use Rattle.model.specs.Free.{reset}
 use Rattle.model.specs.Trim.{trimmed}
-use Rattle.model.proofs.Allocated.{group-least, group-most}
+use Rattle.model.proofs.Validity.{asked-group}
 use Rattle.model.proofs.Figures.{Gains, reset-leaves, trim-gains}
 use Rattle.figures.specs.Encoding.{figuresEncoding}
 use Rattle.figures.proofs.Encoded.{length-figures}
 use Rattle.figures.specs.Steps.{cleared}
-use Rattle.account.proofs.Booked.{still-figures, cleared-figures}
-use Rattle.slab.proofs.Booking.{other-group, own-group}
+use Rattle.account.proofs.Next.{still-figures, cleared-figures}
+use Rattle.slab.proofs.Caller.{caller, other-group, own-group}
 
 module _ (x : Account) (v : ValidAccount x) (g : ℕ) (done : isRefused ((reset g (x .state)) .answer) ≡ false) where
-  legal-group : groupOk g ≡ true
-  legal-group = bool (groupOk g) (λ u. u) (λ u. true-false refl (rw u at done))
-
-  pub reset-group : (0 < g) × (g ≤ mostGroup)
-  reset-group = (group-least g legal-group, group-most g legal-group)
+  legal : (0 < g) × (g ≤ mostGroup)
+  legal = caller g Reset (x .state) done
 
   abbrev t : State
   t = (reset g (x .state)) .after
 
   pub reset-figures : cleared (g - 1) (figuresEncoding (holdingOf x)) ≡ figuresEncoding (holdingOf (accounted x ((reset g (x .state)) .after)))
-  reset-figures = cleared-figures x v t (g - 1) (omega (arith, reset-group .0, reset-group .1)) others
-      (left (suc (g - 1)) (omega arith) .0 ∙ ap (λ b. cond b 0 (blocksOf (suc (g - 1)) (pageMap (x .state)))) (own-group g (reset-group .0)))
-      (left (suc (g - 1)) (omega arith) .1 ∙ ap (λ b. cond b 0 (heldOf (suc (g - 1)) (pageMap (x .state)))) (own-group g (reset-group .0)))
+  reset-figures = cleared-figures x v t (g - 1) (omega (arith, legal .0, legal .1)) others
+      (left (suc (g - 1)) (omega arith) .0 ∙ ap (λ b. cond b 0 (blocksOf (suc (g - 1)) (pageMap (x .state)))) (own-group g (legal .0)))
+      (left (suc (g - 1)) (omega arith) .1 ∙ ap (λ b. cond b 0 (heldOf (suc (g - 1)) (pageMap (x .state)))) (own-group g (legal .0)))
     where
       left : (h : ℕ) → 0 < h → (blocksOf h (pageMap t) ≡ cond (eqb g h) 0 (blocksOf h (pageMap (x .state)))) × (heldOf h (pageMap t) ≡ cond (eqb g h) 0 (heldOf h (pageMap (x .state))))
-      left h p = reset-leaves (x .state) (v .state) h p g legal-group
+      left h p = reset-leaves (x .state) (v .state) h p g (asked-group g Reset (x .state) done)
 
       others : (i : ℕ) → i < mostGroup → (i ≡ g - 1 → ⊥) → Gains (suc i) (x .state) t 0 0
       others i l ne =
           let k = left (suc i) (omega arith) in
-          let o = other-group g i (reset-group .0) ne in record {
+          let o = other-group g i (legal .0) ne in record {
             blocks = k .0 ∙ ap (λ b. cond b 0 (blocksOf (suc i) (pageMap (x .state)))) o ∙ omega arith;
             held = k .1 ∙ ap (λ b. cond b 0 (heldOf (suc i) (pageMap (x .state)))) o ∙ omega arith;
           }
@@ -52,7 +49,7 @@ module _ (x : Account) (v : ValidAccount x) (g : ℕ) (done : isRefused ((reset 
   -- As the code has them: the figures f lent for the step, and the index i.
   module _ (f : List ℕ) (e : f ≡ figuresEncoding (holdingOf x)) (i : ℕ) (at : i ≡ g - 1) where
     pub reset-needs : (length f ≡ figureWords) × (i < mostGroup)
-    reset-needs = (ap length e ∙ length-figures (holdingOf x), omega (arith, reset-group .0, reset-group .1))
+    reset-needs = (ap length e ∙ length-figures (holdingOf x), omega (arith, legal .0, legal .1))
 
     pub reset-done : (v : List ℕ) → v ≡ cleared i f → v ≡ figuresEncoding (holdingOf (accounted x ((reset g (x .state)) .after)))
     reset-done v q = q ∙ (λ j. cleared (at j) (e j)) ∙ reset-figures

@@ -9,6 +9,7 @@ use lib.Dec.{eqb}
 use lib.ListN.{length}
 use Rattle.lemmas.proofs.Cases.{bool, true-false}
 use Rattle.model.specs.Numbers.{mostGroup, figureWords}
+use Rattle.model.specs.declared.Operation.the-variants.{Free}
 use Rattle.model.specs.declared.Answer.the-variants.{Done}
 use Rattle.model.specs.State.{State}
 use Rattle.model.specs.PageMap.{pageMap, Block, groupOf, roomOf, blockAt}
@@ -17,14 +18,14 @@ use Rattle.model.specs.Valid.{ValidAccount}
 use Rattle.model.specs.Calls.{isRefused, groupOk}
 use Rattle.model.specs.Free.{freeBlock, free}
 use Rattle.model.specs.Trim.{described}
-use Rattle.model.proofs.Allocated.{group-least, group-most}
+use Rattle.model.proofs.Validity.{asked-group}
 use Rattle.model.proofs.Figures.{Gains, return-gains}
 use Rattle.figures.specs.Encoding.{figuresEncoding, recordIn}
 use Rattle.figures.specs.Steps.{taken}
 use Rattle.figures.proofs.Encoded.{length-figures, record-encoded}
-use Rattle.account.proofs.Booked.{taken-figures}
+use Rattle.account.proofs.Next.{taken-figures}
 use Rattle.slab.specs.Arena.{roomTold}
-use Rattle.slab.proofs.Booking.{other-group, own-group, gains-other, gains-own}
+use Rattle.slab.proofs.Caller.{caller, other-group, own-group, gains-other, gains-own}
 
 module _ (x : Account) (v : ValidAccount x) (g o : ℕ) (done : isRefused ((free g o (x .state)) .answer) ≡ false) where
   abbrev s : State
@@ -34,10 +35,10 @@ module _ (x : Account) (v : ValidAccount x) (g o : ℕ) (done : isRefused ((free
   t = (free g o (x .state)) .after
 
   legal-group : groupOk g ≡ true
-  legal-group = bool (groupOk g) (λ u. u) (λ u. true-false refl (rw u at done))
+  legal-group = asked-group g (Free o) s done
 
-  pub return-group : (0 < g) × (g ≤ mostGroup)
-  return-group = (group-least g legal-group, group-most g legal-group)
+  legal : (0 < g) × (g ≤ mostGroup)
+  legal = caller g (Free o) s done
 
   is-done : (free g o s) .answer ≡ Done
   is-done = rw legal-group (go (blockAt (pageMap s) o) (rw legal-group at done))
@@ -57,10 +58,10 @@ module _ (x : Account) (v : ValidAccount x) (g o : ℕ) (done : isRefused ((free
   gains h p = let k = told h p in subst (λ r. Gains h t s (cond (eqb g h) 1 0) (cond (eqb g h) r 0)) (room-is (k .0) (k .1)) (k .3)
 
   own : Gains (suc (g - 1)) t s 1 (roomTold (described (blockAt (pageMap s) o)))
-  own = gains-own (eqb g (suc (g - 1))) (suc (g - 1)) _ t s (own-group g (return-group .0)) (gains (suc (g - 1)) (omega arith))
+  own = gains-own (eqb g (suc (g - 1))) (suc (g - 1)) _ t s (own-group g (legal .0)) (gains (suc (g - 1)) (omega arith))
 
   index-low : g - 1 < mostGroup
-  index-low = omega (arith, return-group .0, return-group .1)
+  index-low = omega (arith, legal .0, legal .1)
 
   pub return-fits : let h = recordIn (figuresEncoding (holdingOf x)) (g - 1) in (0 < h .blocks) × (roomTold (described (blockAt (pageMap (x .state)) o)) ≤ h .held)
   return-fits =
@@ -69,7 +70,7 @@ module _ (x : Account) (v : ValidAccount x) (g o : ℕ) (done : isRefused ((free
 
   pub return-figures : taken (g - 1) (roomTold (described (blockAt (pageMap (x .state)) o))) (figuresEncoding (holdingOf x)) ≡ figuresEncoding (holdingOf (accounted x ((free g o (x .state)) .after)))
   return-figures = taken-figures x v t (g - 1) index-low
-      (λ i l ne. gains-back (gains-other (eqb g (suc i)) (suc i) _ t s (other-group g i (return-group .0) ne) (gains (suc i) (omega arith))))
+      (λ i l ne. gains-back (gains-other (eqb g (suc i)) (suc i) _ t s (other-group g i (legal .0) ne) (gains (suc i) (omega arith))))
       _ own
     where
       gains-back : {h : ℕ} → Gains h t s 0 0 → Gains h s t 0 0

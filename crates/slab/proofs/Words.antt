@@ -3,31 +3,30 @@
 use Prim.Native.Nat.{ℕ, _+_, _-_, _≤_}
 use mathlib.Core.Path.{_≡_, refl, sym, ap, _∙_, subst}
 use mathlib.Core.List.{List, _++_}
-use mathlib.Core.Option.{Option, none, some, Option·map, Option·none-ne-some}
+use mathlib.Core.Option.{Option, none, some, Option·none-ne-some}
 use mathlib.Core.Bool.{true, _&&_}
 use native.Mathlib.Omega.{arith}
-use lib.Dec.{leb, eqb}
+use lib.Dec.{leb}
 use lib.ListN.{length, take, drop, length-append, length-drop, take-append-drop}
 use lib.Seq.{take-append-seam, drop-append-seam, drop-drop}
 use borrow.Author.Tests.{leb-true}
 use Rattle.lemmas.proofs.Cases.{bool, and-left, and-right, some-inj, none-some}
-use Rattle.model.specs.Numbers.{mostGroup, mostPages}
+use Rattle.model.specs.Numbers.{mostPages}
 use Rattle.model.specs.declared.Refusal.the-variants.{NoState}
 use Rattle.model.specs.Arena.{total}
 use Rattle.model.specs.State.{State}
 use Rattle.model.specs.Holdings.{Account, accounted}
 use Rattle.model.specs.Valid.{Valid, ValidAccount}
-use Rattle.model.specs.PageMap.{pageMap}
-use Rattle.model.specs.Listing.{listingText}
 use Rattle.model.specs.Calls.{Action, query, listing, holdings, Command, init, act, isRefused, refusalOf}
 use Rattle.model.specs.Perform.{serve, Metadata, allWords, onAccount, perform}
 use Rattle.model.proofs.Accounts as model
 use Rattle.model.proofs.Accounts.{accounted-same, fresh-account, serve-account, perform-leaves}
 use Rattle.model.proofs.Totals.{serve-total}
+use Rattle.model.proofs.Validity.{list-same, fetch-same}
 use Rattle.account.specs.Encoding.{accountEncoding, BeginsWith}
 use Rattle.account.specs.Decoding.{isAccount, accountOf}
 use Rattle.account.proofs.Accounts.{account-valid, account-begins, account-long, accountOf-some, front-fits}
-use Rattle.slab.specs.Calls.{viewOf, stateOf, written, answerOf, metaAfter}
+use Rattle.slab.specs.Calls.{viewOf, stateIn, stateOf, written, answerOf, metaAfter}
 
 -- Words in front of others --------------------------------------------------------------------------------------------------------
 
@@ -44,27 +43,27 @@ module _ {A : Type 0} (e w : List A) where
 
 -- The account that words encode ---------------------------------------------------------------------------------------------------
 
-pub record Holding (w : List ℕ) (x : Account) : Type 0 where
+pub record Encodes (w : List ℕ) (x : Account) : Type 0 where
   pub valid : ValidAccount x
   pub begins : BeginsWith w x
 
-pub holding-of : (w : List ℕ) (x : Account) → accountOf w ≡ some x → Holding w x
+pub encodes-of : (w : List ℕ) (x : Account) → accountOf w ≡ some x → Encodes w x
 unfolding accountOf
-holding-of w x e = bool (isAccount w)
-    (λ t. subst (Holding w) (some-inj (rw t at e)) (record { valid = account-valid w t; begins = account-begins w t }))
+encodes-of w x e = bool (isAccount w)
+    (λ t. subst (Encodes w) (some-inj (rw t at e)) (record { valid = account-valid w t; begins = account-begins w t }))
     (λ t. absurd (Option·none-ne-some x (rw t at e)))
 
 -- There are as many words as the arena's pages need.
-pub holding-long : (w : List ℕ) (x : Account) → Holding w x → allWords (total (x .state .segments)) ≤ length w
-holding-long w x h = omega (arith, front-fits (accountEncoding x) w (h .begins), account-long x (h .valid))
+pub encodes-long : (w : List ℕ) (x : Account) → Encodes w x → allWords (total (x .state .segments)) ≤ length w
+encodes-long w x h = omega (arith, front-fits (accountEncoding x) w (h .begins), account-long x (h .valid))
 
 -- A claim about what words encode, by whether they encode an account.
-pub by-account {ℓ} : (P : Option Account → Type ℓ) (w : List ℕ) → (accountOf w ≡ none → P none) → ((x : Account) → accountOf w ≡ some x → Holding w x → P (some x)) → P (accountOf w)
+pub by-account {ℓ} : (P : Option Account → Type ℓ) (w : List ℕ) → (accountOf w ≡ none → P none) → ((x : Account) → accountOf w ≡ some x → Encodes w x → P (some x)) → P (accountOf w)
 by-account P w f g = go (accountOf w) refl
   where
     go : (y : Option Account) → accountOf w ≡ y → P y
     go none e = f e
-    go (some x) e = g x e (holding-of w x e)
+    go (some x) e = g x e (encodes-of w x e)
 
 pub written-own : (w : List ℕ) → written w (accountOf w) ≡ w
 written-own w = by-account (λ y. written w y ≡ w) w (λ _. refl) (λ x _ h. front-same (accountEncoding x) w (h .begins))
@@ -88,7 +87,7 @@ abbrev pub following : Account → Action → Account
 following x a = accounted x ((serve (x .state) a) .after)
 
 own-writes : (w : List ℕ) → Writes w (accountOf w)
-own-writes w = by-account (Writes w) w (λ e. e) (λ x _ h. (h .valid, holding-long w x h))
+own-writes w = by-account (Writes w) w (λ e. e) (λ x _ h. (h .valid, encodes-long w x h))
 
 -- What is claimed of the rules' outcome on the words w.
 abbrev Lands : List ℕ → Metadata → Type 0
@@ -105,7 +104,7 @@ perform-lands w (init n) = bool (leb 1 n && leb n mostPages)
     (λ t. rw t (own-lands w))
 perform-lands w (act a) = by-account (λ y. Lands w ((onAccount (viewOf w) a y) .after)) w
     (λ e. own-lands w)
-    (λ x e h. (refl, (serve-account x (h .valid) a, omega (arith, serve-total (x .state) (h .valid .state) a, holding-long w x h))))
+    (λ x e h. (refl, (serve-account x (h .valid) a, omega (arith, serve-total (x .state) (h .valid .state) a, encodes-long w x h))))
 
 metaAfter-is : (w : List ℕ) (c : Command) → metaAfter w c ≡ written w ((perform (viewOf w) c) .after .account)
 unfolding metaAfter
@@ -148,17 +147,11 @@ still-same w a f = metaAfter-is w (act a) ∙ by-account (λ y. written w ((onAc
 pub query-same : (w : List ℕ) (o : ℕ) → metaAfter w (act (query o)) ≡ w
 query-same w o = still-same w (query o) (λ s. refl)
 
-listing-still : (n : ℕ) (s : State) → (serve s (listing n)) .after ≡ s
-listing-still n s = bool (leb (length (listingText (pageMap s))) n) (λ t. rw t) (λ t. rw t)
-
 pub listing-same : (w : List ℕ) (n : ℕ) → metaAfter w (act (listing n)) ≡ w
-listing-same w n = still-same w (listing n) (listing-still n)
-
-holdings-still : (n : ℕ) (s : State) → (serve s (holdings n)) .after ≡ s
-holdings-still n s = bool (eqb n mostGroup) (λ t. rw t) (λ t. rw t)
+listing-same w n = still-same w (listing n) (list-same n)
 
 pub holdings-same : (w : List ℕ) (n : ℕ) → metaAfter w (act (holdings n)) ≡ w
-holdings-same w n = still-same w (holdings n) (holdings-still n)
+holdings-same w n = still-same w (holdings n) (fetch-same n)
 
 -- A call on words that encode no account is refused.
 pub unserved-answer : (w : List ℕ) → accountOf w ≡ none → (a : Action) → answerOf w (act a) ≡ refusalOf a NoState
@@ -191,14 +184,14 @@ pub record Standing (w : List ℕ) (s : State) : Type 0 where
 
 standing-at : (w : List ℕ) (x : Account) → accountOf w ≡ some x → Standing w (x .state)
 standing-at w x e =
-    let h = holding-of w x e in
-    record { account = x; encoded = e; state = refl; valid = h .valid .state; answers = served-answer w x (h .valid) (h .begins); long = holding-long w x h }
+    let h = encodes-of w x e in
+    record { account = x; encoded = e; state = refl; valid = h .valid .state; answers = served-answer w x (h .valid) (h .begins); long = encodes-long w x h }
 
 pub standing : (w : List ℕ) (s : State) → stateOf w ≡ some s → Standing w s
-standing w s = by-account (λ y. Option·map (λ a. a .state) y ≡ some s → Standing w s) w
+standing w s = by-account (λ y. stateIn y ≡ some s → Standing w s) w
     (λ _ n. none-some n)
     (λ x e _ n. subst (Standing w) (some-inj n) (standing-at w x e))
 
 -- A claim about the state of words, by whether they encode an account.
 pub by-state {ℓ} : (P : Option State → Type ℓ) (w : List ℕ) → (accountOf w ≡ none → P none) → ((s : State) → stateOf w ≡ some s → Standing w s → P (some s)) → P (stateOf w)
-by-state P w f g = by-account (λ y. P (Option·map (λ a. a .state) y)) w f (λ x e _. g (x .state) (ap (Option·map (λ a. a .state)) e) (standing-at w x e))
+by-state P w f g = by-account (λ y. P (stateIn y)) w f (λ x e _. g (x .state) (ap stateIn e) (standing-at w x e))

@@ -2,7 +2,7 @@
 -- of the model, performed on what the words hold. Assumes nothing.
 use Prim.Native.Nat.{ℕ}
 use mathlib.Core.List.{List, _++_}
-use mathlib.Core.Option.{Option, none, some, Option·map}
+use mathlib.Core.Option.{Option, none, some}
 use mathlib.Core.Bool.{Bool, cond, _&&_}
 use lib.Dec.{leb, eqb}
 use lib.ListN.{length, drop}
@@ -26,9 +26,13 @@ use Rattle.listing.specs.Into.{listedInto}
 abbrev pub viewOf : List ℕ → Metadata
 viewOf w = record { words = length w; account = accountOf w }
 
--- The state of that account.
+-- The state of an account, if there is one; so that of the words.
+abbrev pub stateIn : Option Account → Option State
+stateIn none = none
+stateIn (some a) = some (a .state)
+
 abbrev pub stateOf : List ℕ → Option State
-stateOf w = Option·map (λ a. a .state) (accountOf w)
+stateOf w = stateIn (accountOf w)
 
 -- The words w once an account is written into them: its own words in front, the later words as they were.
 abbrev pub written : List ℕ → Option Account → List ℕ

@@ -6,13 +6,14 @@ use mathlib.Core.Bool.{true}
 use borrow.Author.Tests.{not-true, not-false}
 use Rattle.lemmas.specs.Below.{allBelow}
 use Rattle.model.specs.Numbers.{mostGroup}
-use Rattle.account.proofs.Checked.{test, none-tested, one-fails, one-more, all-tested}
+use Rattle.account.specs.Decoding.{tallyFits}
+use Rattle.account.proofs.Checked.{none-tested, one-fails, one-more, all-tested}
 use borrow.Author.Needs.{needs}
 use Rattle.account.proofs.records_fit.Statement.{statement}
 use Rattle.account.proofs.records_fit.Tie as tie
 
 abbrev Inv-loop : tie.InvT-loop
-Inv-loop figures tally most i₀ i = (i ≤ mostGroup) × (allBelow (test figures tally most) i ≡ true)
+Inv-loop figures tally most i₀ i = (i ≤ mostGroup) × (allBelow (tallyFits figures tally most) i ≡ true)
 
 abbrev μ-loop : tie.MeasureT-loop
 μ-loop figures tally most i₀ i = mostGroup - i

@@ -14,7 +14,8 @@ use Rattle.figures.specs.Encoding.{figuresEncoding}
 use Rattle.figures.proofs.Encoded.{length-figures}
 use Rattle.account.specs.Decoding.{accountIn}
 use Rattle.slab.proofs.Acting.{arena-few, arena-valid, arena-inside, arena-good, arena-answer, arena-done, arena-not, figures-there, long-there, arena-stepped, arena-refused}
-use Rattle.slab.proofs.Granting.{grant-group, grant-size, grant-needs, grant-done}
+use Rattle.slab.proofs.Caller.{caller}
+use Rattle.slab.proofs.Granting.{grant-size, grant-needs, grant-done}
 use borrow.Author.Needs.{needs}
 use Rattle.slab.proofs.allocate_in.Statement.{statement}
 use Rattle.slab.proofs.allocate_in.Tie as tie
@@ -72,7 +73,7 @@ returns c =
     (arena-answer (s .pre) _ e (call s) _ (r .0), arena-refused (s .pre) _ e (call s) _ (r .1) (arena-not (s .pre) _ e (call s) _ (r .0) _ (t .is-refused .ensures) (c .if1 .taken)))
 
 sub-index : tie.Need-sub-index
-sub-index c = let s = begun c in omega (arith, c .wide .ensures, grant-group (accountIn (s .args .meta .now)) (arena-valid (s .pre)) (s .args .group) (s .args .size) (done c) .0)
+sub-index c = let s = begun c in omega (arith, c .wide .ensures, caller (s .args .group) (Allocate (s .args .size)) _ (done c) .0)
 
 slice-relend-prefix-add : tie.Need-slice-relend-prefix-add
 slice-relend-prefix-add c = let a = answered (kept c) in let w = sized a in long-there (start w .pre) _ (w .words-for .ensures) (call (start w)) _ (a .allocate .ensures .1)

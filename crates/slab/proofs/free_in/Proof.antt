@@ -17,7 +17,8 @@ use Rattle.figures.proofs.Encoded.{length-figures}
 use Rattle.account.specs.Decoding.{accountIn}
 use Rattle.slab.specs.Arena.{roomTold}
 use Rattle.slab.proofs.Acting.{arena-few, arena-valid, arena-inside, arena-good, arena-answer, arena-done, arena-not, figures-there, long-there, arena-stepped, arena-refused, told-room}
-use Rattle.slab.proofs.Returning.{return-group, return-needs, return-done}
+use Rattle.slab.proofs.Caller.{caller}
+use Rattle.slab.proofs.Returning.{return-needs, return-done}
 use borrow.Author.Needs.{needs}
 use Rattle.slab.proofs.free_in.Statement.{statement}
 use Rattle.slab.proofs.free_in.Tie as tie
@@ -88,7 +89,7 @@ returns c =
     (arena-answer (s .pre) _ e (call s) _ (r .0), arena-refused (s .pre) _ e (call s) _ (r .1) (arena-not (s .pre) _ e (call s) _ (r .0) _ (t .is-refused .ensures) (c .if1 .taken)))
 
 sub-index : tie.Need-sub-index
-sub-index c = let s = begun c in omega (arith, c .wide .ensures, return-group (accountIn (s .args .meta .now)) (arena-valid (s .pre)) (s .args .group) (s .args .offset) (done c) .0)
+sub-index c = let s = begun c in omega (arith, c .wide .ensures, caller (s .args .group) (Free (s .args .offset)) _ (done c) .0)
 
 slice-relend-prefix-take : tie.Need-slice-relend-prefix-take
 slice-relend-prefix-take c = let a = answered (kept c) in let w = sized a in long-there (start w .pre) _ (w .words-for .ensures) (call (start w)) _ (a .free .ensures .1)

@@ -1,4 +1,5 @@
--- What the figures' steps have in common: the group that called and the others, and that no figure is beyond the largest arena's bytes.
+-- What the figures' steps have in common: the group whose call was not refused, the other groups, and that no figure is beyond the
+-- largest arena's bytes.
 -- Assumes nothing.
 use Prim.Native.Nat.{ℕ, suc, _-_, _≤_, _<_}
 use mathlib.Core.Path.{_≡_}
@@ -6,13 +7,22 @@ use mathlib.Core.Bool.{Bool, true, false, cond}
 use native.Mathlib.Omega.{arith}
 use lib.Dec.{eqb}
 use borrow.Author.Tests.{eq-eqb, ne-eqb}
-use Rattle.model.specs.Numbers.{mostBytes}
+use Rattle.model.specs.Numbers.{mostGroup, mostBytes}
+use Rattle.model.specs.declared.Operation.{Operation}
 use Rattle.model.specs.State.{State}
 use Rattle.model.specs.PageMap.{pageMap}
 use Rattle.model.specs.Holdings.{blocksOf, heldOf}
 use Rattle.model.specs.Valid.{Valid}
+use Rattle.model.specs.Calls.{isRefused}
+use Rattle.model.specs.Perform.{asked}
+use Rattle.model.proofs.Allocated.{group-least, group-most}
+use Rattle.model.proofs.Validity.{asked-group}
 use Rattle.model.proofs.Held.{held-most, blocks-most}
 use Rattle.model.proofs.Figures.{Gains}
+
+-- The group whose call was not refused is one of the groups.
+pub caller : (g : ℕ) (q : Operation) (s : State) → isRefused ((asked g q s) .answer) ≡ false → (0 < g) × (g ≤ mostGroup)
+caller g q s done = let t = asked-group g q s done in (group-least g t, group-most g t)
 
 -- The groups other than g.
 pub other-group : (g i : ℕ) → 0 < g → (i ≡ g - 1 → ⊥) → eqb g (suc i) ≡ false
