@@ -9,7 +9,7 @@ use mathlib.Core.Bool.{Bool, true, false, _&&_}
 use native.Mathlib.Omega.{arith}
 use lib.Dec.{leb, eqb}
 use lib.ListN.{length, getD, take, drop, length-append, length-drop}
-use lib.Seq.{ext-getD, getD-take, getD-drop, take-add, take-at, drop-at, take-all, length-take-le}
+use lib.Seq.{ext-getD, getD-take, take-add, take-at, drop-at, take-all, length-take-le}
 use borrow.Author.Tests.{leb-true, leb-false, le-leb, eqb-true, eq-eqb}
 use Rattle.lemmas.specs.Below.{allBelow}
 use Rattle.lemmas.specs.Parts.{mid}
@@ -18,7 +18,7 @@ use Rattle.lemmas.proofs.Below.{all-at, all-of}
 use Rattle.lemmas.proofs.Cases.{bool, refuted, true-false, and-left, and-right, and-both}
 use Rattle.lemmas.proofs.Every.{every-at, every-of}
 use Rattle.lemmas.proofs.Parts.{length-mid, getD-mid}
-use Rattle.lemmas.proofs.Zeros.{length-zeros, getD-zeros, is-zeros}
+use Rattle.lemmas.proofs.Zeros.{drop-zeros}
 use Rattle.model.specs.Numbers.{pageBytes, mostGroup, figureWords}
 use Rattle.model.specs.declared.Holding.{Holding}
 use Rattle.model.specs.Arena.{total}
@@ -242,8 +242,5 @@ unfolding accountOf
 accountOf-none w t = rw t
 
 -- Zeros of any length encode none.
-drop-zeros : (a n : ℕ) → drop a (zeros n) ≡ zeros (n - a)
-drop-zeros a n = is-zeros (n - a) (drop a (zeros n)) (length-drop a (zeros n) ∙ omega (arith, length-zeros n)) (λ i _. getD-drop a (zeros n) i 0 ∙ getD-zeros n (a + i))
-
 pub zeros-none : (n : ℕ) → isAccount (zeros n) ≡ false
 zeros-none n = refuted _ (λ t. true-false (passed (zeros n) t .0) (ap isState (drop-zeros figureWords n) ∙ state-zeros (n - figureWords)))

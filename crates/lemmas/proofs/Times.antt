@@ -5,13 +5,13 @@ use mathlib.Core.Bool.{cond}
 use mathlib.Core.List.{List, [], _∷_, _++_, List·Memᴰ, List·Memᴰ·head, List·Memᴰ·tail}
 use native.Mathlib.Omega.{arith}
 use lib.Dec.{eqb}
-use lib.ListN.{length}
+use lib.ListN.{length, getD}
 use borrow.Author.Tests.{eq-eqb, ne-eqb}
 use Rattle.lemmas.specs.Every.{count}
 use Rattle.lemmas.specs.Below.{sumBelow}
 use Rattle.lemmas.specs.Times.{times, above}
 use Rattle.lemmas.proofs.Cases.{by-eq, by-lt}
-use Rattle.lemmas.proofs.Every.{count-append}
+use Rattle.lemmas.proofs.Every.{count-append, count-le-length}
 use Rattle.lemmas.proofs.Below.{sum-eq, sum-zero, sum-add, sum-one, sum-tight}
 
 module _ (q : ℕ) where
@@ -32,6 +32,15 @@ module _ (q : ℕ) where
   pub times-append : (a b : List ℕ) → times q (a ++ b) ≡ times q a + times q b
   unfolding times
   times-append a b = count-append (λ x. eqb q x) a b
+
+  pub times-most : (l : List ℕ) → times q l ≤ length l
+  unfolding times
+  times-most l = count-le-length (λ x. eqb q x) l
+
+  -- Among zeros no other number stands.
+  pub times-zeros : (l : List ℕ) → 0 < q → ((i : ℕ) → getD l i 0 ≡ 0) → times q l ≡ 0
+  times-zeros [] p h = times-nil
+  times-zeros (x ∷ l) p h = times-there l (λ e. let z = h 0 in omega arith) ∙ times-zeros l p (λ i. h (suc i))
 
   -- ---- membership
 

@@ -5,7 +5,7 @@ use mathlib.Core.Bool.{true}
 use mathlib.Core.List.{List, _++_}
 use native.Mathlib.Omega.{arith}
 use lib.ListN.{length, drop, getD, set, length-replicate, replicate-append-replicate, length-drop}
-use lib.Seq.{ext-getD, getD-set-other, length-take-le}
+use lib.Seq.{ext-getD, getD-drop, getD-set-other, length-take-le}
 use Rattle.lemmas.specs.Every.{every}
 use Rattle.lemmas.specs.Parts.{mid}
 use Rattle.lemmas.specs.Zeros.{zeros, isZero, Zero}
@@ -32,6 +32,9 @@ zeros-add a b = sym (replicate-append-replicate a b 0)
 -- A list whose every word is zero.
 pub is-zeros : (n : ℕ) (s : List ℕ) → length s ≡ n → ((i : ℕ) → i < n → getD s i 0 ≡ 0) → s ≡ zeros n
 is-zeros n s e h = ext-getD 0 s (zeros n) (e ∙ sym (length-zeros n)) (λ i l. h i (omega arith) ∙ sym (getD-zeros n i))
+
+pub drop-zeros : (a n : ℕ) → drop a (zeros n) ≡ zeros (n - a)
+drop-zeros a n = is-zeros (n - a) (drop a (zeros n)) (length-drop a (zeros n) ∙ omega (arith, length-zeros n)) (λ i _. getD-drop a (zeros n) i 0 ∙ getD-zeros n (a + i))
 
 -- A scan for zeros.
 pub every-zeros : (n : ℕ) → every isZero (zeros n) ≡ true

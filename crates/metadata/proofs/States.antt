@@ -35,7 +35,7 @@ use Rattle.header.proofs.Facts.{zeros-no-header}
 use Rattle.pages.specs.Encoding.{segmentsEncoding, Writable}
 use Rattle.pages.specs.Decoding.{segmentsOf, Holds}
 use Rattle.pages.specs.Legal.{legalSegments}
-use Rattle.pages.proofs.Laws.{length-segments}
+use Rattle.pages.proofs.Laws.{length-segments, all-valid}
 use Rattle.pages.proofs.Decoded.{segments-decoded}
 use Rattle.pages.proofs.AllLegal.{legal-iff}
 use Rattle.metadata.specs.Encoding.{encode, BeginsWith}
@@ -63,11 +63,7 @@ idle-not-full z v t = bool (leb (chunks (z .class)) (touched z))
         returned (zero ∷ r) h g = refl
         returned (suc k ∷ r) h g = absurd (omega arith)
 
--- Segments that have words, and valid ones.
-all-valid : (m : List (Segment Zone)) → Each Writable m → Each ValidSegment m
-all-valid [] h = tt
-all-valid (x ∷ r) h = (h .0 .1, all-valid r (h .1))
-
+-- Valid segments without runs that touch have words.
 pub all-writable : (b : Bool) (m : List (Segment Zone)) → Apart b m → Each ValidSegment m → Each Writable m
 all-writable b [] a h = tt
 all-writable b (run n ∷ r) a h = ((a .1, tt), all-writable true r (a .2) (h .1))

@@ -9,8 +9,7 @@ use lib.Dec.{eqb}
 use lib.ListN.{length}
 use Rattle.lemmas.specs.Times.{times}
 use Rattle.lemmas.proofs.Cases.{either}
-use Rattle.lemmas.proofs.Every.{count-le-length}
-use Rattle.lemmas.proofs.Times.{times-cons, times-there}
+use Rattle.lemmas.proofs.Times.{times-cons, times-there, times-most}
 use Rattle.model.specs.Numbers.{pageBytes, zoneBytes}
 use Rattle.model.specs.Sizes.{room, chunks}
 use Rattle.model.specs.Arena.{Segment, run, direct, zone, bytes, total, retold, Each}
@@ -37,8 +36,7 @@ times-padded g (suc n) (x ∷ l) p h =
 -- ---- a group's live blocks in a segment, and their bytes, fit in it
 
 chunks-most : (g : ℕ) (z : Zone) → times g (occupancy z .groups) ≤ chunks (z .class)
-unfolding times
-chunks-most g z = omega (arith, count-le-length (λ x. eqb g x) (occupancy z .groups), padded-length (chunks (z .class)) (z .owners))
+chunks-most g z = omega (arith, times-most g (occupancy z .groups), padded-length (chunks (z .class)) (z .owners))
 
 pub rooms-most : (c k : ℕ) → k ≤ chunks c → k * room c ≤ zoneBytes
 unfolding chunks

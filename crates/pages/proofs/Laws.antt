@@ -10,6 +10,7 @@ use Rattle.lemmas.proofs.Zeros.{length-zeros}
 use Rattle.model.specs.Numbers.{pageWords, zonePages}
 use Rattle.model.specs.Arena.{Segment, run, direct, zone, pages, total, Each}
 use Rattle.model.specs.Zone.{Zone}
+use Rattle.model.specs.Valid.{ValidSegment}
 use Rattle.model.proofs.Arena.{total-append}
 use Rattle.zone.specs.Encoding.{zoneEncoding, kindZone}
 use Rattle.zone.proofs.Words.{length-encoding}
@@ -68,6 +69,11 @@ pages-most x a b m e = omega (arith, ap (λ l. total l) e, total-append a (x ∷
 -- What stands behind a segment.
 pub drop-segment : (x : Segment Zone) (w : List ℕ) → 0 < pages x → drop (pageWords * pages x) (segmentEncoding x ++ w) ≡ w
 drop-segment x w h = drop-at (segmentEncoding x) w _ (length-segment x h)
+
+-- Segments that have words are valid.
+pub all-valid : (m : List (Segment Zone)) → Each Writable m → Each ValidSegment m
+all-valid [] h = tt
+all-valid (x ∷ r) h = (h .0 .1, all-valid r (h .1))
 
 -- The parts of a sound list.
 pub each-left : (a b : List (Segment Zone)) → Each Writable (a ++ b) → Each Writable a

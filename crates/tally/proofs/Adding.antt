@@ -11,8 +11,7 @@ use borrow.Author.Tests.{eq-eqb, ne-eqb, le-leb, lt-leb}
 use lib.Seq.{getD-set-same, getD-set-other, length-take-le, take-add, take-all}
 use Rattle.lemmas.proofs.Cases.{by-eq, by-lt, either}
 use Rattle.lemmas.specs.Times.{times}
-use Rattle.lemmas.proofs.Every.{count-le-length}
-use Rattle.lemmas.proofs.Times.{times-nil, times-append}
+use Rattle.lemmas.proofs.Times.{times-nil, times-append, times-most}
 use Rattle.model.specs.Numbers.{zoneBytes, largeSize, mostGroup}
 use Rattle.tally.specs.Figures.{stretch, arenas, Added, Within}
 
@@ -62,34 +61,34 @@ added-none n r t long e = record {
 -- ---- one group's blocks, as the code stores them
 
 -- The figure at i with so much more.
-abbrev pub raised : ℕ → ℕ → List ℕ → List ℕ
-raised i n t = set t i (getD t i 0 + n)
+abbrev pub increased : ℕ → ℕ → List ℕ → List ℕ
+increased i n t = set t i (getD t i 0 + n)
 
-at-raised : (i j n : ℕ) (t : List ℕ) → i < length t → j ≡ i → getD (raised i n t) j 0 ≡ getD t j 0 + n
-at-raised i j n t h e = cc (getD-set-same t i (getD t i 0 + n) 0 h)
+at-increased : (i j n : ℕ) (t : List ℕ) → i < length t → j ≡ i → getD (increased i n t) j 0 ≡ getD t j 0 + n
+at-increased i j n t h e = cc (getD-set-same t i (getD t i 0 + n) 0 h)
 
-pub off-raised : (i j n : ℕ) (t : List ℕ) → (j ≡ i → ⊥) → getD (raised i n t) j 0 ≡ getD t j 0
-off-raised i j n t e = getD-set-other t i j _ 0 e
+pub off-increased : (i j n : ℕ) (t : List ℕ) → (j ≡ i → ⊥) → getD (increased i n t) j 0 ≡ getD t j 0
+off-increased i j n t e = getD-set-other t i j _ 0 e
 
 pub blocks-added : (g n r : ℕ) (t : List ℕ) → length t ≡ mostGroup + mostGroup → 0 < g → g ≤ mostGroup
-    → Added (λ x. cond (eqb g x) n 0) r t (raised (mostGroup + (g - 1)) (n * r) (raised (g - 1) n t))
+    → Added (λ x. cond (eqb g x) n 0) r t (increased (mostGroup + (g - 1)) (n * r) (increased (g - 1) n t))
 blocks-added g n r t long p q =
     record { long = simp length-set long; blocks = λ i l. of-blocks i l; held = λ i l. of-held i l }
   where
-    of-blocks : (i : ℕ) → i < mostGroup → getD (raised (mostGroup + (g - 1)) (n * r) (raised (g - 1) n t)) i 0 ≡ getD t i 0 + cond (eqb g (suc i)) n 0
+    of-blocks : (i : ℕ) → i < mostGroup → getD (increased (mostGroup + (g - 1)) (n * r) (increased (g - 1) n t)) i 0 ≡ getD t i 0 + cond (eqb g (suc i)) n 0
     of-blocks i l =
-        off-raised (mostGroup + (g - 1)) i (n * r) (raised (g - 1) n t) (omega arith)
+        off-increased (mostGroup + (g - 1)) i (n * r) (increased (g - 1) n t) (omega arith)
         ∙ by-eq g (suc i)
-        (λ e. rw (eq-eqb g (suc i) e) (at-raised (g - 1) i n t (omega arith) (omega arith)))
-        (λ e. rw (ne-eqb g (suc i) e) (off-raised (g - 1) i n t (omega arith) ∙ omega arith))
+        (λ e. rw (eq-eqb g (suc i) e) (at-increased (g - 1) i n t (omega arith) (omega arith)))
+        (λ e. rw (ne-eqb g (suc i) e) (off-increased (g - 1) i n t (omega arith) ∙ omega arith))
 
-    of-held : (i : ℕ) → i < mostGroup → getD (raised (mostGroup + (g - 1)) (n * r) (raised (g - 1) n t)) (mostGroup + i) 0 ≡ getD t (mostGroup + i) 0 + cond (eqb g (suc i)) n 0 * r
+    of-held : (i : ℕ) → i < mostGroup → getD (increased (mostGroup + (g - 1)) (n * r) (increased (g - 1) n t)) (mostGroup + i) 0 ≡ getD t (mostGroup + i) 0 + cond (eqb g (suc i)) n 0 * r
     of-held i l =
-        let s : getD (raised (g - 1) n t) (mostGroup + i) 0 ≡ getD t (mostGroup + i) 0 = off-raised (g - 1) (mostGroup + i) n t (omega arith) in
-        let k : length (raised (g - 1) n t) ≡ length t = simp length-set in
+        let s : getD (increased (g - 1) n t) (mostGroup + i) 0 ≡ getD t (mostGroup + i) 0 = off-increased (g - 1) (mostGroup + i) n t (omega arith) in
+        let k : length (increased (g - 1) n t) ≡ length t = simp length-set in
         by-eq g (suc i)
-        (λ e. rw (eq-eqb g (suc i) e) (at-raised (mostGroup + (g - 1)) (mostGroup + i) (n * r) (raised (g - 1) n t) (omega arith) (omega arith) ∙ ap (λ x. x + n * r) s))
-        (λ e. rw (ne-eqb g (suc i) e) (off-raised (mostGroup + (g - 1)) (mostGroup + i) (n * r) (raised (g - 1) n t) (omega arith) ∙ s ∙ omega arith))
+        (λ e. rw (eq-eqb g (suc i) e) (at-increased (mostGroup + (g - 1)) (mostGroup + i) (n * r) (increased (g - 1) n t) (omega arith) (omega arith) ∙ ap (λ x. x + n * r) s))
+        (λ e. rw (ne-eqb g (suc i) e) (off-increased (mostGroup + (g - 1)) (mostGroup + i) (n * r) (increased (g - 1) n t) (omega arith) ∙ s ∙ omega arith))
 
 -- ---- group after group
 
@@ -116,10 +115,6 @@ up-all n r k t u h a = added-as a n (λ i l. rw (le-leb (suc i) k (omega arith))
 
 -- ---- a stretch of slots
 
-pub times-length : (g : ℕ) (l : List ℕ) → times g l ≤ length l
-unfolding times
-times-length g l = count-le-length (λ x. eqb g x) l
-
 pub count-most : (n r : ℕ) → n ≤ stretch → r ≤ largeSize → n * r ≤ arenas 2
 count-most n r h k = omega (arith, mul-le-mul-right r h)
 
@@ -130,7 +125,7 @@ stretch-within k r l t u h q w a =
     (λ i b. let c = few (suc i) in (omega arith, count-most _ r c q))
   where
     few : (g : ℕ) → upTo k (λ g. times g l) g ≤ stretch
-    few g = either (λ c. c ≤ stretch) (leb g k) (times g l) 0 (λ e. omega (arith, times-length g l)) (λ e. omega arith)
+    few g = either (λ c. c ≤ stretch) (leb g k) (times g l) 0 (λ e. omega (arith, times-most g l)) (λ e. omega arith)
 
 -- ---- stretch after stretch
 
@@ -160,5 +155,5 @@ module _ (f : ℕ → ℕ) (s : List ℕ) (r : ℕ) where
       added-within a 1 1 2 w (omega arith)
       (λ j b.
       let n : ℕ = chunksIn f (take i s) (suc j) in
-      let m : n ≤ length s = omega (arith, times-length (suc j) (map f (take i s)), length-map (take i s) f, length-take-le i s l) in
+      let m : n ≤ length s = omega (arith, times-most (suc j) (map f (take i s)), length-map (take i s) f, length-take-le i s l) in
       (omega (arith, mul-le-mul-left (length s) p), omega (arith, mul-le-mul-right r m)))

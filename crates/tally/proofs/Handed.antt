@@ -1,21 +1,21 @@
 -- The slots of the chunks of a zone that were handed out, as the code lends them: their groups are the zone's owners, and their rooms fit
 -- in the zone. A zone without a live chunk adds nothing. Assumes nothing.
-use Prim.Native.Nat.{ℕ, zero, suc, _+_, _-_, _*_, _≤_, _<_}
-use mathlib.Core.Path.{_≡_, refl, sym, ap, _∙_, subst}
+use Prim.Native.Nat.{ℕ, suc, _+_, _-_, _*_, _≤_, _<_}
+use mathlib.Core.Path.{_≡_, sym, ap, _∙_, subst}
 use mathlib.Core.Bool.{Bool, true}
-use mathlib.Core.List.{List, [], _∷_, map}
+use mathlib.Core.List.{List, map}
 use native.Mathlib.Omega.{arith}
 use lib.ListN.{length, take, drop}
 use lib.Seq.{take-take}
 use Rattle.lemmas.specs.Parts.{mid}
 use Rattle.lemmas.specs.Times.{times}
-use Rattle.lemmas.proofs.Cases.{true-false}
 use Rattle.lemmas.proofs.Parts.{length-mid}
-use Rattle.lemmas.proofs.Times.{times-nil, times-there}
+use Rattle.lemmas.proofs.Times.{times-zeros}
 use Rattle.model.specs.Numbers.{zoneBytes, largeSize, mostGroup}
 use Rattle.model.specs.Sizes.{room, chunks}
 use Rattle.model.specs.Zone.{touched}
-use Rattle.model.specs.PageMap.{padded, allZero, idleZone}
+use Rattle.model.specs.PageMap.{padded, idleZone}
+use Rattle.model.proofs.Blocks.{allZero-getD}
 use Rattle.model.proofs.Sizes.{room-pos, room-most}
 use Rattle.model.proofs.Held.{times-padded, rooms-most}
 use Rattle.zone.specs.Encoding.{headWords, slotCount}
@@ -64,15 +64,10 @@ module _ (w : List ℕ) (e : isZone w ≡ true) {n : ℕ} (same : n ≡ touched 
 
 -- ---- a zone without a live chunk
 
-times-all-zero : (g : ℕ) → 0 < g → (l : List ℕ) → allZero l ≡ true → times g l ≡ 0
-times-all-zero g p [] e = times-nil g
-times-all-zero g p (zero ∷ l) e = times-there g l (omega arith) ∙ times-all-zero g p l e
-times-all-zero g p (suc x ∷ l) e = true-false e refl
-
 pub idle-added : (w : List ℕ) → isZone w ≡ true → {r : Bool} → r ≡ idleZone (zoneOf w) → r ≡ true → {t : List ℕ} → length t ≡ mostGroup + mostGroup
     → Added (λ g. times g (zoneOf w .owners)) (room (zoneOf w .class)) t t
 idle-added w e same none-live {t} full =
     let z = zoneOf w in
     let k = chunks (z .class) in
     added-none _ _ t full (λ i l.
-    sym (times-padded (suc i) k (z .owners) (omega arith) (zone-valid w e .fits)) ∙ times-all-zero (suc i) (omega arith) (padded k (z .owners)) (sym same ∙ none-live))
+    sym (times-padded (suc i) k (z .owners) (omega arith) (zone-valid w e .fits)) ∙ times-zeros (suc i) (padded k (z .owners)) (omega arith) (allZero-getD (padded k (z .owners)) (sym same ∙ none-live)))

@@ -12,7 +12,6 @@ use Rattle.model.specs.Sizes.{room, chunks}
 use Rattle.model.specs.Arena.{Segment, direct, zone, pages, total, Each}
 use Rattle.model.specs.Zone.{Zone}
 use Rattle.model.specs.PageMap.{shown}
-use Rattle.model.specs.Valid.{ValidSegment}
 use Rattle.model.specs.Holdings.{blocksOf, heldOf}
 use Rattle.model.proofs.Held.{times-padded, held-most, blocks-most}
 use Rattle.zone.specs.Decoding.{isZone, zoneOf}
@@ -20,6 +19,7 @@ use Rattle.zone.proofs.Encoded.{zone-valid}
 use Rattle.pages.specs.Encoding.{kindRun, kindOf, Writable}
 use Rattle.pages.specs.Decoding.{segmentsOf, Holds}
 use Rattle.pages.specs.Places.{runPages, Stands, Passed}
+use Rattle.pages.proofs.Laws.{all-valid}
 use Rattle.pages.proofs.Walk.{Read, read-at, passed-none, passed-more, passed-stands, passed-total}
 use Rattle.pages.proofs.Inverse.{run-by-kind}
 use Rattle.tally.specs.Figures.{Tallied, Added, Adds, Within}
@@ -61,10 +61,6 @@ rest-more x l m h a = record {
 
 rest-none : {t : List ℕ} (m : List (Segment Zone)) → Rest t [] m → Tallied t (shown m)
 rest-none m h = record { long = h .long; blocks = λ i b. let p = h .blocks i b in omega arith; held = λ i b. let p = h .held i b in omega arith }
-
-all-valid : (m : List (Segment Zone)) → Each Writable m → Each ValidSegment m
-all-valid [] h = h
-all-valid (x ∷ m) h = (h .0 .1, all-valid m (h .1))
 
 rest-within : {t : List ℕ} (l m : List (Segment Zone)) → Each Writable m → total m ≤ mostPages → Rest t l m → Within 1 t
 rest-within l m v few h = record {

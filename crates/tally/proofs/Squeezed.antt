@@ -9,12 +9,14 @@ use native.Mathlib.Numerals.{add-one}
 use native.Mathlib.Omega.{arith}
 use lib.Dec.{eqb}
 use lib.ListN.{length, getD, set, take, drop, replicate, length-append, length-drop, length-map}
-use lib.Seq.{length-take-le, take-length, drop-length, take-at, drop-at, take-add, drop-drop}
+use lib.Seq.{getD-drop, length-take-le, take-length, drop-length, take-at, drop-at, take-add, drop-drop}
 use borrow.Author.Tests.{ne-eqb}
 use Rattle.lemmas.specs.Parts.{mid, putMid}
 use Rattle.lemmas.specs.Times.{times}
+use Rattle.lemmas.specs.Zeros.{zeros}
 use Rattle.lemmas.proofs.Cases.{by-lt}
-use Rattle.lemmas.proofs.Times.{times-nil, times-cons, times-there, times-append}
+use Rattle.lemmas.proofs.Times.{times-cons, times-append, times-zeros}
+use Rattle.lemmas.proofs.Zeros.{getD-zeros}
 use Rattle.model.specs.Numbers.{mostGroup}
 use Rattle.zone.specs.Encoding.{positionBase}
 use Rattle.zone.specs.Decoding.{stateIn, ownerIn}
@@ -69,14 +71,9 @@ piece-squeezed s t b c k m all same states bytes =
 
 -- ---- what is counted: zeros behind are no group's, nor are the bytes of chunks that are not live
 
-times-zeros : (g k n : ℕ) → 0 < g → times g (drop k (replicate n 0)) ≡ 0
-times-zeros g zero zero p = times-nil g
-times-zeros g (suc k) zero p = times-nil g
-times-zeros g zero (suc n) p = times-there g (replicate n 0) (omega arith) ∙ times-zeros g zero n p
-times-zeros g (suc k) (suc n) p = times-zeros g k n p
-
 behind : (g : ℕ) (l : List ℕ) (k n : ℕ) → 0 < g → times g (l ++ drop k (replicate n 0)) ≡ times g l
-behind g l k n p = times-append g l _ ∙ (let z = times-zeros g k n p in omega arith)
+unfolding zeros
+behind g l k n p = times-append g l _ ∙ (let z = times-zeros g (drop k (replicate n 0)) p (λ i. getD-drop k (replicate n 0) i 0 ∙ getD-zeros n (k + i)) in omega arith)
 
 module _ (g : ℕ) (p : 0 < g) (q : g ≤ mostGroup) where
   one-byte : (x : ℕ) → eqb g (slotByte x) ≡ eqb g (ownerIn x)

@@ -4,7 +4,7 @@ use Rattle.model.specs.Numbers.{mostGroup}
 use native.Mathlib.Omega.{arith}
 use lib.ListN.{length-set}
 use borrow.Author.Needs.{needs}
-use Rattle.tally.proofs.Adding.{off-raised, blocks-added}
+use Rattle.tally.proofs.Adding.{off-increased, blocks-added}
 use Rattle.tally.proofs.add_blocks.Statement.{statement}
 use Rattle.tally.proofs.add_blocks.Tie as tie
 
@@ -22,7 +22,7 @@ add-figures-3 c =
     let h = c .before .before .pre in
     let at : ℕ = c .before .before .args .group - 1 in
     let b : at < mostGroup = omega arith in
-    rw (off-raised at (mostGroup + at) (c .before .before .args .count) (c .before .before .args .figures .now) (omega arith)) (omega (arith, h .4 .held _ b))
+    rw (off-increased at (mostGroup + at) (c .before .before .args .count) (c .before .before .args .figures .now) (omega arith)) (omega (arith, h .4 .held _ b))
 
 slice-write-figures-2 : tie.Need-slice-write-figures-2
 slice-write-figures-2 c = let h = c .before .before .pre in simp length-set (omega (arith, h .4 .long))
