@@ -182,7 +182,7 @@ fn supply(words: &mut [u32], n: usize, group: u32, size: u32) -> Answer
     ensures { λ r. ⌜ Makes (supplied group size (decode (now (words .entry)))) r (now (words .exit)) ⌝ }
 {
     if size < LARGE_SIZE {
-        return supply_chunk(words, n, zone::sizes::class_of_size(size), group);
+        return supply_chunk(words, n, classes::class_of_size(size), group);
     }
     supply_pages(words, n, group, pages_for(size) as usize)
 }
@@ -195,7 +195,7 @@ pub fn room_for(size: u32) -> u32
     if LARGE_SIZE <= size {
         return pages_for(size) * PAGE_BYTES;
     }
-    zone::sizes::room(zone::sizes::class_of_size(size))
+    zone::sizes::room(classes::class_of_size(size))
 }
 
 // Whether the size may be asked for.

@@ -1,0 +1,62 @@
+// The class of a size (document 02, d): looked up in a table that has one entry for each size rounded up to eight bytes.
+// specs/Table.antt says what the entries are, src/table.rt has them.
+ghost use mathlib.Core.Path.{_≡_};
+ghost use Prim.Native.Nat.{_<_};
+ghost use lib.ListN.{getD};
+ghost use Rattle.model.specs.Numbers.{largeSize};
+ghost use Rattle.model.specs.Sizes.{classOf};
+ghost use Rattle.classes.specs.Table.{entryCount, entryOf, classTable};
+
+pub mod table;
+
+use table::TABLE;
+
+// A quarter of the table.
+const QUARTER: usize = 256;
+
+// The place of a size's entry: the size in eighths, rounded up, less one.
+fn place(size: u32) -> usize
+    requires { ⌜ (0 < size) × (size < largeSize) ⌝ }
+    ensures { λ r. ⌜ (r ≡ entryOf size) × (r < entryCount) ⌝ }
+{
+    ((size + 7) / 8 - 1) as usize
+}
+
+// The entry at a place. A constant is laid out on the stack wherever it is read, but for what the read cannot reach: by quarters it is
+// 256 bytes, and not 1,024.
+fn entry(at: usize) -> u8
+    requires { ⌜ at < entryCount ⌝ }
+    ensures { λ r. ⌜ r ≡ getD classTable at 0 ⌝ }
+{
+    let rest = at % QUARTER;
+    let quarter = at / QUARTER;
+    match quarter {
+        0 => TABLE[rest],
+        1 => TABLE[QUARTER + rest],
+        2 => TABLE[2 * QUARTER + rest],
+        _ => TABLE[3 * QUARTER + rest],
+    }
+}
+
+fn wide(class: u8) -> u32
+    ensures { λ r. ⌜ r ≡ class ⌝ }
+{
+    class as u32
+}
+
+// The class of a size below 8,192.
+pub fn class_of_size(size: u32) -> u32
+    requires { ⌜ (0 < size) × (size < largeSize) ⌝ }
+    ensures { λ r. ⌜ r ≡ classOf size ⌝ }
+{
+    wide(entry(place(size)))
+}
+
+// The same from the whole table, which the caller has made once for many sizes.
+pub fn class_in(table: &[u8], size: u32) -> u32
+    requires { ⌜ now table ≡ classTable ⌝ }
+    requires { ⌜ (0 < size) × (size < largeSize) ⌝ }
+    ensures { λ r. ⌜ r ≡ classOf size ⌝ }
+{
+    wide(table[place(size)])
+}
