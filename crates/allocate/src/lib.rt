@@ -8,6 +8,7 @@ ghost use Rattle.model.specs.Sizes.{pagesFor, roomFor};
 ghost use Rattle.model.specs.Calls.{sizeOk};
 ghost use Rattle.model.specs.Pages.{claim};
 ghost use Rattle.model.specs.Allocate.{sought, wholePages, chunkFrom, supplied, allocate as allocated};
+ghost use Rattle.classes.specs.Table.{classFor};
 ghost use Rattle.pages.specs.declared.Choice.the-variants.{Missed};
 ghost use Rattle.pages.specs.Places.{choice};
 ghost use Rattle.header.specs.declared.Front.the-variants.{Page, Nothing};
@@ -176,26 +177,26 @@ fn pages_for(size: u32) -> u32
 
 // A request of `size` bytes by the group: a chunk below 8,192 bytes, whole pages from there. (The group and the size have been
 // tested.)
-fn supply(words: &mut [u32], n: usize, group: u32, size: u32) -> Answer
+fn supply(words: &mut [u32], n: usize, group: u32, size: u32, class: u32) -> Answer
     requires { ⌜ Good (now words) n ⌝ }
-    requires { ⌜ (0 < group) × (group ≤ mostGroup) × (0 < size) × (size ≤ mostBytes) ⌝ }
+    requires { ⌜ (0 < group) × (group ≤ mostGroup) × (0 < size) × (size ≤ mostBytes) × (class ≡ classFor size) ⌝ }
     ensures { λ r. ⌜ Makes (supplied group size (decode (now (words .entry)))) r (now (words .exit)) ⌝ }
 {
     if size < LARGE_SIZE {
-        return supply_chunk(words, n, classes::class_of_size(size), group);
+        return supply_chunk(words, n, class, group);
     }
     supply_pages(words, n, group, pages_for(size) as usize)
 }
 
-// The bytes that a request of this size is given.
-pub fn room_for(size: u32) -> u32
-    requires { ⌜ (0 < size) × (size ≤ mostBytes) ⌝ }
+// The bytes that a request of this size is given. The class is that of its chunk, if it takes one.
+pub fn room_for(size: u32, class: u32) -> u32
+    requires { ⌜ (0 < size) × (size ≤ mostBytes) × (class ≡ classFor size) ⌝ }
     ensures { λ r. ⌜ r ≡ roomFor size ⌝ }
 {
     if LARGE_SIZE <= size {
         return pages_for(size) * PAGE_BYTES;
     }
-    zone::sizes::room(classes::class_of_size(size))
+    zone::sizes::room(class)
 }
 
 // Whether the size may be asked for.
@@ -208,9 +209,10 @@ fn size_ok(size: u32) -> bool
     size <= MOST_BYTES
 }
 
-// The refusals of a request first, in document 01's order: 4, 5, 6.
-pub fn allocate(words: &mut [u32], n: usize, group: u32, size: u32) -> Answer
-    requires { ⌜ Good (now words) n ⌝ }
+// The refusals of a request first, in document 01's order: 4, 5, 6. The class is that of its chunk, if it takes one: it is looked up
+// once, by the caller, who needs it again for the room.
+pub fn allocate(words: &mut [u32], n: usize, group: u32, size: u32, class: u32) -> Answer
+    requires { ⌜ Good (now words) n × (class ≡ classFor size) ⌝ }
     ensures { λ r. ⌜ Makes (allocated group size (decode (now (words .entry)))) r (now (words .exit)) ⌝ }
 {
     if !model::group_ok(group) {
@@ -219,5 +221,5 @@ pub fn allocate(words: &mut [u32], n: usize, group: u32, size: u32) -> Answer
     if !size_ok(size) {
         return model::denied_by(Refusal::BadSize);
     }
-    supply(words, n, group, size)
+    supply(words, n, group, size, class)
 }

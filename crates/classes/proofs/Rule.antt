@@ -4,12 +4,12 @@ use mathlib.Core.Path.{_≡_, ap, _∙_}
 use native.Mathlib.Omega.{arith}
 use lib.Dec.{ltb}
 use lib.ListN.{length, getD}
-use borrow.Author.Tests.{ltb-true, ltb-false}
+use borrow.Author.Tests.{ltb-true, ltb-false, lt-ltb, le-ltb}
 use Rattle.lemmas.proofs.Cases.{bool, by-lt}
 use Rattle.lemmas.proofs.ListFrom.{length-listFrom, getD-listFrom}
 use Rattle.model.specs.Numbers.{largeSize}
 use Rattle.model.specs.Sizes.{step, rounded, classOf}
-use Rattle.classes.specs.Table.{entryAt, entryCount, classTable, entryOf}
+use Rattle.classes.specs.Table.{entryAt, entryCount, classTable, entryOf, classFor}
 
 -- The class in each row, in which the first size of the next row may stand as well: it has the same class by both.
 record Rows (n c : ℕ) : Type 0 where
@@ -57,3 +57,13 @@ entry-class n p h = getD-listFrom entryAt 0 entryCount (entryOf n) 0 (omega arit
 -- What stands at a place, however the place is told.
 pub same-place : (i j : ℕ) → i ≡ j → getD classTable i 0 ≡ getD classTable j 0
 same-place i j e = ap (λ k. getD classTable k 0) e
+
+-- A request that takes a chunk takes one of its size's class.
+pub class-asked : (n : ℕ) → 0 < n → n < largeSize → classFor n ≡ classOf n
+class-asked n p h = rw (le-ltb n 1 p, lt-ltb n largeSize h)
+
+pub class-none : (n : ℕ) → n < 1 → classFor n ≡ 0
+class-none n h = rw (lt-ltb n 1 h)
+
+pub class-unasked : (n : ℕ) → largeSize ≤ n → classFor n ≡ 0
+class-unasked n h = rw (le-ltb n 1 (omega arith), le-ltb n largeSize h)

@@ -5,10 +5,11 @@ ghost use Prim.Native.Nat.{_<_};
 ghost use lib.ListN.{getD};
 ghost use Rattle.model.specs.Numbers.{largeSize};
 ghost use Rattle.model.specs.Sizes.{classOf};
-ghost use Rattle.classes.specs.Table.{entryCount, entryOf, classTable};
+ghost use Rattle.classes.specs.Table.{entryCount, entryOf, classTable, classFor};
 
 pub mod table;
 
+use model::numbers::LARGE_SIZE;
 use table::TABLE;
 
 // A quarter of the table.
@@ -59,4 +60,17 @@ pub fn class_in(table: &[u8], size: u32) -> u32
     ensures { λ r. ⌜ r ≡ classOf size ⌝ }
 {
     wide(table[place(size)])
+}
+
+// The class of the chunk that a request of this size takes, 0 where it takes none.
+pub fn class_for(size: u32) -> u32
+    ensures { λ r. ⌜ r ≡ classFor size ⌝ }
+{
+    if size < 1 {
+        return 0;
+    }
+    if size < LARGE_SIZE {
+        return class_of_size(size);
+    }
+    0
 }

@@ -124,19 +124,24 @@ pub fn holdings(meta: &mut [u32], list: &mut [Holding]) -> Answer
     unread()
 }
 
-// The group is granted a block of so many bytes.
+// The group is granted a block of so many bytes. The class is looked up once, for the chunk and for its room.
 fn allocate_in(meta: &mut [u32], n: usize, group: u32, size: u32) -> Answer
     requires { ⌜ Arena (now meta) n ⌝ }
     ensures { λ r. ⌜ r ≡ answerOf (now (meta .entry)) (rules.act (rules.group (record { group = group; operation = operation.Allocate size }))) ⌝ }
     ensures { λ _. ⌜ now (meta .exit) ≡ metaAfter (now (meta .entry)) (rules.act (rules.group (record { group = group; operation = operation.Allocate size }))) ⌝ }
 {
     let e = account::words_for(n);
-    let answer = allocate::allocate(&mut meta[FIGURE_WORDS..e], n, group, size);
+    let class = classes::class_for(size);
+    let answer = allocate::allocate(&mut meta[FIGURE_WORDS..e], n, group, size, class);
     if model::is_refused(answer) {
         return answer;
     }
     let index = model::wide(group) - 1;
-    figures::steps::add(&mut meta[..FIGURE_WORDS], index, allocate::room_for(size));
+    figures::steps::add(
+        &mut meta[..FIGURE_WORDS],
+        index,
+        allocate::room_for(size, class),
+    );
     answer
 }
 

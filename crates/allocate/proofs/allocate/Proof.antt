@@ -26,7 +26,7 @@ returns c =
     let t : tie.Then1 = c .before in
     let g : tie.After-group-ok = t .before in
     let a = start g .args in
-    made (bad-group (decode (a .words .now)) (a .group) (a .size) (sym (g .group-ok .ensures) ∙ not-true _ (t .if1 .taken))) (c .denied-by .ensures, start g .pre .lent .words)
+    made (bad-group (decode (a .words .now)) (a .group) (a .size) (sym (g .group-ok .ensures) ∙ not-true _ (t .if1 .taken))) (c .denied-by .ensures, start g .pre .0 .lent .words)
 
 returns-2 : tie.Need-returns-2
 returns-2 c =
@@ -36,7 +36,7 @@ returns-2 c =
     let s = start g in
     let a = s .args in
     made (bad-size (decode (a .words .now)) (a .group) (a .size) (sym (g .group-ok .ensures) ∙ not-false _ (e .if1 .left)) (sym (t .before .size-ok .ensures) ∙ not-true _ (t .if2 .taken)))
-    (c .denied-by2 .ensures, s .pre .lent .words)
+    (c .denied-by2 .ensures, s .pre .0 .lent .words)
 
 supply-requires : tie.Need-supply-requires
 supply-requires c κs =
@@ -47,7 +47,7 @@ supply-requires c κs =
     let a = s₁ .args in
     let t = sym (g .group-ok .ensures) ∙ not-false _ (e .if1 .left) in
     let u = sym (s .size-ok .ensures) ∙ not-false _ (c .before .if2 .left) in
-    (s₁ .pre, (group-least (a .group) t, group-most (a .group) t, size-least (a .size) u, size-most (a .size) u))
+    (s₁ .pre .0, (group-least (a .group) t, group-most (a .group) t, size-least (a .size) u, size-most (a .size) u, s₁ .pre .1))
 
 returns-3 : tie.Need-returns-3
 returns-3 c =

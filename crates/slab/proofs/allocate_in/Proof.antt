@@ -24,8 +24,11 @@ use Rattle.slab.proofs.allocate_in.Tie as tie
 abbrev start : tie.After-words-for → tie.Start
 start c = c .before .before
 
+abbrev looked-up : tie.After-allocate → tie.After-class-for
+looked-up c = c .before .before
+
 abbrev sized : tie.After-allocate → tie.After-words-for
-sized c = c .before .before
+sized c = looked-up c .before
 
 abbrev answered : tie.After-is-refused → tie.After-allocate
 answered c = c .before .before .before
@@ -57,10 +60,10 @@ words-for-requires : tie.Need-words-for-requires
 words-for-requires c κs = arena-few (c .before .pre)
 
 part-allocate-end : tie.Need-part-allocate-end
-part-allocate-end c = arena-inside (start c .pre) _ (c .words-for .ensures)
+part-allocate-end c = let w = c .before in arena-inside (start w .pre) _ (w .words-for .ensures)
 
 allocate-requires : tie.Need-allocate-requires
-allocate-requires c κs = let w = c .before in arena-good (start w .pre) _ (w .words-for .ensures)
+allocate-requires c κs = let k : tie.After-class-for = c .before in let w = k .before in (arena-good (start w .pre) _ (w .words-for .ensures), k .class-for .ensures)
 
 returns : tie.Need-returns
 returns c =
@@ -82,7 +85,10 @@ slice-aggregate-add : tie.Need-slice-aggregate-add
 slice-aggregate-add c = sym (ap length (lent (c .before)) ∙ length-figures (holdingOf (accountIn (begun (c .before) .args .meta .now))))
 
 room-for-requires : tie.Need-room-for-requires
-room-for-requires c κs = let s = begun (c .before) in grant-size (accountIn (s .args .meta .now)) (arena-valid (s .pre)) (s .args .group) (s .args .size) (done (c .before))
+room-for-requires c κs =
+    let i = c .before in
+    let s = begun i in
+    let z = grant-size (accountIn (s .args .meta .now)) (arena-valid (s .pre)) (s .args .group) (s .args .size) (done i) in (z .0, z .1, looked-up (answered (kept i)) .class-for .ensures)
 
 add-requires : tie.Need-add-requires
 add-requires c κs =
@@ -109,6 +115,7 @@ allocate-in-spec =
     tie.close
     (tie.spec
     words-for-requires
+    (λ c κs. search needs)
     (λ c. search needs)
     (λ c. search needs)
     part-allocate-end
