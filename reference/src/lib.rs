@@ -1,4 +1,4 @@
-//! The allocator of document 01 with document 02's requests a) to c) a second
+//! The allocator of document 01 with document 02's requests a) to d) a second
 //! time, on abstract states.
 //!
 //! No 32-bit words stand here: of the books only their number of words is
@@ -23,6 +23,7 @@ pub mod bench;
 pub mod blocks;
 pub mod calls;
 pub mod cases;
+pub mod entries;
 pub mod histories;
 pub mod holdings;
 pub mod lines;

@@ -9,13 +9,15 @@
 //!     cargo test --offline --locked -p tests --test damage       damaged words: check and calls
 //!     cargo test --offline --locked -p tests --test arbitrary    words that never were a state
 //!     cargo test --offline --locked -p tests --test program      the bench program through pipes
+//!     cargo test --offline --locked -p tests --test classes      the class of every size
 //!
-//! The check is linked from the static library of the crate `measure`, the calls from that of the
+//! The check and the classes are linked from the static library of the crate `measure`, the calls from that of the
 //! crate `capi`, and the program is that of the crate `bench`. The build has `rt` write all three
 //! whenever a crate has changed.
 
 pub mod calls;
 pub mod check;
+pub mod classes;
 pub mod counts;
 pub mod layout;
 pub mod pair;

@@ -1,5 +1,5 @@
 // The class of a size (document 02, d): looked up in a table that has one entry for each size rounded up to eight bytes.
-// specs/Table.antt says what the entries are, src/table.rt has them.
+// specs/Table.antt says what the entries are, src/entries.rt has them.
 ghost use mathlib.Core.Path.{_≡_};
 ghost use Prim.Native.Nat.{_<_};
 ghost use lib.ListN.{getD};
@@ -7,13 +7,14 @@ ghost use Rattle.model.specs.Numbers.{largeSize};
 ghost use Rattle.model.specs.Sizes.{classOf};
 ghost use Rattle.classes.specs.Table.{entryCount, entryOf, classTable, classFor};
 
-pub mod table;
+mod entries;
 
+use entries::TABLE;
 use model::numbers::LARGE_SIZE;
-use table::TABLE;
 
-// A quarter of the table.
-const QUARTER: usize = 256;
+const ENTRY_COUNT: usize = 1024;
+
+const QUARTER: usize = ENTRY_COUNT / 4;
 
 // The place of a size's entry: the size in eighths, rounded up, less one.
 fn place(size: u32) -> usize
@@ -23,8 +24,8 @@ fn place(size: u32) -> usize
     ((size + 7) / 8 - 1) as usize
 }
 
-// The entry at a place. A constant is laid out on the stack wherever it is read, but for what the read cannot reach: by quarters it is
-// 256 bytes, and not 1,024.
+// The entry at a place. The compiler lays a constant out on the stack where it is read, but for what the read cannot reach: read by
+// quarters, that is 256 bytes and not all of the table.
 fn entry(at: usize) -> u8
     requires { ⌜ at < entryCount ⌝ }
     ensures { λ r. ⌜ r ≡ getD classTable at 0 ⌝ }
@@ -53,7 +54,14 @@ pub fn class_of_size(size: u32) -> u32
     wide(entry(place(size)))
 }
 
-// The same from the whole table, which the caller has made once for many sizes.
+// The whole table, for a caller who has many sizes to look up.
+pub fn table() -> [u8; ENTRY_COUNT]
+    ensures { λ r. ⌜ r ≡ classTable ⌝ }
+{
+    TABLE
+}
+
+// The class of a size below 8,192, by the table that the caller has.
 pub fn class_in(table: &[u8], size: u32) -> u32
     requires { ⌜ now table ≡ classTable ⌝ }
     requires { ⌜ (0 < size) × (size < largeSize) ⌝ }
