@@ -9,12 +9,12 @@ ghost use Rattle.classes.specs.Table.{entryCount, entryOf, classTable, c
 
 mod entries;
 
+use entries::ENTRY_COUNT;
 use entries::TABLE;
 use model::numbers::LARGE_SIZE;
 
-const ENTRY_COUNT: usize = 1024;
-
-const QUARTER: usize = ENTRY_COUNT / 4;
+// A quarter of the table's entries.
+const QUARTER: usize = 256;
 
 // The place of a size's entry: the size in eighths, rounded up, less one.
 fn place(size: u32) -> usize
