@@ -59,11 +59,11 @@ pub same-place : (i j : ℕ) → i ≡ j → getD classTable i 0 ≡ getD classT
 same-place i j e = ap (λ k. getD classTable k 0) e
 
 -- A request that takes a chunk takes one of its size's class.
-pub class-asked : (n : ℕ) → 0 < n → n < largeSize → classFor n ≡ classOf n
-class-asked n p h = rw (le-ltb n 1 p, lt-ltb n largeSize h)
+pub classFor-chunk : (n : ℕ) → 0 < n → n < largeSize → classFor n ≡ classOf n
+classFor-chunk n p h = rw (le-ltb n 1 p, lt-ltb n largeSize h)
 
-pub class-none : (n : ℕ) → n < 1 → classFor n ≡ 0
-class-none n h = rw (lt-ltb n 1 h)
+pub classFor-none : (n : ℕ) → n < 1 → classFor n ≡ 0
+classFor-none n h = rw (lt-ltb n 1 h)
 
-pub class-unasked : (n : ℕ) → largeSize ≤ n → classFor n ≡ 0
-class-unasked n h = rw (le-ltb n 1 (omega arith), le-ltb n largeSize h)
+pub classFor-pages : (n : ℕ) → largeSize ≤ n → classFor n ≡ 0
+classFor-pages n h = rw (le-ltb n 1 (omega arith), le-ltb n largeSize h)

@@ -1,7 +1,7 @@
 -- `room_for` meets its contract. Assumes nothing.
 use native.Mathlib.Omega.{arith}
 use mathlib.Core.Path.{_≡_, _∙_, ap}
-use Rattle.classes.proofs.Rule.{class-asked}
+use Rattle.classes.proofs.Rule.{classFor-chunk}
 use Rattle.model.specs.Sizes.{classOf, room}
 use Rattle.model.proofs.Sizes.{classed}
 use Rattle.allocate.proofs.Requests.{small-room, large-room}
@@ -14,7 +14,7 @@ returns c = let t : tie.Then1 = c .before in large-room (t .before .args .size) 
 
 -- The class is that of the size, where a chunk is taken.
 of-class : (e : tie.Else1) → e .before .args .class ≡ classOf (e .before .args .size)
-of-class e = let h = e .before .pre in h .2 ∙ class-asked _ (h .0) (e .if1 .left)
+of-class e = let h = e .before .pre in h .2 ∙ classFor-chunk _ (h .0) (e .if1 .left)
 
 room-requires : tie.Need-room-requires
 room-requires c κs = let h = c .before .pre in omega (arith, of-class c, classed (c .before .args .size) (h .0) (c .if1 .left) .below)

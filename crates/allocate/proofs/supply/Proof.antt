@@ -1,7 +1,7 @@
 -- `supply` meets its contract. Assumes nothing.
 use mathlib.Core.Path.{_≡_, _∙_}
 use Rattle.model.specs.Sizes.{classOf}
-use Rattle.classes.proofs.Rule.{class-asked}
+use Rattle.classes.proofs.Rule.{classFor-chunk}
 use Rattle.metadata.specs.Decoding.{decode}
 use Rattle.allocate.proofs.Requests.{made, small, large}
 use Rattle.model.proofs.Sizes.{classed}
@@ -19,7 +19,7 @@ start-before-else1 c = c .before .before
 
 -- The class is that of the size, where a chunk is taken.
 of-class : (t : tie.Then1) → start t .args .class ≡ classOf (start t .args .size)
-of-class t = let h = start t .pre in h .1 .4 ∙ class-asked _ (h .1 .2) (t .if1 .taken)
+of-class t = let h = start t .pre in h .1 .4 ∙ classFor-chunk _ (h .1 .2) (t .if1 .taken)
 
 supply-chunk-requires : tie.Need-supply-chunk-requires
 supply-chunk-requires c κs =
