@@ -11,17 +11,17 @@ use Rattle.model.specs.Numbers.{largeSize}
 use Rattle.model.specs.Sizes.{step, rounded, classOf}
 use Rattle.classes.specs.Table.{entryAt, entryCount, classTable, entryOf, classFor}
 
--- The class in each row, in which the first size of the next row may stand as well: it has the same class by both.
-record Rows (n c : ℕ) : Type 0 where
-  by8 : n ≤ 128 → c ≡ (n + 7) / 8 - 1
-  by16 : 128 ≤ n → n ≤ 256 → c ≡ (n + 15) / 16 + 7
-  by32 : 256 ≤ n → n ≤ 512 → c ≡ (n + 31) / 32 + 15
-  by64 : 512 ≤ n → n ≤ 1024 → c ≡ (n + 63) / 64 + 23
-  by128 : 1024 ≤ n → n ≤ 2048 → c ≡ (n + 127) / 128 + 31
-  by256 : 2048 ≤ n → n ≤ 4096 → c ≡ (n + 255) / 256 + 39
-  by512 : 4096 ≤ n → c ≡ (n + 511) / 512 + 47
+-- The class in each row of document 01's table, in which the first size of the next row may stand as well: it has the same class by both.
+pub record Rows (n c : ℕ) : Type 0 where
+  pub by8 : n ≤ 128 → c ≡ (n + 7) / 8 - 1
+  pub by16 : 128 ≤ n → n ≤ 256 → c ≡ (n + 15) / 16 + 7
+  pub by32 : 256 ≤ n → n ≤ 512 → c ≡ (n + 31) / 32 + 15
+  pub by64 : 512 ≤ n → n ≤ 1024 → c ≡ (n + 63) / 64 + 23
+  pub by128 : 1024 ≤ n → n ≤ 2048 → c ≡ (n + 127) / 128 + 31
+  pub by256 : 2048 ≤ n → n ≤ 4096 → c ≡ (n + 255) / 256 + 39
+  pub by512 : 4096 ≤ n → c ≡ (n + 511) / 512 + 47
 
-rows : (n : ℕ) → 0 < n → n ≤ largeSize → Rows n (classOf n)
+pub rows : (n : ℕ) → 0 < n → n ≤ largeSize → Rows n (classOf n)
 unfolding classOf rounded step
 rows n p h =
     bool (ltb n 128) (λ t. rw t (omega (arith, ltb-true))) λ t.

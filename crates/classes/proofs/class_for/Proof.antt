@@ -1,7 +1,6 @@
 -- `class_for` meets its contract. Assumes nothing.
 use mathlib.Core.Path.{sym, _∙_}
 use borrow.Author.Needs.{needs}
-use borrow.Author.Tests.{lt-ltb}
 use Rattle.classes.proofs.Rule.{classFor-none, classFor-chunk, classFor-pages}
 use Rattle.classes.proofs.class_for.Statement.{statement}
 use Rattle.classes.proofs.class_for.Tie as tie

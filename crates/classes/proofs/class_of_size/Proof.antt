@@ -1,5 +1,4 @@
 -- `class_of_size` meets its contract: a size's entry is its class. Assumes nothing.
-use Prim.Native.Nat.{ℕ}
 use mathlib.Core.Path.{ap, _∙_}
 use lib.ListN.{getD}
 use borrow.Author.Needs.{needs}

@@ -1,47 +1,35 @@
 -- `rows::class_of_size` meets its contract: each return is a row of the table of sizes. Assumes nothing.
+use mathlib.Core.Path.{sym}
 use native.Mathlib.Omega.{arith}
-use borrow.Author.Tests.{lt-ltb, le-ltb}
-use Rattle.model.specs.Sizes.{classOf, rounded, step}
+use Rattle.classes.proofs.Rule.{Rows, rows}
+use Rattle.model.specs.Sizes.{classOf}
 use Rattle.measure.proofs.rows.class_of_size.Statement.{statement}
 use Rattle.measure.proofs.rows.class_of_size.Tie as tie
 
+-- The class in each row, of the size at hand.
+by-rows : (s : tie.Start) → Rows (s .args .size) (classOf (s .args .size))
+by-rows s = rows (s .args .size) (s .pre .0) (omega arith)
+
 returns : tie.Need-returns
-unfolding classOf rounded step
-returns c = simp (lt-ltb (c .before .args .size) 128 (omega arith)) (omega arith)
+returns c = sym (by-rows (c .before) .by8 (omega arith))
 
 returns-2 : tie.Need-returns-2
-unfolding classOf rounded step
-returns-2 c = simp (le-ltb (c .before .before .args .size) 128 (omega arith), lt-ltb (c .before .before .args .size) 256 (omega arith)) (omega arith)
+returns-2 c = sym (by-rows (c .before .before) .by16 (omega arith) (omega arith))
 
 returns-3 : tie.Need-returns-3
-unfolding classOf rounded step
-returns-3 c =
-    let s = c .before .before .before in
-    simp (le-ltb (s .args .size) 128 (omega arith), le-ltb (s .args .size) 256 (omega arith), lt-ltb (s .args .size) 512 (omega arith)) (omega arith)
+returns-3 c = sym (by-rows (c .before .before .before) .by32 (omega arith) (omega arith))
 
 returns-4 : tie.Need-returns-4
-unfolding classOf rounded step
-returns-4 c =
-    let s = c .before .before .before .before in
-    simp (le-ltb (s .args .size) 128 (omega arith), le-ltb (s .args .size) 256 (omega arith), le-ltb (s .args .size) 512 (omega arith), lt-ltb (s .args .size) 1024 (omega arith)) (omega arith)
+returns-4 c = sym (by-rows (c .before .before .before .before) .by64 (omega arith) (omega arith))
 
 returns-5 : tie.Need-returns-5
-unfolding classOf rounded step
-returns-5 c =
-    let s = c .before .before .before .before .before in
-    simp (le-ltb (s .args .size) 128 (omega arith), le-ltb (s .args .size) 256 (omega arith), le-ltb (s .args .size) 512 (omega arith), le-ltb (s .args .size) 1024 (omega arith), lt-ltb (s .args .size) 2048 (omega arith)) (omega arith)
+returns-5 c = sym (by-rows (c .before .before .before .before .before) .by128 (omega arith) (omega arith))
 
 returns-6 : tie.Need-returns-6
-unfolding classOf rounded step
-returns-6 c =
-    let s = c .before .before .before .before .before .before in
-    simp (le-ltb (s .args .size) 128 (omega arith), le-ltb (s .args .size) 256 (omega arith), le-ltb (s .args .size) 512 (omega arith), le-ltb (s .args .size) 1024 (omega arith), le-ltb (s .args .size) 2048 (omega arith), lt-ltb (s .args .size) 4096 (omega arith)) (omega arith)
+returns-6 c = sym (by-rows (c .before .before .before .before .before .before) .by256 (omega arith) (omega arith))
 
 returns-7 : tie.Need-returns-7
-unfolding classOf rounded step
-returns-7 c =
-    let s = c .before .before .before .before .before .before in
-    simp (le-ltb (s .args .size) 128 (omega arith), le-ltb (s .args .size) 256 (omega arith), le-ltb (s .args .size) 512 (omega arith), le-ltb (s .args .size) 1024 (omega arith), le-ltb (s .args .size) 2048 (omega arith), le-ltb (s .args .size) 4096 (omega arith)) (omega arith)
+returns-7 c = sym (by-rows (c .before .before .before .before .before .before) .by512 (omega arith))
 
 pub class-of-size-spec : {M : Type 1} → statement M
 class-of-size-spec =
