@@ -1,5 +1,6 @@
-// The class numbers by eighths of size, in hexadecimal: the entry at i is the class of the sizes 8 * i + 1 to 8 * i + 8. A line has 32 of
-// them, for 256 bytes of size. The second program makes this file by document 01's table of sizes, and a test of its makes it again:
+// The class numbers by eighths of size, in hexadecimal: the entry at i is the class of the sizes 8 * i + 1 to 8 * i + 8 (but for 8,192,
+// which takes pages). A line has 32 of them, for 256 bytes of size. The second program makes this file by document 01's table of sizes,
+// and a test of its makes it again:
 //     cargo run --offline --locked -p reference --bin entries >crates/classes/src/entries.rt
 pub const ENTRY_COUNT: usize = 1024;
 

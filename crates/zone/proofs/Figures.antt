@@ -54,6 +54,9 @@ module _ (w : List ℕ) (e : isZone w ≡ true) where
   unfolding z
   touched-read = h .handed
 
+  pub touched-few : touchedIn w ≤ slotCount
+  touched-few = rw (h .handed) (touched-most z v)
+
   counts : chainedIn w + liveChunks z ≡ touchedIn w
   counts = rw (h .chained, h .handed) (chain-live z v)
 

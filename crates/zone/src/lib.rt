@@ -87,7 +87,7 @@ pub fn grant(part: &mut [u32], group: u32) -> u32
 {
     let class = part[AT_CLASS];
     let touched = part[AT_TOUCHED];
-    if touched < sizes::chunk_count(class) {
+    if sizes::has_chunk(class, touched) {
         stores::hand_out(part, touched, group);
         return touched;
     }
@@ -156,7 +156,7 @@ pub fn is_full(part: &[u32]) -> bool
     ensures { λ r. ⌜ r ≡ full (zoneOf (now (part .entry))) ⌝ }
 {
     let class = part[AT_CLASS];
-    if part[AT_TOUCHED] < sizes::chunk_count(class) {
+    if sizes::has_chunk(class, part[AT_TOUCHED]) {
         return false;
     }
     part[AT_CHAINED] == 0
