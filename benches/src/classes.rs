@@ -11,6 +11,8 @@ mod bars;
 mod timing;
 
 use bars::remark;
+use reference::histories::Xorshift;
+use reference::sizes::DIRECT_FROM;
 use std::process::ExitCode;
 use tests::classes::{by_rows, by_shared_table, by_table};
 use timing::{lower, Function};
@@ -22,7 +24,7 @@ const SIZES: u32 = 1 << 18;
 /// How often all orders are gone through.
 const PASSES: u32 = 3;
 /// Sizes that take a chunk are 1 to this.
-const LARGEST: u32 = 8_191;
+const LARGEST: u32 = DIRECT_FROM - 1;
 
 const FUNCTIONS: [Function; 3] = [by_rows, by_table, by_shared_table];
 
@@ -33,59 +35,70 @@ struct Measured {
     nanoseconds: [f64; 3],
 }
 
-/// Pseudo-random numbers (xorshift).
-fn numbers() -> impl Iterator<Item = u32> {
-    let mut state = 2_463_534_242_u32;
-    std::iter::repeat_with(move || {
-        state ^= state << 13;
-        state ^= state >> 17;
-        state ^= state << 5;
-        state
-    })
-}
-
 /// The number of a size: the one before it.
 fn number_of(size: u32) -> u32 {
     assert!((1..=LARGEST).contains(&size), "{size}");
     size - 1
 }
 
-/// A size of which each number of bits is as likely: small sizes come as often as large ones do.
-fn of_any_length(number: u32) -> u32 {
-    let bits = number % 13;
-    let least = 1 << bits;
-    let size = least + (number / 13) % least;
-    size.min(LARGEST)
+/// A size up to the largest, each as likely as another.
+fn any(random: &mut Xorshift) -> u32 {
+    1 + random.below(LARGEST)
 }
 
-fn measured() -> Vec<Measured> {
-    let one = |order, sizes: &mut dyn Iterator<Item = u32>| Measured {
-        order,
-        numbers: sizes.take(SIZES as usize).map(number_of).collect(),
-        nanoseconds: [f64::INFINITY; 3],
-    };
-    vec![
-        one("one size, 100", &mut std::iter::repeat(100)),
-        one("all in order", &mut (1..=LARGEST).cycle()),
-        one(
-            "in no order",
-            &mut numbers().map(|number| 1 + number % LARGEST),
-        ),
-        one(
-            "in no order, small and large alike",
-            &mut numbers().map(of_any_length),
-        ),
-        one(
-            "in no order, up to 1,023",
-            &mut numbers().map(|number| 1 + number % 1_023),
-        ),
-    ]
+/// A size of which each number of bits is as likely: small sizes come as often as large ones do.
+fn of_any_length(random: &mut Xorshift) -> u32 {
+    let least = 1 << random.below(13);
+    least + random.below(least)
+}
+
+/// A size below 1,024.
+fn small(random: &mut Xorshift) -> u32 {
+    1 + random.below(1_023)
+}
+
+impl Measured {
+    fn new(order: &'static str, sizes: impl Iterator<Item = u32>) -> Measured {
+        Measured {
+            order,
+            numbers: sizes.take(SIZES as usize).map(number_of).collect(),
+            nanoseconds: [f64::INFINITY; 3],
+        }
+    }
+
+    /// In no order: each size is drawn by itself.
+    fn drawn(order: &'static str, size: fn(&mut Xorshift) -> u32) -> Measured {
+        let mut random = Xorshift::new(1);
+        Measured::new(order, std::iter::repeat_with(move || size(&mut random)))
+    }
+
+    fn ratio(&self) -> f64 {
+        let [rows, _, shared] = self.nanoseconds;
+        shared / rows
+    }
+
+    fn is_met(&self) -> bool {
+        self.ratio() <= BAR
+    }
+
+    fn print(&self) {
+        let [rows, table, shared] = self.nanoseconds.map(|time| time / f64::from(SIZES));
+        let (order, ratio) = (self.order, self.ratio());
+        let remark = remark(self.is_met(), BAR);
+        println!("{order:<36}{rows:>10.2}{table:>10.2}{shared:>10.2}{ratio:>8.2}  {remark}");
+    }
 }
 
 fn main() -> ExitCode {
-    let mut all = measured();
+    let mut measured = [
+        Measured::new("one size, 100", std::iter::repeat(100)),
+        Measured::new("all in order", (1..=LARGEST).cycle()),
+        Measured::drawn("in no order", any),
+        Measured::drawn("in no order, small and large alike", of_any_length),
+        Measured::drawn("in no order, up to 1,023", small),
+    ];
     for _ in 0..PASSES {
-        for one in &mut all {
+        for one in &mut measured {
             lower(&mut one.nanoseconds, &FUNCTIONS, &mut one.numbers);
         }
     }
@@ -93,21 +106,7 @@ fn main() -> ExitCode {
         "{:<36}{:>10}{:>10}{:>10}{:>8}",
         "sizes, ns each", "rows", "table", "shared", "ratio"
     );
-    let met = all.iter().filter(|one| !one.print()).count() == 0;
-    ExitCode::from(u8::from(!met))
-}
-
-impl Measured {
-    /// Prints a line, and says whether the bar is met.
-    fn print(&self) -> bool {
-        let [rows, table, shared] = self.nanoseconds.map(|time| time / f64::from(SIZES));
-        let ratio = shared / rows;
-        let met = ratio <= BAR;
-        println!(
-            "{:<36}{rows:>10.2}{table:>10.2}{shared:>10.2}{ratio:>8.2}  {}",
-            self.order,
-            remark(met, BAR)
-        );
-        met
-    }
+    measured.iter().for_each(Measured::print);
+    let missed = measured.iter().any(|one| !one.is_met());
+    ExitCode::from(u8::from(missed))
 }
