@@ -1,11 +1,13 @@
 //! Document 01's "Calls" and "Numbers for no", with the count that document
-//! 02's request b) adds to a request's answer and the call that its request c)
-//! adds: what each call answers, in the order in which the refusals are tested.
+//! 02's request b) adds to a request's answer and the calls that its requests
+//! c) and e) add: what each call answers, in the order in which the refusals
+//! are tested.
 
+use crate::ceilings::MAX_CEILING;
 use crate::holdings::Holdings;
 use crate::listing;
 use crate::pages::Taken;
-use crate::sizes::{words_needed, GROUPS, MAX_PAGES, MAX_SIZE};
+use crate::sizes::{need, words_needed, GROUPS, MAX_PAGES, MAX_SIZE};
 use crate::state::{Group, State};
 use crate::validity::is_valid;
 
@@ -20,7 +22,7 @@ pub enum Refusal {
     NoLegalState,
     /// The group is not 1 to 12.
     Group,
-    /// The size is 0 or above 1,048,576.
+    /// The size is 0 or above 1,048,576, or the ceiling is above 1,048,576.
     Size,
     /// Pages are needed and no free run has enough, even after a tidy.
     NoRun,
@@ -30,12 +32,14 @@ pub enum Refusal {
     OtherGroup,
     /// The lent list is not twelve records long.
     ListLength,
+    /// With the new block the group would hold more than its ceiling.
+    OverCeiling,
     /// The lent byte buffer is shorter than the listing.
     ShortBuffer,
 }
 
 impl Refusal {
-    pub const ALL: [Refusal; 10] = [
+    pub const ALL: [Refusal; 11] = [
         Refusal::PageCount,
         Refusal::TooFewWords,
         Refusal::NoLegalState,
@@ -45,6 +49,7 @@ impl Refusal {
         Refusal::NoBlock,
         Refusal::OtherGroup,
         Refusal::ListLength,
+        Refusal::OverCeiling,
         Refusal::ShortBuffer,
     ];
 
@@ -60,6 +65,7 @@ impl Refusal {
             Refusal::NoBlock => 7,
             Refusal::OtherGroup => 8,
             Refusal::ListLength => 9,
+            Refusal::OverCeiling => 10,
             Refusal::ShortBuffer => 12,
         }
     }
@@ -76,6 +82,7 @@ pub enum Call {
     Query { offset: u32 },
     Listing { capacity: usize },
     Holdings { records: usize },
+    SetCeiling { group: u32, bytes: u32 },
 }
 
 /// What a call answers.
@@ -188,8 +195,8 @@ impl Allocator {
         Ok(())
     }
 
-    /// Request: answers the granted block's offset. What is refused by 3, 4 or
-    /// 5 is refused before any search, so it has looked at no run.
+    /// Request: answers the granted block's offset. What is refused by 3, 4, 5
+    /// or 10 is refused before any search, so it has looked at no run.
     pub fn allocate(&mut self, group: u32, size: u32) -> Requested {
         match self.legal_request(group, size) {
             Ok((state, group)) => {
@@ -261,6 +268,18 @@ impl Allocator {
         Ok(holdings)
     }
 
+    /// Setting: the group's ceiling from now on. It takes nothing away from a
+    /// group that holds more.
+    pub fn set_ceiling(&mut self, group: u32, bytes: u32) -> Result<(), Refusal> {
+        let state = self.legal_state_mut()?;
+        let group = legal_group(group)?;
+        if bytes > MAX_CEILING {
+            return Err(Refusal::Size);
+        }
+        state.set_ceiling(group, bytes);
+        Ok(())
+    }
+
     /// Serves a call of any kind.
     pub fn serve(&mut self, call: Call) -> Answer {
         let answer = match call {
@@ -274,16 +293,23 @@ impl Allocator {
                 .map(|(group, room)| Answer::Held { group, room }),
             Call::Listing { capacity } => self.listing(capacity).map(Answer::Listed),
             Call::Holdings { records } => self.holdings(records).map(Answer::Fetched),
+            Call::SetCeiling { group, bytes } => {
+                self.set_ceiling(group, bytes).map(|()| Answer::Done)
+            }
         };
         answer.unwrap_or_else(Answer::Refused)
     }
 
-    /// Refusals 3, 4 and 5 of a request; the state and the group if none is due.
+    /// Refusals 3, 4, 5 and 10 of a request; the state and the group if none is
+    /// due.
     fn legal_request(&mut self, group: u32, size: u32) -> Result<(&mut State, Group), Refusal> {
         let state = self.legal_state_mut()?;
         let group = legal_group(group)?;
         if size == 0 || size > MAX_SIZE {
             return Err(Refusal::Size);
+        }
+        if state.would_pass_ceiling(group, need(size).room()) {
+            return Err(Refusal::OverCeiling);
         }
         Ok((state, group))
     }

@@ -15,9 +15,13 @@ const RECORD: &str = "holding ";
 /// What asks for the holdings in a list of so many records.
 const LIST: &str = "holdings ";
 
+/// What sets one group's ceiling, and without the bytes looks at it.
+const CEILING: &str = "ceiling ";
+
 /// The files, by name and text.
-pub const FILES: [(&str, &str); 10] = [
+pub const FILES: [(&str, &str); 11] = [
     ("calls", include_str!("../cases/calls.txt")),
+    ("ceilings", include_str!("../cases/ceilings.txt")),
     ("counts", include_str!("../cases/counts.txt")),
     ("edges", include_str!("../cases/edges.txt")),
     ("holdings", include_str!("../cases/holdings.txt")),
@@ -39,8 +43,8 @@ pub struct Case {
 
 /// One line of a script with what is answered.
 pub struct Step {
-    /// A line of the bench program, the fetching of holdings, or a look at the
-    /// state ([`look`]).
+    /// A line of the bench program, the fetching of holdings, the setting of a
+    /// ceiling, or a look at the state ([`look`]).
     pub asked: String,
     /// The answer's lines, each ended by LF.
     pub answer: String,
@@ -55,6 +59,11 @@ impl Step {
         if let Some(records) = self.asked.strip_prefix(LIST) {
             let records = number(records) as usize;
             return Some(Call::Holdings { records });
+        }
+        if let Some(set) = self.asked.strip_prefix(CEILING) {
+            let (group, bytes) = set.split_once(' ')?;
+            let (group, bytes) = (number(group), number(bytes));
+            return Some(Call::SetCeiling { group, bytes });
         }
         match self.asked.starts_with(RECORD) {
             true => Some(Call::Holdings { records: twelve }),
@@ -81,9 +90,16 @@ impl Step {
 }
 
 impl Case {
-    /// Whether the bench program's books are the ones of this case.
+    /// Whether the bench program's books are the ones of this case, and no
+    /// ceiling is set in it, for which the bench program has no line.
     pub fn is_for_the_bench_program(&self) -> bool {
-        self.words == WORDS
+        self.words == WORDS && !self.sets_a_ceiling()
+    }
+
+    /// Whether a ceiling is set in it, or tried to be.
+    pub fn sets_a_ceiling(&self) -> bool {
+        let mut calls = self.steps.iter().filter_map(Step::call);
+        calls.any(|call| matches!(call, Call::SetCeiling { .. }))
     }
 }
 
@@ -96,8 +112,9 @@ pub fn all() -> Vec<Case> {
 }
 
 /// What can be seen of a state and not of a listing: `lists`, the empty list
-/// and each class's list that has a zone; and `zone P`, a zone's class, k and
-/// chain. `None` if a line asks for neither.
+/// and each class's list that has a zone; `zone P`, a zone's class, k and
+/// chain; and `ceiling G`, a group's ceiling. `None` if a line asks for none of
+/// them.
 pub fn look(state: &State, asked: &str) -> Option<String> {
     let pages = |list: &mut dyn Iterator<Item = &u32>| -> String {
         list.map(|page| format!(" {page}")).collect()
@@ -110,6 +127,10 @@ pub fn look(state: &State, asked: &str) -> Option<String> {
             }
         }
         return Some(told);
+    }
+    if let Some(group) = asked.strip_prefix(CEILING) {
+        let bytes = state.ceilings[number(group) as usize - 1];
+        return Some(format!("{bytes}\n"));
     }
     let zone = &state.zones[&asked.strip_prefix("zone ")?.parse().ok()?];
     let chain = pages(&mut zone.chain.iter());

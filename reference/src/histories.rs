@@ -1,43 +1,22 @@
 //! Pseudo-random histories: lists of calls for tests, the same for the same
 //! seed.
 //!
-//! A history learns of the live blocks from the answers alone, so it can also
-//! drive another program and keeps its own record of what should be live.
+//! A history learns of the live blocks and of the ceilings from the answers
+//! alone, so it can also drive another program and keeps its own record of what
+//! should be live.
+
+mod profiles;
+mod random;
+mod settings;
+
+pub use profiles::Profile;
+pub use random::Xorshift;
 
 use crate::calls::{Answer, Call};
+use crate::ceilings::{Ceilings, AT_START};
 use crate::listing;
-use crate::sizes::{chunk_size, CLASSES, DIRECT_FROM, GROUPS, MAX_SIZE, PAGE_BYTES};
-
-/// Marsaglia's xorshift generator with 64 bits.
-#[derive(Clone, Debug)]
-pub struct Xorshift(u64);
-
-impl Xorshift {
-    /// A generator; seeds that differ a little give unlike numbers too.
-    pub fn new(seed: u64) -> Xorshift {
-        // Odd times odd, so that the state is never 0, which would stay 0.
-        Xorshift((seed << 1 | 1).wrapping_mul(0x9e37_79b9_7f4a_7c15))
-    }
-
-    /// The next 64 bits.
-    pub fn draw(&mut self) -> u64 {
-        self.0 ^= self.0 << 13;
-        self.0 ^= self.0 >> 7;
-        self.0 ^= self.0 << 17;
-        self.0
-    }
-
-    /// A number below `limit`, which is not 0.
-    pub fn below(&mut self, limit: u32) -> u32 {
-        // The high half: the low bits of this generator are its weak ones.
-        ((self.draw() >> 32) % u64::from(limit)) as u32
-    }
-
-    /// One of the values, of which there is at least one.
-    pub fn pick<T: Copy>(&mut self, values: &[T]) -> T {
-        values[self.below(values.len() as u32) as usize]
-    }
-}
+use crate::sizes::{chunk_size, need, CLASSES, DIRECT_FROM, GROUPS, MAX_SIZE, PAGE_BYTES};
+use profiles::Weights;
 
 /// Sizes of which a zone has 4 to 8 chunks.
 const FEW_TO_A_ZONE: [u32; 5] = [8_191, 8_191, 7_000, 5_000, 4_096];
@@ -49,102 +28,13 @@ const SMALL: [u32; 8] = [1, 8, 100, 127, 128, 129, 257, 1_025];
 /// others for whole pages.
 const CHUNK_GROUPS: u32 = GROUPS / 2;
 
-/// What a history is rich in.
-#[derive(Clone, Copy, Debug, PartialEq, Eq)]
-pub enum Profile {
-    /// Something of all, mostly chunks of a size that few of fill a zone.
-    Mixed,
-    /// Chunks of many sizes.
-    Chunks,
-    /// Direct blocks.
-    Pages,
-    /// Resets and trims.
-    Resets,
-    /// Groups, sizes and offsets that are wrong.
-    Wrong,
-    /// Second searches: pages are short, zones are of many classes, and it is
-    /// mostly chunks that come back, so that idle zones hold the pages that
-    /// the next request needs.
-    Tight,
-}
-
-impl Profile {
-    pub const ALL: [Profile; 6] = [
-        Profile::Mixed,
-        Profile::Chunks,
-        Profile::Pages,
-        Profile::Resets,
-        Profile::Wrong,
-        Profile::Tight,
-    ];
-
-    fn weights(self) -> Weights {
-        let mixed = Weights {
-            wrong: 0,
-            odd: 4,
-            resets: 1,
-            trims: 1,
-            requests: [12, 67],
-            sizes: [24, 6, 2, 7],
-            tight: false,
-        };
-        match self {
-            Profile::Mixed => mixed,
-            Profile::Chunks => Weights {
-                requests: [14, 75],
-                sizes: [12, 20, 6, 2],
-                ..mixed
-            },
-            Profile::Pages => Weights {
-                sizes: [4, 1, 1, 31],
-                ..mixed
-            },
-            Profile::Resets => Weights {
-                resets: 6,
-                trims: 4,
-                requests: [50, 75],
-                ..mixed
-            },
-            Profile::Wrong => Weights {
-                wrong: 40,
-                requests: [10, 40],
-                ..mixed
-            },
-            Profile::Tight => Weights {
-                trims: 0,
-                requests: [20, 75],
-                tight: true,
-                ..mixed
-            },
-        }
-    }
-}
-
-/// How likely each kind of call is, of 100. One call is a query and one a
-/// listing; those that are left are returns.
-#[derive(Clone, Copy, Debug)]
-struct Weights {
-    /// Calls with a wrong value of any kind, mostly near a right one.
-    wrong: u32,
-    /// Calls with a value on an edge.
-    odd: u32,
-    resets: u32,
-    trims: u32,
-    /// Requests in a stretch of mostly returns, and in one of mostly requests.
-    requests: [u32; 2],
-    /// Of 40 requests: those of the two favourite sizes, of any chunk, and of
-    /// a few pages. Those that are left may have any size.
-    sizes: [u32; 4],
-    /// Whether a request's size goes with its group, and returns are mostly of
-    /// chunks.
-    tight: bool,
-}
-
 /// A block that the answers have shown to be live.
 #[derive(Clone, Copy, Debug, PartialEq, Eq)]
 pub struct Granted {
     pub group: u32,
     pub offset: u32,
+    /// Bytes of the block: of the chunk, or of its pages.
+    pub room: u32,
 }
 
 /// A history under way: ask for the next call, serve it, show the answer.
@@ -152,6 +42,7 @@ pub struct Granted {
 pub struct History {
     random: Xorshift,
     live: Vec<Granted>,
+    ceilings: Ceilings,
     /// Stretches of mostly requests and of mostly returns take turns, so that
     /// zones become full and idle again.
     filling: bool,
@@ -159,8 +50,10 @@ pub struct History {
     /// several zones.
     favourites: [u32; 2],
     weights: Weights,
-    /// The block returned last.
-    returned: Option<Granted>,
+    /// The offset of the block returned last.
+    returned: Option<u32>,
+    /// The request that a setting is drawn for: the next call.
+    due: Option<Call>,
 }
 
 impl History {
@@ -176,17 +69,37 @@ impl History {
         History {
             random,
             live: Vec::new(),
+            ceilings: AT_START,
             filling: true,
             favourites,
             weights: profile.weights(),
             returned: None,
+            due: None,
         }
+    }
+
+    /// The history with such calls alone as have a line of the bench program:
+    /// it sets no ceiling.
+    pub fn in_lines(mut self) -> History {
+        self.weights.settings = 0;
+        self
     }
 
     /// The history with these blocks live at its beginning.
     pub fn knowing(mut self, live: Vec<Granted>) -> History {
         self.live = live;
         self
+    }
+
+    /// The history with these ceilings at its beginning.
+    pub fn under(mut self, ceilings: Ceilings) -> History {
+        self.ceilings = ceilings;
+        self
+    }
+
+    /// The groups' ceilings by the answers shown, group 1 first.
+    pub fn ceilings(&self) -> &Ceilings {
+        &self.ceilings
     }
 
     /// The blocks that are live by the answers shown, in no order.
@@ -196,10 +109,21 @@ impl History {
 
     /// The next call; never a start that would succeed.
     pub fn next_call(&mut self) -> Call {
+        if let Some(request) = self.due.take() {
+            return request;
+        }
+        if self.random.below(100) < self.weights.settings {
+            return self.setting();
+        }
         if self.random.below(50) == 0 {
             self.filling = !self.filling;
         }
         self.filling |= self.live.is_empty();
+        self.other_call()
+    }
+
+    /// A call that is no setting, by its weight.
+    fn other_call(&mut self) -> Call {
         let weights = self.weights;
         let mut number = self.random.below(100);
         // Whether the number falls to a kind of call that is this likely.
@@ -211,51 +135,59 @@ impl History {
         if falls_to(weights.odd) {
             self.odd_call()
         } else if falls_to(weights.resets) {
-            Call::Reset {
-                group: self.group(),
-            }
+            let group = self.group();
+            Call::Reset { group }
         } else if falls_to(weights.trims) {
             Call::Trim
         } else if falls_to(1) {
-            Call::Query {
-                offset: self.live_or_any().offset,
-            }
+            let offset = self.live_or_any().offset;
+            Call::Query { offset }
         } else if falls_to(1) {
-            Call::Listing {
-                capacity: listing::LONGEST,
-            }
+            let capacity = listing::LONGEST;
+            Call::Listing { capacity }
         } else if falls_to(weights.requests[usize::from(self.filling)]) {
             let group = self.group();
-            let size = match weights.tight {
-                true => self.size_for(group),
-                false => self.size(),
-            };
+            let size = self.size_of_request(group);
             Call::Allocate { group, size }
         } else if falls_to(weights.wrong) {
             self.wrong_call()
         } else {
-            let Granted { group, offset } = match weights.tight {
-                true => self.chunk_or_any(),
-                false => self.live_or_any(),
-            };
-            Call::Free { group, offset }
+            self.give()
         }
+    }
+
+    /// A return, mostly of a live block.
+    fn give(&mut self) -> Call {
+        let Granted { group, offset, .. } = match self.weights.tight {
+            true => self.chunk_or_any(),
+            false => self.live_or_any(),
+        };
+        Call::Free { group, offset }
     }
 
     /// Shows the answer to a call, so that the history knows what is live.
     pub fn observe(&mut self, call: &Call, answer: &Answer) {
         match (*call, answer) {
-            (Call::Init { .. }, Answer::Done) => self.live.clear(),
-            (Call::Allocate { group, .. }, Answer::Granted { offset, .. }) => {
-                let offset = *offset;
-                self.live.push(Granted { group, offset });
+            (Call::Init { .. }, Answer::Done) => {
+                self.live.clear();
+                self.ceilings = AT_START;
             }
-            (Call::Free { group, offset }, Answer::Done) => {
+            (Call::Allocate { group, size }, Answer::Granted { offset, .. }) => {
+                self.live.push(Granted {
+                    group,
+                    offset: *offset,
+                    room: need(size).room(),
+                });
+            }
+            (Call::Free { offset, .. }, Answer::Done) => {
                 self.live.retain(|block| block.offset != offset);
-                self.returned = Some(Granted { group, offset });
+                self.returned = Some(offset);
             }
             (Call::Reset { group }, Answer::Counted(_)) => {
                 self.live.retain(|block| block.group != group);
+            }
+            (Call::SetCeiling { group, bytes }, Answer::Done) => {
+                self.ceilings[group as usize - 1] = bytes;
             }
             _ => {}
         }
@@ -265,7 +197,7 @@ impl History {
     fn odd_call(&mut self) -> Call {
         let group = self.random.pick(&[0, 1, GROUPS, GROUPS + 1, u32::MAX]);
         let offset = self.live_or_any().offset;
-        match self.random.below(6) {
+        match self.random.below(7) {
             0 => Call::Init {
                 pages: self.random.pick(&[0, 257, u32::MAX]),
             },
@@ -281,6 +213,7 @@ impl History {
             4 => Call::Reset {
                 group: self.random.pick(&[0, GROUPS + 1, u32::MAX]),
             },
+            5 => self.request_at_the_ceiling(),
             _ => Call::Listing {
                 capacity: self.random.below(100) as usize,
             },
@@ -295,7 +228,7 @@ impl History {
             0 => self.random.below(MAX_SIZE),
             1 => self.random.below(MAX_SIZE / PAGE_BYTES) * PAGE_BYTES,
             2 => block.offset + self.random.pick(&[1, 8, 104, PAGE_BYTES]),
-            3 => self.returned.unwrap_or(block).offset,
+            3 => self.returned.unwrap_or(block.offset),
             _ => u32::MAX - self.random.below(PAGE_BYTES),
         };
         match self.random.below(8) {
@@ -327,6 +260,14 @@ impl History {
 
     fn group(&mut self) -> u32 {
         1 + self.random.below(GROUPS)
+    }
+
+    /// A size for a request of the group.
+    fn size_of_request(&mut self, group: u32) -> u32 {
+        match self.weights.tight {
+            true => self.size_for(group),
+            false => self.size(),
+        }
     }
 
     fn size(&mut self) -> u32 {
@@ -371,6 +312,7 @@ impl History {
             return Granted {
                 group: self.group(),
                 offset: self.random.below(MAX_SIZE),
+                room: 0,
             };
         }
         let at = self.random.below(self.live.len() as u32) as usize;

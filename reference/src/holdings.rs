@@ -108,7 +108,7 @@ impl State {
     }
 }
 
-/// A group's place among the records; of no group, none.
-fn place_of(group: Group) -> usize {
+/// A group's place among the records and the ceilings; of no group, none.
+pub(crate) fn place_of(group: Group) -> usize {
     usize::from(group).wrapping_sub(1)
 }

@@ -65,7 +65,8 @@ pub fn decimal(digits: &[u8]) -> Option<u32> {
 }
 
 /// The line of a call, without its LF: what [`parse`] reads, turned round. A
-/// listing's line doesn't name its capacity, and no line asks for the holdings.
+/// listing's line doesn't name its capacity. No line asks for the holdings, and
+/// none sets a ceiling.
 pub fn line_of(call: &Call) -> Option<String> {
     let line = match call {
         Call::Init { pages } => format!("s {pages}"),
@@ -75,7 +76,7 @@ pub fn line_of(call: &Call) -> Option<String> {
         Call::Trim => "t".to_string(),
         Call::Query { offset } => format!("b {offset}"),
         Call::Listing { .. } => "p".to_string(),
-        Call::Holdings { .. } => return None,
+        Call::Holdings { .. } | Call::SetCeiling { .. } => return None,
     };
     Some(line)
 }

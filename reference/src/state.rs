@@ -1,10 +1,11 @@
 //! The abstract state of an arena: free runs, direct blocks, zones and lists,
-//! and what each group holds.
+//! what each group holds, and its ceiling.
 //!
 //! Nothing here checks a state; [`crate::validity::is_valid`] does. Two legal
 //! states are equal exactly if their values are: blocks and zones are kept by
 //! start page, and lists and chains front first.
 
+use crate::ceilings::{Ceilings, AT_START};
 use crate::holdings::Holdings;
 use crate::sizes::{chunk_count, chunk_size, CLASSES};
 use std::collections::{BTreeMap, VecDeque};
@@ -100,11 +101,13 @@ pub struct State {
     pub empty: VecDeque<Page>,
     /// What each group holds, group 1 first.
     pub holdings: Holdings,
+    /// Each group's ceiling, group 1 first.
+    pub ceilings: Ceilings,
 }
 
 impl State {
-    /// The state that a start pictures: one run of all pages, and nobody holds
-    /// anything or has.
+    /// The state that a start pictures: one run of all pages, nobody holds
+    /// anything or has, and every ceiling is the largest.
     pub fn fresh(pages: u32) -> State {
         State {
             pages,
@@ -114,10 +117,12 @@ impl State {
             lists: no_lists(),
             empty: VecDeque::new(),
             holdings: Holdings::default(),
+            ceilings: AT_START,
         }
     }
 
-    /// A state from its parts, whatever they are: nothing is checked.
+    /// A state from its parts, whatever they are: nothing is checked. Its
+    /// ceilings are a start's; [`State::with_ceilings`] gives it others.
     pub fn from_parts(
         pages: u32,
         runs: Vec<Run>,
@@ -135,6 +140,7 @@ impl State {
             lists,
             empty,
             holdings,
+            ceilings: AT_START,
         }
     }
 

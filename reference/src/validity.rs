@@ -1,5 +1,5 @@
 //! Document 01's "A legal state is", clause by clause, and what document 02's
-//! request c) says of the stored figures.
+//! requests c) and e) say of the stored figures and ceilings.
 //!
 //! Legal is wider than reachable: direct blocks of one page, zones with
 //! k = 0, several idle zones on a class's list and lists in any order pass,
@@ -8,6 +8,7 @@
 //! Every clause can be asked of any state and ends with an answer, whatever
 //! the other clauses would say of it.
 
+use crate::ceilings::MAX_CEILING;
 use crate::sizes::{chunk_count, CLASSES, GROUPS, MAX_PAGES, PAGE_BYTES, ZONE_PAGES};
 use crate::state::{Group, Page, Run, State, Zone};
 
@@ -27,6 +28,7 @@ pub fn is_valid(state: &State) -> bool {
         && live_blocks_are_counted(state)
         && held_bytes_are_added_up(state)
         && greatest_figures_are_legal(state)
+        && ceilings_are_legal(state)
 }
 
 /// "N from 1 to 256".
@@ -159,6 +161,12 @@ pub fn greatest_figures_are_legal(state: &State) -> bool {
     let arena = u64::from(state.pages) * u64::from(PAGE_BYTES);
     let mut groups = state.holdings.iter();
     groups.all(|holding| holding.greatest >= holding.held && u64::from(holding.greatest) <= arena)
+}
+
+/// "One above 1,048,576 there isn't legal." What a group holds has no say in
+/// it, so a ceiling can be below that.
+pub fn ceilings_are_legal(state: &State) -> bool {
+    state.ceilings.iter().all(|bytes| *bytes <= MAX_CEILING)
 }
 
 /// Whether a chunk is not live. A zone without a class has no chunks.

@@ -64,6 +64,21 @@ fn every_request_of_the_cases_of_counts_has_its_count() {
     assert_eq!(most, Some(128));
 }
 
+/// What a start's ceilings refuse, the bench program is held to; it has no line
+/// that sets a ceiling.
+#[test]
+fn cases_that_set_a_ceiling_are_not_the_bench_programs() {
+    let is_refused = |case: &Case| case.steps.iter().any(|step| step.answer == "no 10\n");
+    let mut bench = 0;
+    let mut set = 0;
+    for case in all().iter().filter(|case| is_refused(case)) {
+        assert!(!case.is_for_the_bench_program() || !case.sets_a_ceiling());
+        bench += u32::from(case.is_for_the_bench_program());
+        set += u32::from(case.sets_a_ceiling());
+    }
+    assert!(bench >= 5 && set >= 10, "{bench} and {set} cases");
+}
+
 #[test]
 fn every_file_is_read_and_every_case_has_a_name_of_its_own() {
     let folder = concat!(env!("CARGO_MANIFEST_DIR"), "/cases");

@@ -8,7 +8,7 @@ mod common;
 use common::{grant, runs, started, state, text};
 use reference::calls::{Allocator, Answer, Call, Refusal};
 use reference::histories::{History, Profile, Xorshift};
-use reference::sizes::{words_needed, GROUPS, MAX_SIZE, PAGE_BYTES, ZONE_PAGES};
+use reference::sizes::{need, words_needed, GROUPS, MAX_SIZE, PAGE_BYTES, ZONE_PAGES};
 use reference::state::{DirectBlock, Run, State, Zone};
 use reference::validity::is_valid;
 use std::collections::BTreeSet;
@@ -35,15 +35,28 @@ fn looked_in(runs: &[u32], pages: u32) -> (u32, bool) {
     }
 }
 
+/// Whether a request is refused by 10: what its group holds is added up anew.
+fn passes_its_ceiling(state: &State, group: u32, size: u32) -> bool {
+    let blocks = state.live_blocks().into_iter();
+    let own = blocks.filter(|block| u32::from(block.group) == group);
+    let held: u32 = own.map(|block| block.room).sum();
+    held + need(size).room() > state.ceilings[group as usize - 1]
+}
+
+/// The pages in a row that a request has to look for; `None` if it is refused
+/// by 4, 5 or 10, or needs none.
+fn pages_due(state: &State, group: u32, size: u32) -> Option<u32> {
+    let is_legal = (1..=GROUPS).contains(&group) && (1..=MAX_SIZE).contains(&size);
+    if !is_legal || passes_its_ceiling(state, group, size) {
+        return None;
+    }
+    state.pages_needed(size)
+}
+
 /// The runs that a request has to look at in its first search and in its
 /// second one; `None` for a search that isn't made.
 fn due(before: &Allocator, group: u32, size: u32) -> [Option<u32>; 2] {
-    let is_legal = (1..=GROUPS).contains(&group) && (1..=MAX_SIZE).contains(&size);
-    let pages = match before.state() {
-        Some(state) if is_legal => state.pages_needed(size),
-        _ => None,
-    };
-    let pages = match pages {
+    let pages = match pages_due(state(before), group, size) {
         Some(pages) => pages,
         None => return [None, None],
     };
@@ -67,6 +80,7 @@ struct Met {
     as_many_again: u32,
     more_again: u32,
     refused_by_4_or_5: u32,
+    refused_by_10: u32,
 }
 
 impl Met {
@@ -84,6 +98,7 @@ impl Met {
         );
         assert!(due.iter().flatten().all(|looked| *looked <= most));
         match (due, answer.refusal()) {
+            ([None, _], Some(Refusal::OverCeiling)) => self.refused_by_10 += 1,
             ([None, _], Some(_)) => self.refused_by_4_or_5 += 1,
             ([None, _], None) => self.none += 1,
             ([Some(1), None], _) => self.one += 1,
@@ -105,9 +120,10 @@ impl Met {
             as_many_again,
             more_again,
             refused_by_4_or_5,
+            refused_by_10,
         } = *self;
         let searched = [none, one, several, fewer_again, as_many_again, more_again];
-        let all = searched.iter().chain(Some(&refused_by_4_or_5));
+        let all = searched.iter().chain([&refused_by_4_or_5, &refused_by_10]);
         assert!(all.into_iter().all(|times| *times >= least), "{self:?}");
     }
 }
@@ -198,6 +214,8 @@ fn in_states_of_any_kind_the_count_is_the_one_that_listings_show() {
             met.request(&mut before.clone(), 2, size);
         }
         met.request(&mut before.clone(), 13, 100);
+        // The blocks are all group 1's.
+        met.request(&mut before.clone(), 1, MAX_SIZE);
     }
     met.expect(100);
 }

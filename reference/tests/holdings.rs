@@ -151,9 +151,10 @@ fn after_every_call_the_holdings_are_those_of_the_ledger() {
     assert_eq!(cleared, 6 * 8);
 }
 
-/// Calls that only tell, and a trim, between two fetchings of the holdings.
+/// Calls that only tell, a trim, and settings of a ceiling, also of one below
+/// what is held, between two fetchings of the holdings.
 #[test]
-fn what_only_tells_changes_no_figure() {
+fn what_neither_grants_nor_takes_back_changes_no_figure() {
     let mut allocator = started(32);
     common::grant(&mut allocator, 1, 100, 3);
     common::grant(&mut allocator, 2, 9_000, 1);
@@ -167,6 +168,11 @@ fn what_only_tells_changes_no_figure() {
         Call::Listing { capacity: 0 },
         Call::Holdings { records: 12 },
         Call::Holdings { records: 11 },
+        Call::SetCeiling { group: 2, bytes: 0 },
+        Call::SetCeiling {
+            group: 3,
+            bytes: 8_192,
+        },
     ] {
         allocator.serve(call);
         assert_eq!(allocator.holdings(12), before, "{call:?}");

@@ -192,8 +192,10 @@ fn calls_and_their_lines() {
         assert_eq!(parse(line.as_bytes()), Some(call));
         assert_eq!(line_of(&call).as_deref(), Some(line));
     }
-    // No line asks for the holdings.
+    // No line asks for the holdings or sets a ceiling.
     assert_eq!(line_of(&Call::Holdings { records: 12 }), None);
+    let (group, bytes) = (1, 100);
+    assert_eq!(line_of(&Call::SetCeiling { group, bytes }), None);
 }
 
 #[test]

@@ -1,16 +1,17 @@
-//! The states that calls reach: legal every one, live blocks apart, and live
-//! exactly what the answers made live.
+//! The states that calls reach: legal every one, live blocks apart, live
+//! exactly what the answers made live, and the ceilings those that were set.
 
 mod common;
 
 use common::{started, state};
 use reference::calls::{Answer, Call};
+use reference::ceilings::AT_START;
 use reference::histories::{Granted, History};
 use reference::state::{State, Zone};
 use reference::validity::is_valid;
 
-/// Checks a reached state: legal, live blocks apart and inside the arena, and
-/// live exactly what the answers made live.
+/// Checks a reached state: legal, live blocks apart and inside the arena, live
+/// exactly what the answers made live, and the ceilings those that were set.
 fn assert_sound(state: &State, history: &History) {
     assert!(is_valid(state), "{state:?}");
     let blocks = state.live_blocks();
@@ -25,8 +26,10 @@ fn assert_sound(state: &State, history: &History) {
     let found = blocks.iter().map(|block| Granted {
         group: u32::from(block.group),
         offset: block.offset,
+        room: block.room,
     });
     assert_eq!(found.collect::<Vec<_>>(), granted);
+    assert_eq!(state.ceilings, *history.ceilings());
 }
 
 /// How often the histories have passed through what the rules are about.
@@ -84,7 +87,8 @@ fn every_state_that_calls_reach_is_legal_and_blocks_are_apart() {
 }
 
 #[test]
-fn all_blocks_returned_and_tidied_leave_the_fresh_state_but_for_the_greatest_figures() {
+fn all_returned_and_tidied_leave_the_fresh_state_but_for_greatest_figures_and_ceilings() {
+    let mut have_held = 0;
     for seed in 0..20 {
         let mut allocator = started(64);
         let mut history = History::new(seed);
@@ -99,11 +103,14 @@ fn all_blocks_returned_and_tidied_leave_the_fresh_state_but_for_the_greatest_fig
         allocator.trim().unwrap();
         let mut left = state(&allocator).clone();
         for holding in &mut left.holdings {
-            assert!(holding.greatest > 0 || live == 0, "{holding:?}");
+            have_held += u32::from(holding.greatest > 0);
             holding.greatest = 0;
         }
+        assert_eq!(left.ceilings, *history.ceilings());
+        left.ceilings = AT_START;
         assert_eq!(left, State::fresh(64));
     }
+    assert!(have_held > 20 * 10, "{have_held} groups of all histories");
 }
 
 #[test]

@@ -28,10 +28,13 @@ fn unusable() -> Vec<Allocator> {
     overlapping.direct.insert(0, block);
     let mut miscounted = State::fresh(24);
     miscounted.holdings[0].blocks = 1;
+    let mut too_high = State::fresh(24);
+    too_high.ceilings[0] += 1;
     vec![
         Allocator::zeroed(13_568),
         Allocator::picturing(13_568, overlapping.recounted()),
         Allocator::picturing(13_568, miscounted),
+        Allocator::picturing(13_568, too_high),
         Allocator::picturing(13_567, State::fresh(24)),
     ]
 }
@@ -53,6 +56,10 @@ fn request(group: u32, size: u32) -> Call {
 
 fn give(group: u32, offset: u32) -> Call {
     Call::Free { group, offset }
+}
+
+fn ceiling(group: u32, bytes: u32) -> Call {
+    Call::SetCeiling { group, bytes }
 }
 
 #[test]
@@ -80,6 +87,10 @@ fn without_a_legal_state_every_call_but_start_is_refused_by_3() {
         Call::Listing { capacity: 9_999 },
         Call::Holdings { records: 0 },
         Call::Holdings { records: 12 },
+        ceiling(1, 0),
+        ceiling(1, 1_048_577),
+        ceiling(13, 0),
+        ceiling(0, u32::MAX),
     ];
     for mut allocator in unusable() {
         for call in calls {
@@ -127,6 +138,7 @@ fn every_refusal_has_its_number() {
         (Refusal::NoBlock, 7),
         (Refusal::OtherGroup, 8),
         (Refusal::ListLength, 9),
+        (Refusal::OverCeiling, 10),
         (Refusal::ShortBuffer, 12),
     ];
     for (refusal, number) in numbers {
@@ -154,7 +166,7 @@ fn refusals_asks_and_listings_change_nothing_in_histories() {
             assert_eq!(allocator, before, "{call:?}");
         }
     }
-    for number in [1, 4, 5, 6, 7, 8, 12] {
+    for number in [1, 4, 5, 6, 7, 8, 10, 12] {
         assert!(refused[number] > 0, "no refusal {number} in any history");
     }
 }

@@ -1,6 +1,6 @@
 //! Document 01's "A legal state is": odd states that are legal, and at least
 //! one state for each clause that is broken. figures.rs has the clauses on the
-//! groups' figures.
+//! groups' figures, and ceilings.rs the one on their ceilings.
 
 mod common;
 

@@ -19,34 +19,36 @@ use Rattle.lemmas.proofs.Cases.{bool, refuted, true-false, and-left, and-right,
 use Rattle.lemmas.proofs.Every.{every-at, every-of}
 use Rattle.lemmas.proofs.Parts.{length-mid, getD-mid}
 use Rattle.lemmas.proofs.Zeros.{drop-zeros}
-use Rattle.model.specs.Numbers.{pageBytes, mostGroup, figureWords}
+use Rattle.model.specs.Numbers.{pageBytes, mostBytes, mostGroup, figureWords}
 use Rattle.model.specs.declared.Holding.{Holding}
 use Rattle.model.specs.Arena.{total}
 use Rattle.model.specs.State.{State}
 use Rattle.model.specs.PageMap.{pageMap}
 use Rattle.model.specs.Valid.{Valid, ValidAccount}
-use Rattle.model.specs.Holdings.{blocksOf, heldOf, Account, holdingOf}
+use Rattle.model.specs.Holdings.{blocksOf, heldOf, Account, holdingOf, ceilingAt}
 use Rattle.model.specs.Perform.{allWords}
-use Rattle.figures.specs.Encoding.{atGreatest, atRest, figuresEncoding, recordIn}
-use Rattle.figures.proofs.Encoded.{length-figures, record-encoded, rest-encoded, is-figures}
+use Rattle.figures.specs.Encoding.{atGreatest, atCeiling, atRest, recordIn, ceilingIn}
+use Rattle.figures.proofs.Encoded.{length-figures, record-encoded, ceiling-encoded, rest-encoded, is-figures}
 use Rattle.metadata.specs.Encoding as state
 use Rattle.metadata.specs.Encoding.{encode}
 use Rattle.metadata.specs.Decoding.{decode, isState}
 use Rattle.metadata.proofs.States.{state-valid, state-begins, begins-state, begins-decoded, encode-long, zeros-none as state-zeros}
-use Rattle.account.specs.Encoding.{accountEncoding, BeginsWith}
+use Rattle.account.specs.Encoding.{figuresOf, accountEncoding, BeginsWith}
 use Rattle.account.specs.Decoding.{figuresPart, statePart, accountIn, recordFits, stateFits, figuresFit, isAccount, accountOf}
 
--- ---- one group's record
+-- ---- one group's record and ceiling
 
 -- What fits, as facts.
-pub record Fitting (h : Holding) (b r top : ℕ) : Type 0 where
+pub record Fitting (h : Holding) (c b r top : ℕ) : Type 0 where
   pub blocks : h .blocks ≡ b
   pub held : h .held ≡ r
   pub least : h .held ≤ h .greatest
   pub most : h .greatest ≤ top
+  pub ceiling : c ≤ mostBytes
 
-pub fitting : (h : Holding) (b r most : ℕ) → recordFits h b r most ≡ true → Fitting h b r most
-fitting h b r most t =
+pub fitting : (h : Holding) (c b r most : ℕ) → (recordFits h b r most && leb c mostBytes) ≡ true → Fitting h c b r most
+fitting h c b r most all =
+    let t = and-left (recordFits h b r most) _ all in
     let B = eqb (h .blocks) b in
     let R = eqb (h .held) r in
     let L = leb (h .held) (h .greatest) in
@@ -57,15 +59,18 @@ fitting h b r most t =
       held = eqb-true (h .held) r (and-right B R v);
       least = leb-true (h .held) (h .greatest) (and-right (B && R) L u);
       most = leb-true (h .greatest) most (and-right (B && R && L) _ t);
+      ceiling = leb-true c mostBytes (and-right (recordFits h b r most) _ all);
     }
 
-pub fits : (h : Holding) (b r most : ℕ) → Fitting h b r most → recordFits h b r most ≡ true
-fits h b r most f =
+pub fits : (h : Holding) (c b r most : ℕ) → Fitting h c b r most → (recordFits h b r most && leb c mostBytes) ≡ true
+fits h c b r most f =
     let B = eqb (h .blocks) b in
     let R = eqb (h .held) r in
     let L = leb (h .held) (h .greatest) in
-    and-both (B && R && L) _ (and-both (B && R) L (and-both B R (eq-eqb (h .blocks) b (f .blocks)) (eq-eqb (h .held) r (f .held))) (le-leb (h .held) (h .greatest) (f .least)))
-    (le-leb (h .greatest) most (f .most))
+    and-both (recordFits h b r most) _
+    (and-both (B && R && L) _ (and-both (B && R) L (and-both B R (eq-eqb (h .blocks) b (f .blocks)) (eq-eqb (h .held) r (f .held))) (le-leb (h .held) (h .greatest) (f .least)))
+    (le-leb (h .greatest) most (f .most)))
+    (le-leb c mostBytes (f .ceiling))
 
 -- ---- the figures
 
@@ -74,7 +79,7 @@ module _ (f : List ℕ) (long : length f ≡ figureWords) (s : State) where
   test = stateFits f s
 
   abbrev Each-fits : Type 0
-  Each-fits = (i : ℕ) → i < mostGroup → Fitting (recordIn f i) (blocksOf (suc i) (pageMap s)) (heldOf (suc i) (pageMap s)) (total (s .segments) * pageBytes)
+  Each-fits = (i : ℕ) → i < mostGroup → Fitting (recordIn f i) (ceilingIn f i) (blocksOf (suc i) (pageMap s)) (heldOf (suc i) (pageMap s)) (total (s .segments) * pageBytes)
 
   abbrev Rest-zero : Type 0
   Rest-zero = (i : ℕ) → atRest ≤ i → i < figureWords → getD f i 0 ≡ 0
@@ -82,7 +87,7 @@ module _ (f : List ℕ) (long : length f ≡ figureWords) (s : State) where
   pub figures-told : figuresFit f s ≡ true → Each-fits × Rest-zero
   unfolding figuresFit
   figures-told t = (
-    λ i l. fitting _ _ _ _ (all-at test mostGroup (and-left (allBelow test mostGroup) _ t) i l),
+    λ i l. fitting (recordIn f i) (ceilingIn f i) _ _ _ (all-at test mostGroup (and-left (allBelow test mostGroup) _ t) i l),
     λ i a l. let k = i - atRest in
         let b : k < figureWords - atRest = omega arith in
         ap (λ j. getD f j 0) (let e : i ≡ atRest + k = omega arith in e)
@@ -93,7 +98,7 @@ module _ (f : List ℕ) (long : length f ≡ figureWords) (s : State) where
   pub figures-fit : Each-fits → Rest-zero → figuresFit f s ≡ true
   unfolding figuresFit
   figures-fit a b = and-both (allBelow test mostGroup) _
-      (all-of test mostGroup (λ i l. fits _ _ _ _ (a i l)))
+      (all-of test mostGroup (λ i l. fits (recordIn f i) (ceilingIn f i) _ _ _ (a i l)))
       (every-of isZero (mid atRest (figureWords - atRest) f) 0 (λ k l.
       let c : k < figureWords - atRest = omega (arith, length-mid atRest (figureWords - atRest) f (omega arith)) in
       eq-eqb _ 0 (getD-mid atRest (figureWords - atRest) f k 0 c ∙ b (atRest + k) (omega arith) (omega arith))))
@@ -139,6 +144,10 @@ module _ (w : List ℕ) (t : isAccount w ≡ true) where
   greatest-at : (i : ℕ) → i < mostGroup → getD (mid atGreatest mostGroup w) i 0 ≡ recordIn (figuresPart w) i .greatest
   greatest-at i l = getD-mid atGreatest mostGroup w i 0 l ∙ sym (getD-take figureWords w (atGreatest + i) 0 (omega arith))
 
+  -- A ceiling in its word.
+  ceiling-at : (i : ℕ) → i < mostGroup → getD (mid atCeiling mostGroup w) i 0 ≡ ceilingIn (figuresPart w) i
+  ceiling-at i l = getD-mid atCeiling mostGroup w i 0 l ∙ sym (getD-take figureWords w (atCeiling + i) 0 (omega arith))
+
   pub account-valid : ValidAccount (accountIn w)
   unfolding accountIn
   account-valid = record {
@@ -146,18 +155,21 @@ module _ (w : List ℕ) (t : isAccount w ≡ true) where
     groups = length-mid atGreatest mostGroup w (omega (arith, has-figures));
     least = λ i l. let f = told .0 i l in omega (arith, greatest-at i l, f .held, f .least);
     most = λ i l. let f = told .0 i l in omega (arith, greatest-at i l, f .most);
+    limits = length-mid atCeiling mostGroup w (omega (arith, has-figures));
+    ceiling = λ i l. omega (arith, ceiling-at i l, told .0 i l .ceiling);
   }
 
-  pub figures-are : figuresPart w ≡ figuresEncoding (holdingOf (accountIn w))
+  pub figures-are : figuresPart w ≡ figuresOf (accountIn w)
   unfolding accountIn
-  figures-are = is-figures (holdingOf (accountIn w)) (figuresPart w) front-long
+  figures-are = is-figures (holdingOf (accountIn w)) (ceilingAt (accountIn w)) (figuresPart w) front-long
       (λ i l. let f = told .0 i l in λ j. record { blocks = f .blocks j; held = f .held j; greatest = sym (greatest-at i l) j })
+      (λ i l. sym (ceiling-at i l))
       (told .1)
 
   pub account-begins : BeginsWith w (accountIn w)
   unfolding accountEncoding accountIn
   account-begins =
-      ap (λ k. take k w) (length-append (figuresEncoding (holdingOf (accountIn w))) (encode s) ∙ ap (λ k. k + length (encode s)) (length-figures (holdingOf (accountIn w))))
+      ap (λ k. take k w) (length-append (figuresOf (accountIn w)) (encode s) ∙ ap (λ k. k + length (encode s)) (length-figures (holdingOf (accountIn w)) (ceilingAt (accountIn w))))
       ∙ take-add figureWords (length (encode s)) w
       ∙ (λ i. figures-are i ++ state-begins (statePart w) state-ok i)
 
@@ -165,13 +177,13 @@ module _ (w : List ℕ) (t : isAccount w ≡ true) where
 
 module _ (a : Account) (v : ValidAccount a) where
   abbrev F : List ℕ
-  F = figuresEncoding (holdingOf a)
+  F = figuresOf a
 
   abbrev S : List ℕ
   S = encode (a .state)
 
   F-long : length F ≡ figureWords
-  F-long = length-figures (holdingOf a)
+  F-long = length-figures (holdingOf a) (ceilingAt a)
 
   pub account-long : length (accountEncoding a) ≡ allWords (total (a .state .segments))
   unfolding accountEncoding
@@ -203,21 +215,35 @@ module _ (a : Account) (v : ValidAccount a) where
         getD-mid atGreatest mostGroup w i 0 k
         ∙ sym (getD-take figureWords w (atGreatest + i) 0 (omega arith))
         ∙ ap (λ f. getD f (atGreatest + i) 0) figures-is
-        ∙ ap (λ r. r .greatest) (record-encoded (holdingOf a) i k))
+        ∙ ap (λ r. r .greatest) (record-encoded (holdingOf a) (ceilingAt a) i k))
       where
         at-all : length (mid atGreatest mostGroup w) ≡ mostGroup
         at-all = length-mid atGreatest mostGroup w (omega (arith, in-words, account-long))
 
+    ceilings-is : mid atCeiling mostGroup w ≡ a .ceilings
+    ceilings-is = ext-getD 0 (mid atCeiling mostGroup w) (a .ceilings) (at-all ∙ sym (v .limits)) (λ i l.
+        let k : i < mostGroup = omega (arith, at-all) in
+        getD-mid atCeiling mostGroup w i 0 k
+        ∙ sym (getD-take figureWords w (atCeiling + i) 0 (omega arith))
+        ∙ ap (λ f. getD f (atCeiling + i) 0) figures-is
+        ∙ ceiling-encoded (holdingOf a) (ceilingAt a) i k)
+      where
+        at-all : length (mid atCeiling mostGroup w) ≡ mostGroup
+        at-all = length-mid atCeiling mostGroup w (omega (arith, in-words, account-long))
+
     pub begins-account : accountIn w ≡ a
     unfolding accountIn
-    begins-account = λ i. record { state = decoded i; greatest = greatest-is i }
+    begins-account = λ i. record { state = decoded i; greatest = greatest-is i; ceilings = ceilings-is i }
 
     pub begins-passes : isAccount w ≡ true
     begins-passes = passes w (begins-state (a .state) (v .state) (statePart w) state-is)
         (ap (λ f. figuresFit f (decode (statePart w))) figures-is ∙ ap (figuresFit F) decoded ∙ figures-fit F F-long (a .state)
-        (λ i l. subst (λ h. Fitting h (blocksOf (suc i) (pageMap (a .state))) (heldOf (suc i) (pageMap (a .state))) (total (a .state .segments) * pageBytes)) (sym (record-encoded (holdingOf a) i l))
-        (record { blocks = refl; held = refl; least = v .least i l; most = v .most i l }))
-        (rest-encoded (holdingOf a)))
+        (λ i l.
+        let fit : Fitting (holdingOf a i) (ceilingAt a i) (blocksOf (suc i) (pageMap (a .state))) (heldOf (suc i) (pageMap (a .state))) (total (a .state .segments) * pageBytes)
+            = record { blocks = refl; held = refl; least = v .least i l; most = v .most i l; ceiling = v .ceiling i l } in
+        subst (λ (h : Holding × ℕ). Fitting (h .0) (h .1) (blocksOf (suc i) (pageMap (a .state))) (heldOf (suc i) (pageMap (a .state))) (total (a .state .segments) * pageBytes))
+        (λ j. (sym (record-encoded (holdingOf a) (ceilingAt a) i l) j, sym (ceiling-encoded (holdingOf a) (ceilingAt a) i l) j)) fit)
+        (rest-encoded (holdingOf a) (ceilingAt a)))
 
 -- THE theorem of the test.
 pub account-iff : (w : List ℕ) → (isAccount w ≡ true) ↔ ((a : Account) × ValidAccount a × BeginsWith w a)

@@ -11,29 +11,28 @@ use borrow.Author.Tests.{le-leb, eq-eqb}
 use Rattle.lemmas.specs.Below.{allBelow}
 use Rattle.lemmas.specs.Every.{every}
 use Rattle.lemmas.specs.Parts.{mid, putMid}
-use Rattle.lemmas.specs.Zeros.{zeros, isZero}
+use Rattle.lemmas.specs.Zeros.{isZero}
 use Rattle.lemmas.proofs.Below.{all-at, all-of, all-none, all-more, all-done}
 use Rattle.lemmas.proofs.Cases.{refuted, true-false, and-both}
 use Rattle.lemmas.proofs.Tests.{agree}
-use Rattle.lemmas.proofs.Zeros.{length-zeros, getD-zeros}
-use Rattle.model.specs.Numbers.{pageBytes, mostGroup, mostPages, figureWords, headerWords, pageWords}
+use Rattle.model.specs.Numbers.{pageBytes, mostBytes, mostGroup, mostPages, figureWords, headerWords, pageWords}
 use Rattle.model.specs.declared.Holding.{Holding}
 use Rattle.model.specs.Arena.{total}
 use Rattle.model.specs.State.{freshState}
 use Rattle.model.specs.PageMap.{shown, pageMap}
-use Rattle.model.specs.Holdings.{blocksOf, heldOf, freshAccount, holdingOf}
+use Rattle.model.specs.Holdings.{blocksOf, heldOf, freshAccount, holdingOf, ceilingAt}
 use Rattle.model.specs.Perform.{wordsFor}
 use Rattle.header.specs.Encoding.{pagesIn}
-use Rattle.figures.specs.Encoding.{atHeld, atGreatest, atRest, figuresEncoding, recordIn}
-use Rattle.figures.proofs.Encoded.{is-figures}
+use Rattle.figures.specs.Encoding.{atHeld, atGreatest, atCeiling, atRest, figuresEncoding, noHolding, largest, recordIn, ceilingIn}
+use Rattle.figures.proofs.Encoded.{length-figures, record-encoded, ceiling-encoded, rest-encoded, is-figures}
 use Rattle.pages.specs.Decoding.{segmentsOf, Holds}
 use Rattle.tally.specs.Figures.{Tallied}
 use Rattle.metadata.specs.Encoding.{encode}
 use Rattle.metadata.specs.Decoding.{headerPart, pagesPart, decode, isState}
 use Rattle.metadata.proofs.States.{state-valid, state-read, state-pages}
 use Rattle.metadata.proofs.Fresh.{put-behind}
-use Rattle.account.specs.Encoding.{accountEncoding}
-use Rattle.account.specs.Decoding.{statePart, accountIn, recordFits, stateFits, tallyFits, figuresFit, isAccount}
+use Rattle.account.specs.Encoding.{figuresOf, accountEncoding}
+use Rattle.account.specs.Decoding.{statePart, accountIn, recordFits, ceilingFits, stateFits, tallyFits, figuresFit, isAccount}
 use Rattle.account.proofs.Accounts.{fitting, passed, has-figures}
 
 -- ---- one record
@@ -49,18 +48,24 @@ module _ (f g : List ℕ) (i most : ℕ) where
   abbrev r : ℕ
   r = getD g (mostGroup + i) 0
 
+  abbrev k : ℕ
+  k = ceilingIn f i
+
   pub other-blocks : (getD f i 0 ≡ getD g i 0 → ⊥) → false ≡ tallyFits f g most i
-  other-blocks n = sym (refuted _ (λ t. n (fitting h b r most t .blocks)))
+  other-blocks n = sym (refuted _ (λ t. n (fitting h k b r most t .blocks)))
 
   pub other-bytes : (getD f (atHeld + i) 0 ≡ getD g (mostGroup + i) 0 → ⊥) → false ≡ tallyFits f g most i
-  other-bytes n = sym (refuted _ (λ t. n (fitting h b r most t .held)))
+  other-bytes n = sym (refuted _ (λ t. n (fitting h k b r most t .held)))
 
   pub too-low : getD f (atGreatest + i) 0 < getD f (atHeld + i) 0 → false ≡ tallyFits f g most i
-  too-low n = sym (refuted _ (λ t. omega (arith, fitting h b r most t .least)))
+  too-low n = sym (refuted _ (λ t. omega (arith, fitting h k b r most t .least)))
+
+  pub too-high : most < getD f (atGreatest + i) 0 → false ≡ tallyFits f g most i
+  too-high n = sym (refuted _ (λ t. omega (arith, fitting h k b r most t .most)))
 
   pub last-test : getD f i 0 ≡ getD g i 0 → getD f (atHeld + i) 0 ≡ getD g (mostGroup + i) 0 → getD f (atHeld + i) 0 ≤ getD f (atGreatest + i) 0 →
-      leb (getD f (atGreatest + i) 0) most ≡ tallyFits f g most i
-  last-test p q l = rw (eq-eqb (h .blocks) b p, eq-eqb (h .held) r q, le-leb (h .held) (h .greatest) l)
+      getD f (atGreatest + i) 0 ≤ most → leb (getD f (atCeiling + i) 0) mostBytes ≡ tallyFits f g most i
+  last-test p q l m = rw (eq-eqb (h .blocks) b p, eq-eqb (h .held) r q, le-leb (h .held) (h .greatest) l, le-leb (h .greatest) most m)
 
 -- ---- all records, one after another
 
@@ -118,7 +123,7 @@ module _ (w : List ℕ) (t : isState w ≡ true) where
       by-state = stateFits f (decode w)
 
       same-test : (i : ℕ) → i < mostGroup → by-tally i ≡ by-state i
-      same-test i l = λ j. recordFits (recordIn f i) (blocks-are i l j) (held-are i l j) ((bytes ∙ ap (λ k. k * pageBytes) is) j)
+      same-test i l = λ j. recordFits (recordIn f i) (blocks-are i l j) (held-are i l j) ((bytes ∙ ap (λ k. k * pageBytes) is) j) && ceilingFits f i
 
       same-tests : allBelow by-tally mostGroup ≡ allBelow by-state mostGroup
       same-tests = agree (allBelow by-tally mostGroup) (allBelow by-state mostGroup)
@@ -167,16 +172,16 @@ module _ (w : List ℕ) where
 
 -- ---- a fresh account
 
-fresh-figures : (n : ℕ) → zeros figureWords ≡ figuresEncoding (holdingOf (freshAccount n))
-fresh-figures n = is-figures (holdingOf (freshAccount n)) (zeros figureWords) (length-zeros figureWords)
-    (λ i l j. record {
-      blocks = getD-zeros figureWords i j;
-      held = getD-zeros figureWords (atHeld + i) j;
-      greatest = (getD-zeros figureWords (atGreatest + i) ∙ sym (getD-replicate {A = ℕ} mostGroup i 0 0 l)) j;
-    })
-    (λ i a b. getD-zeros figureWords i)
+abbrev first : List ℕ
+first = figuresEncoding noHolding largest
 
-pub fresh-set-up : (n : ℕ) (w f v : List ℕ) → f ≡ zeros figureWords → v ≡ encode (freshState n) →
+fresh-figures : (n : ℕ) → first ≡ figuresOf (freshAccount n)
+fresh-figures n = is-figures (holdingOf (freshAccount n)) (ceilingAt (freshAccount n)) first (length-figures noHolding largest)
+    (λ i l. record-encoded noHolding largest i l ∙ (λ j. record { blocks = 0; held = 0; greatest = sym (getD-replicate {A = ℕ} mostGroup i 0 0 l) j }))
+    (λ i l. ceiling-encoded noHolding largest i l ∙ sym (getD-replicate {A = ℕ} mostGroup i mostBytes 0 l))
+    (rest-encoded noHolding largest)
+
+pub fresh-set-up : (n : ℕ) (w f v : List ℕ) → f ≡ figuresEncoding noHolding largest → v ≡ encode (freshState n) →
     putMid figureWords (length (f ++ drop figureWords w) - figureWords) (f ++ drop figureWords w) v ≡ accountEncoding (freshAccount n)
 unfolding accountEncoding
-fresh-set-up n w f v p q = put-behind figureWords w f v (ap length p ∙ length-zeros figureWords) ∙ (λ i. (p ∙ fresh-figures n) i ++ q i)
+fresh-set-up n w f v p q = put-behind figureWords w f v (ap length p ∙ length-figures noHolding largest) ∙ (λ i. (p ∙ fresh-figures n) i ++ q i)

@@ -12,18 +12,20 @@ ghost use Rattle.model.specs.Perform.{allWords};
 ghost use Rattle.metadata.specs.Decoding.{decode, isState};
 ghost use Rattle.account.specs.Encoding.{accountEncoding};
 ghost use Rattle.account.specs.Decoding.{tallyFits, figuresFit, accountIn, isAccount};
+use figures::layout::AT_CEILING;
 use figures::layout::AT_GREATEST;
 use figures::layout::AT_HELD;
 use figures::layout::AT_REST;
 use model::numbers::FIGURE_WORDS;
 use model::numbers::GROUPS;
 use model::numbers::HEADER_WORDS;
+use model::numbers::MOST_BYTES;
 use model::numbers::PAGE_BYTES;
 
 // ---- the check
 
-// Whether the figures of the group at the index are those of the tally, which has the blocks of all groups and then their bytes, and its
-// greatest is not below what it holds, nor above the bytes of the arena.
+// Whether the figures of the group at the index are those of the tally, which has the blocks of all groups and then their bytes, its
+// greatest is not below what it holds, nor above the bytes of the arena, and its ceiling is not above the largest.
 fn record_fits(figures: &[u32], tally: &[u32], index: usize, most: u32) -> bool
     requires { ⌜ (length (now figures) ≡ figureWords) × (length (now tally) ≡ mostGroup + mostGroup) × (index < mostGroup) ⌝ }
     ensures { λ r. ⌜ r ≡ tallyFits (now (figures .entry)) (now (tally .entry)) most index ⌝ }
@@ -39,7 +41,10 @@ fn record_fits(figures: &[u32], tally: &[u32], index: usize, most: u32) -> bool
     if greatest < held {
         return false;
     }
-    greatest <= most
+    if most < greatest {
+        return false;
+    }
+    figures[AT_CEILING + index] <= MOST_BYTES
 }
 
 // Whether every group's do.
@@ -103,11 +108,11 @@ pub fn pages(words: &[u32]) -> usize
     metadata::pages(&words[FIGURE_WORDS..])
 }
 
-// Sets the words up for an arena of so many pages, all free, with nothing held, whatever they held.
+// Sets the words up for an arena of so many pages, all free, with nothing held and the largest ceilings, whatever they held.
 pub fn set_up(words: &mut [u32], pages: u32)
     requires { ⌜ (length (now words) ≡ allWords pages) × (0 < pages) × (pages ≤ mostPages) ⌝ }
     ensures { λ _. ⌜ now (words .exit) ≡ accountEncoding (freshAccount pages) ⌝ }
 {
-    scan::clear(&mut words[..FIGURE_WORDS]);
+    figures::set_up(&mut words[..FIGURE_WORDS]);
     metadata::set_up(&mut words[FIGURE_WORDS..], pages);
 }

@@ -1,21 +1,18 @@
--- A request by its cases: a refusal, whole pages, or a chunk. Assumes nothing.
+-- A request by its cases: whole pages, or a chunk. Assumes nothing.
 use Prim.Native.Nat.{ℕ, _*_, _≤_, _<_}
 use mathlib.Core.Path.{_≡_, refl, sym, ap, _∙_, subst}
-use mathlib.Core.Bool.{true, false}
 use mathlib.Core.List.{List}
 use native.Mathlib.Omega.{arith}
-use lib.Dec.{leb}
-use borrow.Author.Tests.{leb-true, lt-ltb, le-ltb}
-use Rattle.lemmas.proofs.Cases.{and-right}
-use Rattle.model.specs.Numbers.{pageBytes, largeSize, mostBytes, mostPages}
+use borrow.Author.Tests.{lt-ltb, le-ltb}
+use Rattle.model.specs.Numbers.{pageBytes, largeSize, mostPages}
 use Rattle.model.specs.declared.Answer.{Answer}
 use Rattle.model.specs.declared.Answer.the-variants.{Granted, Denied}
-use Rattle.model.specs.declared.Refusal.the-variants.{BadGroup, BadSize, NoRoom}
+use Rattle.model.specs.declared.Refusal.the-variants.{NoRoom}
 use Rattle.model.specs.Sizes.{classOf, room, pagesFor, roomFor}
 use Rattle.model.specs.Arena.{direct}
 use Rattle.model.specs.State.{State, listOf}
-use Rattle.model.specs.Calls.{Outcome, denies, groupOk, sizeOk}
-use Rattle.model.specs.Allocate.{sought, directFrom, wholePages, chunkFrom, supplied, allocate}
+use Rattle.model.specs.Calls.{Outcome}
+use Rattle.model.specs.Allocate.{sought, directFrom, wholePages, chunkFrom, supplied}
 use Rattle.pages.specs.declared.Choice.{Choice}
 use Rattle.pages.specs.declared.Choice.the-variants.{Chosen, Missed}
 use Rattle.metadata.specs.Encoding.{encode}
@@ -31,19 +28,7 @@ use Rattle.allocate.proofs.Places.{Free, free}
 pub made : {o o′ : Outcome State} {r : Answer} {w : List ℕ} → o ≡ o′ → Makes o r w → Makes o′ r w
 made {r} {w} e k = subst (λ o. Makes o r w) e k
 
-pub size-most : (n : ℕ) → sizeOk n ≡ true → n ≤ mostBytes
-size-most n t = leb-true n mostBytes (and-right (leb 1 n) (leb n mostBytes) t)
-
 module _ (s : State) (g n : ℕ) where
-  pub bad-group : groupOk g ≡ false → denies s BadGroup 0 ≡ allocate g n s
-  bad-group t = rw t
-
-  pub bad-size : groupOk g ≡ true → sizeOk n ≡ false → denies s BadSize 0 ≡ allocate g n s
-  bad-size t u = rw (t, u)
-
-  pub accepted : groupOk g ≡ true → sizeOk n ≡ true → supplied g n s ≡ allocate g n s
-  accepted t u = rw (t, u)
-
   pub small : (k : ℕ) → n < largeSize → k ≡ classOf n → chunkFrom k g s (listOf s k) ≡ supplied g n s
   small k h e = ap (λ j. chunkFrom j g s (listOf s j)) e ∙ rw (lt-ltb n largeSize h)
 

@@ -1,5 +1,5 @@
-// Allocation (document 01: a request), on all the words of a valid state. Each function does one rule of the model's, out of the
-// steps; the words that it leaves are those of the state that the rule makes.
+// Allocation (document 01: a request), on all the words of a valid state, once its group, size and ceiling have been tested. Each function
+// does one rule of the model's, out of the steps; the words that it leaves are those of the state that the rule makes.
 ghost use mathlib.Core.Path.{_≡_};
 ghost use Prim.Native.Nat.{_≤_, _<_};
 ghost use Rattle.model.specs.State.{listOf};
@@ -7,7 +7,7 @@ ghost use Rattle.model.specs.declared.Answer.the-variants.{Granted};
 ghost use Rattle.model.specs.Sizes.{pagesFor, roomFor};
 ghost use Rattle.model.specs.Calls.{sizeOk};
 ghost use Rattle.model.specs.Pages.{claim};
-ghost use Rattle.model.specs.Allocate.{sought, wholePages, chunkFrom, supplied, allocate as allocated};
+ghost use Rattle.model.specs.Allocate.{sought, wholePages, chunkFrom, supplied};
 ghost use Rattle.classes.specs.Table.{classFor};
 ghost use Rattle.pages.specs.declared.Choice.the-variants.{Missed};
 ghost use Rattle.pages.specs.Places.{choice};
@@ -175,9 +175,9 @@ fn pages_for(size: u32) -> u32
     (size + (PAGE_BYTES - 1)) / PAGE_BYTES
 }
 
-// A request of `size` bytes by the group: a chunk below 8,192 bytes, whole pages from there. (The group and the size have been
-// tested.)
-fn supply(words: &mut [u32], n: usize, group: u32, size: u32, class: u32) -> Answer
+// A request of `size` bytes by the group: a chunk below 8,192 bytes, whole pages from there. (The group, the size and the ceiling have
+// been tested.) The class is that of its chunk, if it takes one: it is looked up once, by the caller, who needs it for the room too.
+pub fn supply(words: &mut [u32], n: usize, group: u32, size: u32, class: u32) -> Answer
     requires { ⌜ Good (now words) n ⌝ }
     requires { ⌜ (0 < group) × (group ≤ mostGroup) × (0 < size) × (size ≤ mostBytes) × (class ≡ classFor size) ⌝ }
     ensures { λ r. ⌜ Makes (supplied group size (decode (now (words .entry)))) r (now (words .exit)) ⌝ }
@@ -200,26 +200,11 @@ pub fn room_for(size: u32, class: u32) -> u32
 }
 
 // Whether the size may be asked for.
-fn size_ok(size: u32) -> bool
+pub fn size_ok(size: u32) -> bool
     ensures { λ r. ⌜ r ≡ sizeOk size ⌝ }
 {
     if size < 1 {
         return false;
     }
     size <= MOST_BYTES
-}
-
-// The refusals of a request first, in document 01's order: 4, 5, 6. The class is that of its chunk, if it takes one: it is looked up
-// once, by the caller, who needs it again for the room.
-pub fn allocate(words: &mut [u32], n: usize, group: u32, size: u32, class: u32) -> Answer
-    requires { ⌜ Good (now words) n × (class ≡ classFor size) ⌝ }
-    ensures { λ r. ⌜ Makes (allocated group size (decode (now (words .entry)))) r (now (words .exit)) ⌝ }
-{
-    if !model::group_ok(group) {
-        return model::denied_by(Refusal::BadGroup);
-    }
-    if !size_ok(size) {
-        return model::denied_by(Refusal::BadSize);
-    }
-    supply(words, n, group, size, class)
 }

@@ -230,6 +230,14 @@ pub extern "C" fn nostrimel_listing(meta: &mut [u32], text: &mut [u8], used: &mu
     tell_length(slab::listing(meta, text), used)
 }
 
+#[no_mangle]
+pub extern "C" fn nostrimel_set_ceiling(meta: &mut [u32], group: u32, ceiling: u32) -> u32
+    ensures { λ r. ⌜ r ≡ reading (answerOf (now (meta .entry)) (rules.act (rules.ceiling group ceiling))) .refusal ⌝ }
+    ensures { λ _. ⌜ now (meta .exit) ≡ metaAfter (now (meta .entry)) (rules.act (rules.ceiling group ceiling)) ⌝ }
+{
+    refusal_of(slab::set_ceiling(meta, group, ceiling))
+}
+
 // The list is a slice of structs, which the borrow checker does not cover: the proof is by hand.
 #[no_mangle]
 pub extern "C" fn nostrimel_holdings(meta: &mut [u32], list: &mut [Holding]) -> u32

@@ -1,5 +1,5 @@
--- What the figures hold once one group's have been stepped: its own record has changed, every other group's and the words behind them are
--- as they were. Assumes nothing.
+-- What the figures hold once one group's have been stepped: its own record has changed, or its ceiling; every other group's, and the words
+-- behind them, are as they were. Assumes nothing.
 use Prim.Native.Nat.{ℕ, _+_, _-_, _≤_, _<_, max}
 use mathlib.Core.Path.{_≡_, refl, ap, _∙_, subst}
 use mathlib.Core.Bool.{Bool, true, false, cond}
@@ -12,8 +12,8 @@ use Rattle.lemmas.proofs.Cases.{by-eqb}
 use Rattle.lemmas.proofs.Sets.{getD-set, set-same}
 use Rattle.model.specs.Numbers.{mostGroup, figureWords}
 use Rattle.model.specs.declared.Holding.{Holding}
-use Rattle.figures.specs.Encoding.{atHeld, atGreatest, atRest, recordIn}
-use Rattle.figures.specs.Steps.{added, taken, cleared}
+use Rattle.figures.specs.Encoding.{atHeld, atGreatest, atCeiling, atRest, recordIn, ceilingIn}
+use Rattle.figures.specs.Steps.{added, taken, cleared, capped}
 
 -- The group at the index i holds b, h and g.
 abbrev stored : List ℕ → ℕ → ℕ → ℕ → ℕ → List ℕ
@@ -56,14 +56,14 @@ module _ (w : List ℕ) (long : length w ≡ figureWords) (i : ℕ) (l : i < mos
         choice true = refl
         choice false = refl
 
-  stored-rest : (k : ℕ) → atRest ≤ k → getD (stored w i b h g) k 0 ≡ getD w k 0
+  stored-rest : (k : ℕ) → atCeiling ≤ k → getD (stored w i b h g) k 0 ≡ getD w k 0
   stored-rest k m = stored-at k ∙ rw (ne-eqb k (atGreatest + i) (λ q. omega arith), ne-eqb k (atHeld + i) (λ q. omega arith), ne-eqb k i (λ q. omega arith))
 
--- What a step leaves: the record of the group at the index i is now x.
+-- What a step leaves: the record of the group at the index i is now x. The ceilings stay.
 pub record Stepped (w v : List ℕ) (i : ℕ) (x : Holding) : Type 0 where
   pub long : length v ≡ figureWords
   pub records : (j : ℕ) → j < mostGroup → recordIn v j ≡ cond (eqb j i) x (recordIn w j)
-  pub rest : (k : ℕ) → atRest ≤ k → getD v k 0 ≡ getD w k 0
+  pub rest : (k : ℕ) → atCeiling ≤ k → getD v k 0 ≡ getD w k 0
 
 module _ (w : List ℕ) (long : length w ≡ figureWords) (i : ℕ) (l : i < mostGroup) where
   all-stored : (b h g : ℕ) → Stepped w (stored w i b h g) i (record { blocks = b; held = h; greatest = g })
@@ -87,3 +87,26 @@ module _ (w : List ℕ) (long : length w ≡ figureWords) (i : ℕ) (l : i < mos
 
   pub cleared-steps : Stepped w (cleared i w) i (record { blocks = 0; held = 0; greatest = recordIn w i .greatest })
   cleared-steps = two-stored 0 0
+
+-- What another ceiling c of the group at the index i leaves.
+pub record Capped (w v : List ℕ) (i c : ℕ) : Type 0 where
+  pub long : length v ≡ figureWords
+  pub records : (j : ℕ) → j < mostGroup → recordIn v j ≡ recordIn w j
+  pub ceilings : (j : ℕ) → ceilingIn v j ≡ cond (eqb j i) c (ceilingIn w j)
+  pub rest : (k : ℕ) → atRest ≤ k → getD v k 0 ≡ getD w k 0
+
+pub capped-steps : (w : List ℕ) → length w ≡ figureWords → (i : ℕ) → i < mostGroup → (c : ℕ) → Capped w (capped i c w) i c
+capped-steps w long i l c = record {
+  long = length-set w (atCeiling + i) c ∙ long;
+  records = λ j m n. record { blocks = other j (omega arith) n; held = other (atHeld + j) (omega arith) n; greatest = other (atGreatest + j) (omega arith) n };
+  ceilings = λ j. by-eqb (λ t. ceilingIn (capped i c w) j ≡ cond t c (ceilingIn w j)) j i
+      (λ e. at (atCeiling + j) ∙ rw (eq-eqb (atCeiling + j) (atCeiling + i) (omega arith)))
+      (λ e. at (atCeiling + j) ∙ rw (ne-eqb (atCeiling + j) (atCeiling + i) (λ q. e (omega arith))));
+  rest = λ k m. at k ∙ rw (ne-eqb k (atCeiling + i) (λ q. omega arith));
+}
+  where
+    at : (k : ℕ) → getD (capped i c w) k 0 ≡ cond (eqb k (atCeiling + i)) c (getD w k 0)
+    at k = getD-set w (atCeiling + i) k c 0 (omega arith)
+
+    other : (k : ℕ) → k < atCeiling → getD (capped i c w) k 0 ≡ getD w k 0
+    other k m = at k ∙ rw (ne-eqb k (atCeiling + i) (λ q. omega arith))

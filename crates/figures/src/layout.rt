@@ -5,4 +5,6 @@ pub const AT_HELD: usize = GROUPS;
 
 pub const AT_GREATEST: usize = AT_HELD + GROUPS;
 
-pub const AT_REST: usize = AT_GREATEST + GROUPS;
+pub const AT_CEILING: usize = AT_GREATEST + GROUPS;
+
+pub const AT_REST: usize = AT_CEILING + GROUPS;

@@ -1,11 +1,12 @@
-// The figures of one group, stepped: a block more, a block less, none left. Each function is lent the words of the figures and no others,
+// The figures of one group, stepped: a block more, a block less, none left, another ceiling. Each function is lent the words of the figures and no others,
 // and stores into those of the group at the index alone.
 ghost use mathlib.Core.Path.{_≡_};
 ghost use Prim.Native.Nat.{_+_, _≤_, _<_, max};
 ghost use lib.ListN.{length};
 ghost use Rattle.model.specs.Numbers.{mostGroup, mostBytes, figureWords};
 ghost use Rattle.figures.specs.Encoding.{recordIn};
-ghost use Rattle.figures.specs.Steps.{added, taken, cleared};
+ghost use Rattle.figures.specs.Steps.{added, taken, cleared, capped};
+use crate::layout::AT_CEILING;
 use crate::layout::AT_GREATEST;
 use crate::layout::AT_HELD;
 
@@ -52,4 +53,12 @@ pub fn clear(words: &mut [u32], index: usize)
 {
     words[index] = 0;
     words[AT_HELD + index] = 0;
+}
+
+// The group's ceiling is another.
+pub fn cap(words: &mut [u32], index: usize, ceiling: u32)
+    requires { ⌜ (length (now words) ≡ figureWords) × (index < mostGroup) ⌝ }
+    ensures { λ _. ⌜ now (words .exit) ≡ capped index ceiling (now (words .entry)) ⌝ }
+{
+    words[AT_CEILING + index] = ceiling;
 }

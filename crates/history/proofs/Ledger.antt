@@ -6,25 +6,25 @@ use mathlib.Core.Logic.{_⊎_, inl, inr}
 use mathlib.Core.List.{List, [], _∷_, map, List·Memᴰ, List·Memᴰ·not-nil, List·Memᴰ·head, List·Memᴰ·tail, List·Memᴰ·cases-cons, Memᴰ·map, Memᴰ·of-map}
 use mathlib.Core.Option.{Option, none, some}
 use mathlib.Core.Bool.{Bool, cond, not}
-use lib.Dec.{leb, eqb}
-use lib.ListN.{length}
+use lib.Dec.{eqb}
 use borrow.Author.Tests.{eqb-true, eqb-false, eq-eqb, ne-eqb}
 use Rattle.lemmas.specs.Keep.{keep}
 use Rattle.lemmas.proofs.Cases.{bool, some-inj, none-some}
-use Rattle.model.specs.Numbers.{mostGroup}
 use Rattle.model.specs.declared.Operation.{Operation}
 use Rattle.model.specs.declared.Operation.the-variants.{Allocate, Free, Reset}
 use Rattle.model.specs.Sizes.{roomFor}
 use Rattle.model.specs.Arena.{total}
 use Rattle.model.specs.State.{State}
 use Rattle.model.specs.PageMap.{PageMap, pageMap, Block, groupOf, roomOf, blockAt}
+use Rattle.model.specs.Holdings.{Account, ceilingOf}
 use Rattle.model.specs.Valid.{Valid}
-use Rattle.model.specs.Calls.{Action, group, trim, query, listing, holdings, Outcome, grantOf, groupOk}
+use Rattle.model.specs.Calls.{Action, group, trim, query, listing, holdings, ceiling, Outcome, grantOf, groupOk}
 use Rattle.model.specs.Free.{freeBlock, free, reset}
 use Rattle.model.specs.Trim.{trimmed}
-use Rattle.model.specs.Listing.{listingText}
 use Rattle.model.specs.Perform.{asked, serve}
 use Rattle.model.proofs.Trimmed.{trimmed-still}
+use Rattle.model.proofs.Ceilings.{setting-same}
+use Rattle.model.proofs.Validity.{list-same, fetch-same}
 use Rattle.model.proofs.Allocated.{Allocated, gives, denies, allocated, group-least}
 use Rattle.model.proofs.Freed.{freed-only}
 use Rattle.model.proofs.Reset.{isOf, without, reset-blocks}
@@ -221,15 +221,20 @@ module _ (n : ℕ) (s : State) (l : List Entry) (v : Valid s) (agree : (o : ℕ)
     change = equal refl;
   }
 
-  after-operation : (g : ℕ) (q : Operation) → After n s l (ofOperation g q ((asked g q s) .answer)) ((asked g q s) .after)
-  after-operation g (Allocate k) = after-allocate g k _ (allocated s v g k)
-  after-operation g (Free o) = after-free g o
-  after-operation g Reset = after-reset g
+  after-operation : (c g : ℕ) (q : Operation) → After n s l (ofOperation g q ((asked c g q s) .answer)) ((asked c g q s) .after)
+  after-operation c g (Allocate k) = after-allocate g k _ (allocated s v c g k)
+  after-operation c g (Free o) = after-free g o
+  after-operation c g Reset = after-reset g
 
-  -- Every call on a valid state.
-  pub after-action : (a : Action) → After n s l (ofAction a ((serve s a) .answer)) ((serve s a) .after)
-  after-action (group c) = after-operation (c .group) (c .operation)
-  after-action trim = after-trim
-  after-action (query o) = unchanged nothing s refl refl
-  after-action (listing k) = bool (leb (length (listingText (pageMap s))) k) (λ t. rw t (unchanged nothing s refl refl)) (λ t. rw t (unchanged nothing s refl refl))
-  after-action (holdings k) = bool (eqb k mostGroup) (λ t. rw t (unchanged nothing s refl refl)) (λ t. rw t (unchanged nothing s refl refl))
+-- Every call on a valid account.
+module _ (n : ℕ) (x : Account) (l : List Entry) (v : Valid (x .state)) (agree : (o : ℕ) → blockAt (pageMap (x .state)) o ≡ find o l) (single : Single l) where
+  stays : (s′ : State) → s′ ≡ x .state → After n (x .state) l nothing s′
+  stays s′ e = unchanged n (x .state) l v agree single nothing s′ refl e
+
+  pub after-action : (a : Action) → After n (x .state) l (ofAction a ((serve x a) .answer)) ((serve x a) .after .state)
+  after-action (group c) = after-operation n (x .state) l v agree single (ceilingOf x (c .group)) (c .group) (c .operation)
+  after-action trim = after-trim n (x .state) l v agree single
+  after-action (query o) = stays _ refl
+  after-action (listing k) = stays _ (list-same k (x .state))
+  after-action (holdings k) = stays _ (fetch-same k (x .state))
+  after-action (ceiling g c) = stays _ (setting-same g c x)

@@ -4,6 +4,8 @@ pub mod Sequence
 pub mod Ledger
 pub mod Growth
 pub mod Summed
+pub mod Ceilings
 pub mod Theorem
+pub mod Within
 pub mod Model
 pub mod Second

@@ -11,7 +11,7 @@ use Rattle.lemmas.proofs.Cases.{bool, either, true-false}
 use Rattle.model.specs.Numbers.{pageBytes}
 use Rattle.model.specs.declared.Operation.{Operation}
 use Rattle.model.specs.declared.Operation.the-variants.{Allocate, Free, Reset}
-use Rattle.model.specs.declared.Refusal.the-variants.{BadGroup, BadSize, NoRoom, NoBlock, OtherGroup}
+use Rattle.model.specs.declared.Refusal.the-variants.{BadGroup, BadSize, OverCeiling, NoRoom, NoBlock, OtherGroup}
 use Rattle.model.specs.declared.Answer.{Answer}
 use Rattle.model.specs.declared.Answer.the-variants.{Granted, Denied, Refused, Done}
 use Rattle.model.specs.Sizes.{pagesFor}
@@ -20,6 +20,7 @@ use Rattle.model.specs.State.{State}
 use Rattle.model.specs.PageMap.{occupancy, PageMap, pageMap, Block, whole, chunk, groupOf, blockAt}
 use Rattle.model.specs.Pages.{FreeRun, Search, onward, followed, claim, carve, release}
 use Rattle.model.specs.Calls.{Outcome, isRefused, groupOk, sizeOk}
+use Rattle.model.specs.Ceilings.{within}
 use Rattle.model.specs.Allocate.{Source, foundIn, sought, directFrom, allocate}
 use Rattle.model.specs.Trim.{trimmed}
 use Rattle.model.specs.Free.{freeBlock, free}
@@ -50,16 +51,19 @@ abbrev sayFree : ℕ → Option Block → Answer
 sayFree g none = Refused NoBlock
 sayFree g (some b) = cond (eqb (groupOf b) g) Done (Refused OtherGroup)
 
--- The page map after such a call, and the answer. (A reset is none of these calls.)
-abbrev pub mapAfter : PageMap → ℕ → Operation → PageMap
-mapAfter m g (Allocate n) = cond (groupOk g) (cond (sizeOk n) (mapDirect (pagesFor n) g m (claim (pagesFor n) m .chosen)) m) m
-mapAfter m g (Free o) = cond (groupOk g) (mapFree g o m (blockAt m o)) m
-mapAfter m g Reset = m
+-- The page map after such a call by a group whose ceiling is c, and the answer. (A reset is none of these calls.)
+abbrev pub mapAfter : ℕ → PageMap → ℕ → Operation → PageMap
+mapAfter c m g (Allocate n) = cond (groupOk g) (cond (sizeOk n) (cond (within c g n m) (mapDirect (pagesFor n) g m (claim (pagesFor n) m .chosen)) m) m) m
+mapAfter c m g (Free o) = cond (groupOk g) (mapFree g o m (blockAt m o)) m
+mapAfter c m g Reset = m
 
-abbrev pub sayAt : PageMap → ℕ → Operation → Answer
-sayAt m g (Allocate n) = cond (groupOk g) (cond (sizeOk n) (let l = claim (pagesFor n) m in sayDirect (l .looked) (l .chosen)) (Denied BadSize 0)) (Denied BadGroup 0)
-sayAt m g (Free o) = cond (groupOk g) (sayFree g (blockAt m o)) (Refused BadGroup)
-sayAt m g Reset = Done
+abbrev pub sayAt : ℕ → PageMap → ℕ → Operation → Answer
+sayAt c m g (Allocate n) =
+    cond (groupOk g)
+    (cond (sizeOk n) (cond (within c g n m) (let l = claim (pagesFor n) m in sayDirect (l .looked) (l .chosen)) (Denied OverCeiling 0)) (Denied BadSize 0))
+    (Denied BadGroup 0)
+sayAt c m g (Free o) = cond (groupOk g) (sayFree g (blockAt m o)) (Refused BadGroup)
+sayAt c m g Reset = Done
 
 -- A request from 8,192 bytes up, or a return by which no chunk comes back, on a state.
 abbrev pub AllowedOn : State → ℕ → Operation → Type 0
@@ -67,8 +71,8 @@ AllowedOn s g (Allocate n) = 8192 ≤ n
 AllowedOn s g (Free o) = (c i h : ℕ) → blockAt (pageMap s) o ≡ some (chunk c i h) → isRefused ((free g o s) .answer) ≡ true
 AllowedOn s g Reset = ⊥
 
-free-says : (s : State) (g o : ℕ) → (free g o s) .answer ≡ sayAt (pageMap s) g (Free o)
-free-says s g o = bool (groupOk g) (λ t. rw t (go (blockAt (pageMap s) o))) (λ t. rw t)
+free-says : (s : State) (c g o : ℕ) → (free g o s) .answer ≡ sayAt c (pageMap s) g (Free o)
+free-says s c g o = bool (groupOk g) (λ t. rw t (go (blockAt (pageMap s) o))) (λ t. rw t)
   where
     go : (b : Option Block) → (freeBlock g o s b) .answer ≡ sayFree g b
     go none = refl
@@ -101,44 +105,47 @@ direct-says : (s : State) (n g k : ℕ) (h : Option FreeRun) → (directTwice s 
 direct-says s n g k none = refl
 direct-says s n g k (some h) = refl
 
-allocate-both : (s : State) (g n : ℕ) → Neat false (pageMap s) → 8192 ≤ n → (pageMap ((allocate g n s) .after) ≡ mapAfter (pageMap s) g (Allocate n)) × ((allocate g n s) .answer ≡ sayAt (pageMap s) g (Allocate n))
-allocate-both s g n k h = rw (le-ltb n 8192 h) (bool (groupOk g)
+allocate-both : (s : State) (c g n : ℕ) → Neat false (pageMap s) → 8192 ≤ n →
+    (pageMap ((allocate c g n s) .after) ≡ mapAfter c (pageMap s) g (Allocate n)) × ((allocate c g n s) .answer ≡ sayAt c (pageMap s) g (Allocate n))
+allocate-both s c g n k h = bool (groupOk g)
     (λ t. rw t (bool (sizeOk n)
-    (λ u. rw (u, neat-sought s (pagesFor n) k, claim-retold occupancy (pagesFor n) (s .segments))
+    (λ u. rw u (bool (within c g n (pageMap s))
+    (λ r. rw (r, le-ltb n 8192 h, neat-sought s (pagesFor n) k, claim-retold occupancy (pagesFor n) (s .segments))
     (let l = claim (pagesFor n) (s .segments) in (direct-map s _ g (l .looked) (l .chosen), direct-says s _ g (l .looked) (l .chosen))))
+    (λ r. rw r (refl, refl))))
     (λ u. rw u (refl, refl))))
-    (λ t. rw t (refl, refl)))
+    (λ t. rw t (refl, refl))
 
-free-map : (s : State) (g o : ℕ) → AllowedOn s g (Free o) → pageMap ((free g o s) .after) ≡ mapAfter (pageMap s) g (Free o)
-free-map s g o a = bool (groupOk g) (λ t. rw t (go t (blockAt (pageMap s) o) refl)) (λ t. rw t)
+free-map : (s : State) (c g o : ℕ) → AllowedOn s g (Free o) → pageMap ((free g o s) .after) ≡ mapAfter c (pageMap s) g (Free o)
+free-map s k g o a = bool (groupOk g) (λ t. rw t (go t (blockAt (pageMap s) o) refl)) (λ t. rw t)
   where
     go : groupOk g ≡ true → (b : Option Block) → blockAt (pageMap s) o ≡ b → pageMap ((freeBlock g o s b) .after) ≡ mapFree g o (pageMap s) b
     go t none e = refl
     go t (some (whole n h)) e = bool (eqb h g) (λ u. rw u (release-retold occupancy o (s .segments))) (λ u. rw u)
     go t (some (chunk c i h)) e = bool (eqb h g)
-        (λ u. absurd (let r : isRefused (sayAt (pageMap s) g (Free o)) ≡ true = ap isRefused (sym (free-says s g o)) ∙ a c i h e in let f : false ≡ true = rw (t, e, u) at r in true-false f refl))
+        (λ u. absurd (let r : isRefused (sayAt k (pageMap s) g (Free o)) ≡ true = ap isRefused (sym (free-says s k g o)) ∙ a c i h e in let f : false ≡ true = rw (t, e, u) at r in true-false f refl))
         (λ u. rw u)
 
-pub call-map : (s : State) (g : ℕ) (q : Operation) → Neat false (pageMap s) → AllowedOn s g q → pageMap ((asked g q s) .after) ≡ mapAfter (pageMap s) g q
-call-map s g (Allocate n) h a = allocate-both s g n h a .0
-call-map s g (Free o) h a = free-map s g o a
-call-map s g Reset h a = absurd a
+pub call-map : (s : State) (c g : ℕ) (q : Operation) → Neat false (pageMap s) → AllowedOn s g q → pageMap ((asked c g q s) .after) ≡ mapAfter c (pageMap s) g q
+call-map s c g (Allocate n) h a = allocate-both s c g n h a .0
+call-map s c g (Free o) h a = free-map s c g o a
+call-map s c g Reset h a = absurd a
 
-pub call-says : (s : State) (g : ℕ) (q : Operation) → Neat false (pageMap s) → AllowedOn s g q → (asked g q s) .answer ≡ sayAt (pageMap s) g q
-call-says s g (Allocate n) h a = allocate-both s g n h a .1
-call-says s g (Free o) h a = free-says s g o
-call-says s g Reset h a = absurd a
+pub call-says : (s : State) (c g : ℕ) (q : Operation) → Neat false (pageMap s) → AllowedOn s g q → (asked c g q s) .answer ≡ sayAt c (pageMap s) g q
+call-says s c g (Allocate n) h a = allocate-both s c g n h a .1
+call-says s c g (Free o) h a = free-says s c g o
+call-says s c g Reset h a = absurd a
 
 -- What is allowed depends on the page map alone.
 pub allowed-same : (s t : State) (g : ℕ) (q : Operation) → pageMap s ≡ pageMap t → AllowedOn s g q → AllowedOn t g q
 allowed-same s t g (Allocate n) e a = a
-allowed-same s t g (Free o) e a = λ c i h b. cc (free-says t g o, free-says s g o, a c i h (ap (λ m. blockAt m o) e ∙ b))
+allowed-same s t g (Free o) e a = λ c i h b. cc (free-says t 0 g o, free-says s 0 g o, a c i h (ap (λ m. blockAt m o) e ∙ b))
 allowed-same s t g Reset e a = a
 
 -- A trimmed page map stays one ----------------------------------------------------------------------------------------------------
 
-pub call-neat : (s : State) (g : ℕ) (q : Operation) → Neat false (pageMap s) → AllowedOn s g q → Neat false (pageMap ((asked g q s) .after))
-call-neat s g q h a = rw (call-map s g q h a) (go q a)
+pub call-neat : (s : State) (c g : ℕ) (q : Operation) → Neat false (pageMap s) → AllowedOn s g q → Neat false (pageMap ((asked c g q s) .after))
+call-neat s k g q h a = rw (call-map s k g q h a) (go q a)
   where
     m : PageMap
     m = pageMap s
@@ -152,7 +159,11 @@ call-neat s g q h a = rw (call-map s g q h a) (go q a)
     free-neat o (some (whole n j)) = either (Neat false) (eqb j g) _ _ (λ u. release-neat o m h) (λ u. h)
     free-neat o (some (chunk c i j)) = h
 
-    go : (q : Operation) → AllowedOn s g q → Neat false (mapAfter m g q)
-    go (Allocate n) k = either (Neat false) (groupOk g) _ _ (λ t. either (Neat false) (sizeOk n) _ _ (λ u. direct-neat n k (claim (pagesFor n) m .chosen) refl) (λ u. h)) (λ t. h)
-    go (Free o) k = either (Neat false) (groupOk g) _ _ (λ t. free-neat o (blockAt m o)) (λ t. h)
-    go Reset k = absurd k
+    go : (q : Operation) → AllowedOn s g q → Neat false (mapAfter k m g q)
+    go (Allocate n) l = either (Neat false) (groupOk g) _ _
+        (λ t. either (Neat false) (sizeOk n) _ _
+        (λ u. either (Neat false) (within k g n m) _ _ (λ r. direct-neat n l (claim (pagesFor n) m .chosen) refl) (λ r. h))
+        (λ u. h))
+        (λ t. h)
+    go (Free o) l = either (Neat false) (groupOk g) _ _ (λ t. free-neat o (blockAt m o)) (λ t. h)
+    go Reset l = absurd l

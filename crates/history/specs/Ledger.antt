@@ -1,5 +1,5 @@
 -- The live blocks of a list of calls, told from the calls and their answers alone (document 01, "Demand 3, word by word"), and what
--- it is that they are those of a page map. Assumes nothing.
+-- it is that they are those of a page map; and the groups' ceilings, told so too (document 02, e). Assumes nothing.
 use Prim.Native.Nat.{ℕ}
 use mathlib.Core.Path.{_≡_}
 use mathlib.Core.Logic.{_↔_}
@@ -8,12 +8,13 @@ use mathlib.Core.Option.{Option, none, some}
 use mathlib.Core.Bool.{cond, not}
 use lib.Dec.{eqb}
 use Rattle.lemmas.specs.Keep.{keep}
+use Rattle.model.specs.Numbers.{mostBytes}
 use Rattle.model.specs.declared.Operation.{Operation}
 use Rattle.model.specs.declared.Operation.the-variants.{Allocate, Free, Reset}
 use Rattle.model.specs.declared.Answer.{Answer}
 use Rattle.model.specs.Sizes.{roomFor}
 use Rattle.model.specs.PageMap.{PageMap, Block, groupOf, roomOf, blockAt}
-use Rattle.model.specs.Calls.{Action, group, trim, query, listing, holdings, Command, init, act, isRefused, grantOf}
+use Rattle.model.specs.Calls.{Action, group, trim, query, listing, holdings, ceiling, Command, init, act, isRefused, grantOf}
 
 -- A live block: the number of the call that was granted it, its offset, its group and its room. The number tells a block from
 -- another that is granted later at the same offset.
@@ -54,6 +55,7 @@ ofAction trim a = nothing
 ofAction (query o) a = nothing
 ofAction (listing n) a = nothing
 ofAction (holdings n) a = nothing
+ofAction (ceiling g c) a = nothing
 
 abbrev pub effect : Command → Answer → Effect
 effect (init n) a = unlessRefused a begins
@@ -78,3 +80,17 @@ LiveAt m o g r = (b : Block) × (blockAt m o ≡ some b) × (groupOf b ≡ g) ×
 pub record Agrees (l : List Held) (m : PageMap) : Type 0 where
   pub blocks : (o g r : ℕ) → HeldAt l o g r ↔ LiveAt m o g r
   pub single : (h k : Held) → List·Memᴰ h l → List·Memᴰ k l → h .offset ≡ k .offset → h ≡ k
+
+-- The ceiling of the group h after a call, where those of all groups were as k tells: a start that is not refused sets every one to
+-- 1,048,576, a setting that is not refused sets that of its group, nothing else sets any.
+abbrev pub setBy : Action → Answer → (ℕ → ℕ) → ℕ → ℕ
+setBy (group c) a k h = k h
+setBy trim a k h = k h
+setBy (query o) a k h = k h
+setBy (listing n) a k h = k h
+setBy (holdings n) a k h = k h
+setBy (ceiling g c) a k h = cond (isRefused a) (k h) (cond (eqb h g) c (k h))
+
+abbrev pub ceilingBy : Command → Answer → (ℕ → ℕ) → ℕ → ℕ
+ceilingBy (init n) a k h = cond (isRefused a) (k h) mostBytes
+ceilingBy (act x) a k h = setBy x a k h

@@ -82,11 +82,11 @@ aligned n o f = record {
 }
 
 -- A grant on a valid state is aligned: the block that it makes live begins there, with that room.
-pub grant-aligned : (s : State) → Valid s → (g n o k : ℕ) → (allocate g n s) .answer ≡ Granted o k → Aligned n o
-grant-aligned s v g n o k e = aligned n o (go (allocated s v g n))
+pub grant-aligned : (s : State) → Valid s → (c g n o k : ℕ) → (allocate c g n s) .answer ≡ Granted o k → Aligned n o
+grant-aligned s v c g n o k e = aligned n o (go (allocated s v c g n))
   where
-    go : Allocated s g (roomFor n) (allocate g n s) → (d : ℕ) → pageBytes % d ≡ 0 → roomFor n % d ≡ 0 → o % d ≡ 0
+    go : Allocated s g (roomFor n) (allocate c g n s) → (d : ℕ) → pageBytes % d ≡ 0 → roomFor n % d ≡ 0 → o % d ≡ 0
     go (gives q j b a _ _ r only) d p h =
         let same : q ≡ o = cc in
-        block-aligned (pageMap ((allocate g n s) .after)) o b (cc) d p (cc)
+        block-aligned (pageMap ((allocate c g n s) .after)) o b (cc) d p (cc)
     go (denies r j a _) d p h = clash (cc)

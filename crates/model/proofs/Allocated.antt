@@ -13,7 +13,7 @@ use borrow.Author.Tests.{ltb-true, ltb-false, leb-true, ne-eqb}
 use Rattle.lemmas.proofs.Cases.{bool, and-left, and-right}
 use Rattle.model.specs.Numbers.{mostGroup, classCount, pageBytes, zonePages, mostBytes}
 use Rattle.model.specs.declared.Refusal.{Refusal}
-use Rattle.model.specs.declared.Refusal.the-variants.{BadGroup, BadSize, NoRoom}
+use Rattle.model.specs.declared.Refusal.the-variants.{BadGroup, BadSize, OverCeiling, NoRoom}
 use Rattle.model.specs.declared.Answer.the-variants.{Granted, Denied}
 use Rattle.model.specs.Sizes.{room, classOf, chunks, pagesFor, roomFor}
 use Rattle.model.specs.Arena.{Segment, direct, zone, retold}
@@ -23,6 +23,7 @@ use Rattle.model.specs.PageMap.{padded, occupancy, pageMap, Block, whole
 use Rattle.model.specs.Valid.{ValidZone, ValidSegment, Valid}
 use Rattle.model.specs.Pages.{claim}
 use Rattle.model.specs.Calls.{Outcome, groupOk, sizeOk}
+use Rattle.model.specs.Ceilings.{within}
 use Rattle.model.specs.Allocate.{Source, sought, directFrom, zoneFrom, fromSpare, served, chunkFrom, allocate}
 use Rattle.model.proofs.Sizes.{chunk-begins, chunks-least, classed}
 use Rattle.model.proofs.Arena.{locate-retold, edit-retold, each-locate}
@@ -135,11 +136,13 @@ module _ (s : State) where
         let ok : ValidZone (f .0) = each-locate ValidSegment (s .segments) (p * pageBytes) (v .sound) (f .1) in
         rw (f .1) (served-law p ps (f .0) (f .1) (f .2) (grants g least most (f .0) ok (f .3)))
 
-  pub allocated : Valid s → (g n : ℕ) → Allocated s g (roomFor n) (allocate g n s)
-  allocated v g n = bool (groupOk g)
+  pub allocated : Valid s → (c g n : ℕ) → Allocated s g (roomFor n) (allocate c g n s)
+  allocated v c g n = bool (groupOk g)
       (λ t. rw t (bool (sizeOk n)
-      (λ u. rw u (bool (ltb n 8192)
+      (λ u. rw u (bool (within c g n (pageMap s))
+      (λ r. rw r (bool (ltb n 8192)
       (λ w. rw w (chunk-law (classOf n) g (classed n (size-least n u) (ltb-true n 8192 w) .below) (group-least g t) v (group-most g t) (listOf s (classOf n)) refl))
       (λ w. rw w (direct-law _ g _ (omega (arith, ltb-false)) (sought (pagesFor n) s .chosen) refl))))
+      (λ r. rw r (denies OverCeiling 0 refl refl))))
       (λ u. rw u (denies BadSize 0 refl refl))))
       (λ t. rw t (denies BadGroup 0 refl refl))

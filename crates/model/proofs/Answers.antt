@@ -13,16 +13,17 @@ use Rattle.lemmas.proofs.Cases.{true-false, clash, some-inj, none-some}
 use Rattle.model.specs.declared.Operation.{Operation}
 use Rattle.model.specs.declared.Operation.the-variants.{Allocate, Free, Reset}
 use Rattle.model.specs.declared.Refusal.{Refusal}
-use Rattle.model.specs.declared.Refusal.the-variants.{BadPages, FewWords, NoState, BadGroup, BadSize, NoRoom, NoBlock, OtherGroup, BadList, ShortBuffer}
+use Rattle.model.specs.declared.Refusal.the-variants.{BadPages, FewWords, NoState, BadGroup, BadSize, NoRoom, NoBlock, OtherGroup, BadList, OverCeiling, ShortBuffer}
 use Rattle.model.specs.declared.Answer.{Answer}
 use Rattle.model.specs.declared.Answer.the-variants.{Granted, Denied, Refused, Done, Counted, Block}
-use Rattle.model.specs.Calls.{Action, group, trim, query, listing, holdings, number, reading, isRefused, grantOf, toldBy, refusalOf, RefusedBy, DeniedBy, GrantedAt}
+use Rattle.model.specs.Calls.{Action, group, trim, query, listing, holdings, ceiling, number, reading, isRefused, grantOf, toldBy, refusalOf, RefusedBy, DeniedBy, GrantedAt}
 
 -- The refusal with a number, if there is one.
 abbrev withNumber : ℕ → Option Refusal
 withNumber n =
     cond (eqb n 1) (some BadPages) (cond (eqb n 2) (some FewWords) (cond (eqb n 3) (some NoState) (cond (eqb n 4) (some BadGroup) (cond (eqb n 5) (some BadSize)
-    (cond (eqb n 6) (some NoRoom) (cond (eqb n 7) (some NoBlock) (cond (eqb n 8) (some OtherGroup) (cond (eqb n 9) (some BadList) (cond (eqb n 12) (some ShortBuffer) none)))))))))
+    (cond (eqb n 6) (some NoRoom) (cond (eqb n 7) (some NoBlock) (cond (eqb n 8) (some OtherGroup) (cond (eqb n 9) (some BadList) (cond (eqb n 10) (some OverCeiling)
+    (cond (eqb n 12) (some ShortBuffer) none))))))))))
 
 numbered : (k : Refusal) → withNumber (number k) ≡ some k
 numbered BadPages = refl
@@ -34,6 +35,7 @@ numbered NoRoom = refl
 numbered NoBlock = refl
 numbered OtherGroup = refl
 numbered BadList = refl
+numbered OverCeiling = refl
 numbered ShortBuffer = refl
 
 number-least : (k : Refusal) → 0 < number k
@@ -46,6 +48,7 @@ number-least NoRoom = omega arith
 number-least NoBlock = omega arith
 number-least OtherGroup = omega arith
 number-least BadList = omega arith
+number-least OverCeiling = omega arith
 number-least ShortBuffer = omega arith
 
 -- An answer is a refusal just if it has a number.
@@ -69,6 +72,7 @@ refusal-refused trim k = refl
 refusal-refused (query o) k = refl
 refusal-refused (listing n) k = refl
 refusal-refused (holdings n) k = refl
+refusal-refused (ceiling g c) k = refl
 
 -- What has the number of the refusal k is that refusal: a call's, if it has no values, or a request's, if it has a count.
 abbrev Told : Refusal → Answer → Type 0

@@ -6,16 +6,18 @@ use mathlib.Core.List.{List, [], _∷_}
 use mathlib.Core.Option.{none, Option·map}
 use mathlib.Core.Bool.{false}
 use native.Mathlib.Omega.{arith}
-use lib.Dec.{ltb}
+use lib.Dec.{ltb, leb}
 use lib.ListN.{length, replicate}
 use Rattle.lemmas.proofs.Cases.{bool, clash, none-some}
-use Rattle.model.specs.Numbers.{pageBytes, classCount, mostPages}
+use Rattle.model.specs.Numbers.{pageBytes, mostBytes, classCount, mostPages}
 use Rattle.model.specs.declared.Refusal.the-variants.{NoRoom}
 use Rattle.model.specs.declared.Answer.the-variants.{Denied}
 use Rattle.model.specs.Arena.{Segment, run, direct, zone, total, Each}
 use Rattle.model.specs.Zone.{Zone}
 use Rattle.model.specs.State.{State, Begins}
 use Rattle.model.specs.PageMap.{idleZone, shown}
+use Rattle.model.specs.Sizes.{roomFor}
+use Rattle.model.specs.Holdings.{heldOf}
 use Rattle.model.specs.Pages.{claim, hasRun, joined, mostLooked}
 use Rattle.model.specs.Listing.{runLines}
 use Rattle.model.specs.Valid.{Apart, ValidSegment, Valid}
@@ -25,6 +27,7 @@ use Rattle.model.proofs.Arena.{same-segment}
 use Rattle.model.proofs.Claim.{claim-has}
 use Rattle.model.proofs.ReadOff.{state-all}
 use Rattle.model.proofs.Sought.{sought-second}
+use Rattle.model.proofs.Supplied.{accepted}
 use Rattle.model.proofs.Validity.{bare-valid}
 
 -- n pages: a run of one page, a direct block of one page, and so on.
@@ -96,13 +99,20 @@ comb-sought n =
     ∙ (λ i. record { chosen = Option·map (foundIn (trimmed (combed n))) (again i .chosen); looked = once i .looked + again i .looked })
     ∙ (λ i. record { chosen = none; looked = (let q : mostLooked n + mostLooked n ≡ 2 * mostLooked n = omega arith in q) i })
 
--- .. and so does a request of two pages.
-pub request-met : (n : ℕ) → (allocate 1 8192 (combed n)) .answer ≡ Denied NoRoom (2 * mostLooked n)
-request-met n = ap (λ l. (directFrom 2 1 (combed n) (l .looked) (l .chosen)) .answer) (comb-sought n)
+-- .. and so does a request of two pages, by a group that holds nothing.
+comb-held : (n : ℕ) → heldOf 2 (shown (comb n)) ≡ 0
+comb-held zero = refl
+comb-held (suc zero) = refl
+comb-held (suc (suc n)) = omega (arith, comb-held n)
+
+pub request-met : (n : ℕ) → (allocate mostBytes 2 8192 (combed n)) .answer ≡ Denied NoRoom (2 * mostLooked n)
+request-met n =
+    accepted (combed n) mostBytes 2 8192 refl refl (ap (λ h. leb (h + roomFor 8192) mostBytes) (comb-held n))
+    ∙ ap (λ l. (directFrom 2 2 (combed n) (l .looked) (l .chosen)) .answer) (comb-sought n)
 
 -- The largest arenas with an odd and with an even number of pages: 256 runs are looked at in both.
-pub odd-met : (allocate 1 8192 (combed 255)) .answer ≡ Denied NoRoom 256
+pub odd-met : (allocate mostBytes 2 8192 (combed 255)) .answer ≡ Denied NoRoom 256
 odd-met = request-met 255
 
-pub even-met : (allocate 1 8192 (combed 256)) .answer ≡ Denied NoRoom 256
+pub even-met : (allocate mostBytes 2 8192 (combed 256)) .answer ≡ Denied NoRoom 256
 even-met = request-met 256

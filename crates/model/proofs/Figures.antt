@@ -58,15 +58,15 @@ pub record Gains (h : ℕ) (s t : State) (b r : ℕ) : Type 0 where
 
 module _ (s : State) (v : Valid s) (h : ℕ) (pos : 0 < h) where
   -- A grant of n bytes to the group g.
-  pub grant-gains : (g n o k : ℕ) → (allocate g n s) .answer ≡ Granted o k → Gains h s ((allocate g n s) .after) (cond (eqb g h) 1 0) (cond (eqb g h) (roomFor n) 0)
-  grant-gains g n o k e = go (allocated s v g n)
+  pub grant-gains : (c g n o k : ℕ) → (allocate c g n s) .answer ≡ Granted o k → Gains h s ((allocate c g n s) .after) (cond (eqb g h) 1 0) (cond (eqb g h) (roomFor n) 0)
+  grant-gains c g n o k e = go (allocated s v c g n)
     where
-      go : Allocated s g (roomFor n) (allocate g n s) → Gains h s ((allocate g n s) .after) (cond (eqb g h) 1 0) (cond (eqb g h) (roomFor n) 0)
+      go : Allocated s g (roomFor n) (allocate c g n s) → Gains h s ((allocate c g n s) .after) (cond (eqb g h) 1 0) (cond (eqb g h) (roomFor n) 0)
       go (denies i j ans st) = true-false (ap isRefused ans) (ap isRefused e)
       go (gives q j b ans fresh grp rm only) =
-          let u = allocate-valid s v g n in record {
-            blocks = block-more by-one h pos s ((allocate g n s) .after) v u q b fresh only ∙ ap (λ i. blocksOf h (pageMap s) + cond (eqb i h) 1 0) grp;
-            held = block-more by-room h pos s ((allocate g n s) .after) v u q b fresh only
+          let u = allocate-valid s v c g n in record {
+            blocks = block-more by-one h pos s ((allocate c g n s) .after) v u q b fresh only ∙ ap (λ i. blocksOf h (pageMap s) + cond (eqb i h) 1 0) grp;
+            held = block-more by-room h pos s ((allocate c g n s) .after) v u q b fresh only
                 ∙ (λ i. heldOf h (pageMap s) + cond (eqb (grp i) h) (rm i) 0);
           }
 

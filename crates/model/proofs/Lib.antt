@@ -15,6 +15,7 @@ pub mod Freed
 pub mod Reset
 pub mod Moves
 pub mod ValidTrim
+pub mod Ceilings
 pub mod ValidAllocate
 pub mod ValidFree
 pub mod Validity

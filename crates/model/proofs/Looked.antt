@@ -9,7 +9,7 @@ use native.Mathlib.Omega.{arith}
 use lib.Dec.{leb, eqb}
 use lib.ListN.{length}
 use Rattle.lemmas.proofs.Cases.{bool}
-use Rattle.model.specs.Numbers.{mostGroup, mostPages}
+use Rattle.model.specs.Numbers.{mostGroup, mostBytes, mostPages}
 use Rattle.model.specs.declared.Call.{Call}
 use Rattle.model.specs.declared.Operation.{Operation}
 use Rattle.model.specs.declared.Operation.the-variants.{Allocate, Free, Reset}
@@ -18,7 +18,7 @@ use Rattle.model.specs.declared.Refusal.the-variants.{NoState}
 use Rattle.model.specs.Arena.{Segment, run, direct, zone, pages, total, Each}
 use Rattle.model.specs.Zone.{Zone}
 use Rattle.model.specs.State.{State}
-use Rattle.model.specs.Holdings.{Account}
+use Rattle.model.specs.Holdings.{Account, ceilingOf}
 use Rattle.model.specs.PageMap.{pageMap, idleZone, Block, groupOf, blockAt}
 use Rattle.model.specs.Pages.{FreeRun, claim, mostLooked}
 use Rattle.model.specs.Valid.{Apart, ValidSegment, Valid}
@@ -26,7 +26,8 @@ use Rattle.model.specs.Trim.{trimmed, described}
 use Rattle.model.specs.Free.{freeBlock, free}
 use Rattle.model.specs.Listing.{listingText}
 use Rattle.model.specs.Perform.{asked, serve, Metadata, allWords, onAccount, perform}
-use Rattle.model.specs.Calls.{Action, group, trim, query, listing, holdings, Command, init, act, lookedOf, toldBy, refusalOf, groupOk, sizeOk}
+use Rattle.model.specs.Calls.{Action, group, trim, query, listing, holdings, ceiling, Command, init, act, lookedOf, toldBy, refusalOf, groupOk, sizeOk}
+use Rattle.model.specs.Ceilings.{within}
 use Rattle.model.specs.Allocate.{Source, searched, sought, supplied, needed, looksFor, allocate}
 use Rattle.model.proofs.Claim.{claim-bounded}
 use Rattle.model.proofs.Joins.{total-joined}
@@ -48,11 +49,13 @@ module _ (s : State) where
       go (at-hand q e a) = ap lookedOf a ∙ ap (λ o. some (looksFor o s)) (sym e)
       go (from-runs k e pos a) = ap lookedOf a ∙ both (sought k s .looked) (sought k s .chosen) ∙ ap (λ o. some (looksFor o s)) (sym e)
 
-  -- Every answer to a request has a count: that of the searches for the pages that it needs; 0 where it needs none, and where its group
-  -- or size is not legal.
-  pub counted : (g n : ℕ) → lookedOf ((allocate g n s) .answer) ≡ some (cond (groupOk g && sizeOk n) (looksFor (needed n s) s) 0)
-  counted g n = bool (groupOk g)
-      (λ t. bool (sizeOk n) (λ u. rw (t, u) (supplied-counted g n)) (λ u. rw (t, u)))
+  -- Every answer to a request has a count: that of the searches for the pages that it needs; 0 where it needs none, where its group or
+  -- size is not legal, and where it would pass the ceiling.
+  pub counted : (c g n : ℕ) → lookedOf ((allocate c g n s) .answer) ≡ some (cond (groupOk g && sizeOk n && within c g n (pageMap s)) (looksFor (needed n s) s) 0)
+  counted c g n = bool (groupOk g)
+      (λ t. bool (sizeOk n)
+      (λ u. bool (within c g n (pageMap s)) (λ r. rw (t, u, r) (supplied-counted g n)) (λ r. rw (t, u, r)))
+      (λ u. rw (t, u)))
       (λ t. rw t)
 
 -- Nothing else has one -------------------------------------------------------------------------------------------------
@@ -73,17 +76,18 @@ module _ (s : State) where
   query-uncounted none = refl
   query-uncounted (some b) = refl
 
-  asked-uncounted : (c : Call) (q : Operation) → c .operation ≡ q → NoRequest (act (group c)) → lookedOf ((asked (c .group) q s) .answer) ≡ none
-  asked-uncounted c (Allocate n) e f = absurd (f (c .group) n (λ i. act (group (record { group = c .group; operation = e i }))))
-  asked-uncounted c (Free o) e f = free-uncounted (c .group) o
-  asked-uncounted c Reset e f = bool (groupOk (c .group)) (λ t. rw t) (λ t. rw t)
+  asked-uncounted : (b : ℕ) (c : Call) (q : Operation) → c .operation ≡ q → NoRequest (act (group c)) → lookedOf ((asked b (c .group) q s) .answer) ≡ none
+  asked-uncounted b c (Allocate n) e f = absurd (f (c .group) n (λ i. act (group (record { group = c .group; operation = e i }))))
+  asked-uncounted b c (Free o) e f = free-uncounted (c .group) o
+  asked-uncounted b c Reset e f = bool (groupOk (c .group)) (λ t. rw t) (λ t. rw t)
 
-  serve-uncounted : (a : Action) → NoRequest (act a) → lookedOf ((serve s a) .answer) ≡ none
-  serve-uncounted (group c) f = asked-uncounted c (c .operation) refl f
-  serve-uncounted trim f = refl
-  serve-uncounted (query o) f = query-uncounted (blockAt (pageMap s) o)
-  serve-uncounted (listing n) f = bool (leb (length (listingText (pageMap s))) n) (λ t. rw t) (λ t. rw t)
-  serve-uncounted (holdings n) f = bool (eqb n mostGroup) (λ t. rw t) (λ t. rw t)
+serve-uncounted : (x : Account) (a : Action) → NoRequest (act a) → lookedOf ((serve x a) .answer) ≡ none
+serve-uncounted x (group c) f = asked-uncounted (x .state) (ceilingOf x (c .group)) c (c .operation) refl f
+serve-uncounted x trim f = refl
+serve-uncounted x (query o) f = query-uncounted (x .state) (blockAt (pageMap (x .state)) o)
+serve-uncounted x (listing n) f = bool (leb (length (listingText (pageMap (x .state)))) n) (λ t. rw t) (λ t. rw t)
+serve-uncounted x (holdings n) f = bool (eqb n mostGroup) (λ t. rw t) (λ t. rw t)
+serve-uncounted x (ceiling g c) f = bool (groupOk g) (λ t. bool (leb c mostBytes) (λ u. rw (t, u)) (λ u. rw (t, u))) (λ t. rw t)
 
 refusal-uncounted : (a : Action) (k : Refusal) → NoRequest (act a) → lookedOf (refusalOf a k) ≡ none
 refusal-uncounted (group c) k f = go (c .operation) refl
@@ -96,6 +100,7 @@ refusal-uncounted trim k f = refl
 refusal-uncounted (query o) k f = refl
 refusal-uncounted (listing n) k f = refl
 refusal-uncounted (holdings n) k f = refl
+refusal-uncounted (ceiling g c) k f = refl
 
 pub uncounted : (m : Metadata) (c : Command) → NoRequest c → lookedOf ((perform m c) .answer) ≡ none
 uncounted m (init n) f = bool (leb 1 n && leb n mostPages) (λ t. bool (leb (allWords n) (m .words)) (λ u. rw (t, u)) (λ u. rw (t, u))) (λ t. rw t)
@@ -103,7 +108,7 @@ uncounted m (act a) f = go (m .account)
   where
     go : (x : Option Account) → lookedOf ((onAccount m a x) .answer) ≡ none
     go none = refusal-uncounted a NoState f
-    go (some b) = serve-uncounted (b .state) a f
+    go (some b) = serve-uncounted b a f
 
 -- The bounds -------------------------------------------------------------------------------------------------------------
 
@@ -136,5 +141,7 @@ module _ (s : State) (v : Valid s) where
   looks-bounded (some k) = sought-bounded k
 
   -- A request.
-  pub request-bounded : (g n : ℕ) → (k : ℕ) × (lookedOf ((allocate g n s) .answer) ≡ some k) × (k ≤ 2 * mostLooked (total (s .segments)))
-  request-bounded g n = (cond (groupOk g && sizeOk n) (looksFor (needed n s) s) 0, counted s g n, bool (groupOk g && sizeOk n) (λ t. rw t (looks-bounded (needed n s))) (λ t. rw t (omega arith)))
+  pub request-bounded : (c g n : ℕ) → (k : ℕ) × (lookedOf ((allocate c g n s) .answer) ≡ some k) × (k ≤ 2 * mostLooked (total (s .segments)))
+  request-bounded c g n =
+      let t = groupOk g && sizeOk n && within c g n (pageMap s) in
+      (cond t (looksFor (needed n s) s) 0, counted s c g n, bool t (λ e. rw e (looks-bounded (needed n s))) (λ e. rw e (omega arith)))

@@ -17,6 +17,7 @@ use Rattle.model.specs.Pages.{FreeRun, Search, claim}
 use Rattle.model.specs.Trim.{trimmed}
 use Rattle.model.specs.Listing.{runLines}
 use Rattle.model.specs.Calls.{groupOk, sizeOk}
+use Rattle.model.specs.Ceilings.{within}
 use Rattle.model.specs.Allocate.{Source, foundIn, sought, supplied, needed, allocate}
 use Rattle.model.proofs.Claim.{TooShort, FirstLine, claim-line, claim-all, claim-retold}
 use Rattle.model.proofs.Sought.{sought-first, sought-second}
@@ -72,9 +73,9 @@ module _ (s : State) (k : ℕ) where
       go none c = again-read c (claim k (trimmed s .segments) .chosen) refl
       go (some h) c = first h (claim k (s .segments) .looked) (state-line k s h c) (ap answered (sought-first k s h c))
 
-pub read-off : (s : State) (g n k : ℕ) → groupOk g ≡ true → sizeOk n ≡ true → needed n s ≡ some k → ReadOff s k ((allocate g n s) .answer)
-read-off s g n k t u e = go (supply s g n)
+pub read-off : (s : State) (c g n k : ℕ) → groupOk g ≡ true → sizeOk n ≡ true → within c g n (pageMap s) ≡ true → needed n s ≡ some k → ReadOff s k ((allocate c g n s) .answer)
+read-off s c g n k t u r e = go (supply s g n)
   where
-    go : Supply s (needed n s) ((supplied g n s) .answer) → ReadOff s k ((allocate g n s) .answer)
+    go : Supply s (needed n s) ((supplied g n s) .answer) → ReadOff s k ((allocate c g n s) .answer)
     go (at-hand q f a) = none-some (sym f ∙ e)
-    go (from-runs j f pos a) = subst (ReadOff s k) (sym (accepted s g n t u ∙ a)) (subst (λ i. ReadOff s i (answered s j (sought j s))) (some-inj (sym f ∙ e)) (sought-read s j))
+    go (from-runs j f pos a) = subst (ReadOff s k) (sym (accepted s c g n t u r ∙ a)) (subst (λ i. ReadOff s i (answered s j (sought j s))) (some-inj (sym f ∙ e)) (sought-read s j))

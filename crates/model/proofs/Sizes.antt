@@ -8,8 +8,8 @@ use native.Mathlib.Nat.{div-add-mod', mod-lt, mul-div-cancel, div-mul-le-self, m
 use lib.Dec.{ltb}
 use borrow.Author.Tests.{ltb-true, ltb-false}
 use Rattle.lemmas.proofs.Cases.{bool}
-use Rattle.model.specs.Numbers.{classCount, zoneBytes}
-use Rattle.model.specs.Sizes.{step, rounded, classOf, room, chunks}
+use Rattle.model.specs.Numbers.{largeSize, mostBytes, classCount, zoneBytes}
+use Rattle.model.specs.Sizes.{step, rounded, classOf, room, chunks, roomFor}
 
 -- A claim about a choice by a test, from its two sides.
 by-row {ℓ} : (P : ℕ → Type ℓ) (n k x y : ℕ) → (n < k → P x) → (k ≤ n → P y) → P (cond (ltb n k) x y)
@@ -112,6 +112,12 @@ classed n p h =
     bool (ltb n 2048) (λ x. in-row n 128 32 8 16 (rw (t, u, v, w, x)) (rw (t, u, v, w, x) (omega arith)) (omega (arith, ltb-true, ltb-false))) λ x.
     bool (ltb n 4096) (λ y. in-row n 256 40 8 16 (rw (t, u, v, w, x, y)) (rw (t, u, v, w, x, y) (omega arith)) (omega (arith, ltb-true, ltb-false))) λ y.
     in-row n 512 48 8 16 (rw (t, u, v, w, x, y)) (rw (t, u, v, w, x, y) (omega arith)) (omega (arith, ltb-false))
+
+-- No room is more than the largest size.
+pub room-fits : (n : ℕ) → 0 < n → n ≤ mostBytes → roomFor n ≤ mostBytes
+room-fits n p h = bool (ltb n largeSize)
+    (λ t. rw t (omega (arith, room-most (classOf n) (classed n p (ltb-true n largeSize t) .below))))
+    (λ t. rw t (omega arith))
 
 -- Chunk i of a zone lies inside the zone.
 pub chunk-inside : (c i : ℕ) → i < chunks c → i * room c + room c ≤ zoneBytes

@@ -15,7 +15,9 @@ use Rattle.model.specs.declared.Answer.{Answer}
 use Rattle.model.specs.declared.Answer.the-variants.{Granted, Denied}
 use Rattle.model.specs.Sizes.{classOf, pagesFor}
 use Rattle.model.specs.State.{State, listOf}
+use Rattle.model.specs.PageMap.{pageMap}
 use Rattle.model.specs.Calls.{groupOk, sizeOk}
+use Rattle.model.specs.Ceilings.{within}
 use Rattle.model.specs.Allocate.{Source, sought, directFrom, zoneFrom, fromSpare, chunkFrom, supplied, zoneNeeded, needed, allocate}
 
 -- The answer where pages are needed: what was found, after k runs.
@@ -49,6 +51,6 @@ module _ (s : State) where
       (λ t. rw t (chunk-supply (classOf n) g (listOf s (classOf n)) (s .spare) refl))
       (λ t. rw t (from-runs (pagesFor n) refl (omega (arith, ltb-false)) (direct-told (pagesFor n) g (sought (pagesFor n) s .looked) (sought (pagesFor n) s .chosen))))
 
-  -- A request of a legal group and size is answered so.
-  pub accepted : (g n : ℕ) → groupOk g ≡ true → sizeOk n ≡ true → (allocate g n s) .answer ≡ (supplied g n s) .answer
-  accepted g n t u = rw (t, u)
+  -- A request of a legal group and size, within the ceiling, is answered so.
+  pub accepted : (c g n : ℕ) → groupOk g ≡ true → sizeOk n ≡ true → within c g n (pageMap s) ≡ true → (allocate c g n s) .answer ≡ (supplied g n s) .answer
+  accepted c g n t u r = rw (t, u, r)

@@ -1,6 +1,6 @@
 -- Every call keeps the arena's pages: it covers as many after as before. Assumes nothing.
 use Prim.Native.Nat.{ℕ}
-use mathlib.Core.Path.{_≡_, refl, sym, _∙_}
+use mathlib.Core.Path.{_≡_, refl, sym, _∙_, ap}
 use mathlib.Core.Option.{Option, none, some}
 use mathlib.Core.Bool.{Bool, true, false}
 use native.Mathlib.Omega.{arith}
@@ -12,15 +12,17 @@ use Rattle.model.specs.declared.Operation.the-variants.{Allocate, Free, 
 use Rattle.model.specs.declared.Answer.{Answer}
 use Rattle.model.specs.Arena.{total}
 use Rattle.model.specs.State.{State}
+use Rattle.model.specs.Holdings.{Account, ceilingOf}
 use Rattle.model.specs.PageMap.{occupancy, pageMap, idleZone, Block, groupOf, blockAt}
 use Rattle.model.specs.Valid.{Valid}
-use Rattle.model.specs.Calls.{Action, group, trim, query, listing, holdings, Outcome, provided, groupOk}
+use Rattle.model.specs.Calls.{Action, group, trim, query, listing, holdings, ceiling, Outcome, provided, groupOk}
 use Rattle.model.specs.Allocate.{allocate}
 use Rattle.model.specs.Free.{freed, freeBlock, free, freedAll, offsetsOf}
 use Rattle.model.specs.Listing.{listingText}
 use Rattle.model.specs.Perform.{asked, serve}
 use Rattle.model.proofs.Arena.{total-retold}
 use Rattle.model.proofs.Joins.{total-joined}
+use Rattle.model.proofs.Ceilings.{setting-same}
 use Rattle.model.proofs.Allocated.{Allocated, gives, denies, allocated}
 use Rattle.model.proofs.Freed.{freed-only}
 use Rattle.model.proofs.Reset.{freedAll-blocks}
@@ -37,11 +39,11 @@ guarded : (b : Bool) (k : Answer) (s : State) (r : Outcome State) → Same s (r 
 guarded true k s r h = h
 guarded false k s r h = refl
 
-allocate-total : (s : State) → Valid s → (g n : ℕ) → Same s ((allocate g n s) .after)
-allocate-total s h g n = go (allocated s h g n)
+allocate-total : (s : State) → Valid s → (c g n : ℕ) → Same s ((allocate c g n s) .after)
+allocate-total s h c g n = go (allocated s h c g n)
   where
-    go : {r : ℕ} → Allocated s g r (allocate g n s) → Same s ((allocate g n s) .after)
-    go (gives o k b ans fresh grp rm only) = map-same s ((allocate g n s) .after) (only .2)
+    go : {r : ℕ} → Allocated s g r (allocate c g n s) → Same s ((allocate c g n s) .after)
+    go (gives o k b ans fresh grp rm only) = map-same s ((allocate c g n s) .after) (only .2)
     go (denies r k ans st) = cc
 
 free-total : (s : State) (g o : ℕ) → Same s ((free g o s) .after)
@@ -51,14 +53,15 @@ free-total s g o = guarded (groupOk g) _ s _ (go (blockAt (pageMap s) o) refl)
     go none e = refl
     go (some b) e = guarded (eqb (groupOf b) g) _ s _ (map-same s (freed o b s) (freed-only s o b e .2))
 
-asked-total : (s : State) → Valid s → (g : ℕ) (q : Operation) → Same s ((asked g q s) .after)
-asked-total s h g (Allocate n) = allocate-total s h g n
-asked-total s h g (Free o) = free-total s g o
-asked-total s h g Reset = guarded (groupOk g) _ s _ (map-same s (freedAll (offsetsOf g s) s) (freedAll-blocks (offsetsOf g s) s .1))
+asked-total : (s : State) → Valid s → (c g : ℕ) (q : Operation) → Same s ((asked c g q s) .after)
+asked-total s h c g (Allocate n) = allocate-total s h c g n
+asked-total s h c g (Free o) = free-total s g o
+asked-total s h c g Reset = guarded (groupOk g) _ s _ (map-same s (freedAll (offsetsOf g s) s) (freedAll-blocks (offsetsOf g s) s .1))
 
-pub serve-total : (s : State) → Valid s → (a : Action) → total ((serve s a) .after .segments) ≡ total (s .segments)
-serve-total s h (group c) = asked-total s h (c .group) (c .operation)
-serve-total s h trim = total-joined idleZone 0 (s .segments) ∙ omega arith
-serve-total s h (query o) = refl
-serve-total s h (listing n) = guarded (leb (length (listingText (pageMap s))) n) _ s _ refl
-serve-total s h (holdings n) = guarded (eqb n mostGroup) _ s _ refl
+pub serve-total : (x : Account) → Valid (x .state) → (a : Action) → total ((serve x a) .after .state .segments) ≡ total (x .state .segments)
+serve-total x h (group c) = asked-total (x .state) h (ceilingOf x (c .group)) (c .group) (c .operation)
+serve-total x h trim = total-joined idleZone 0 (x .state .segments) ∙ omega arith
+serve-total x h (query o) = refl
+serve-total x h (listing n) = guarded (leb (length (listingText (pageMap (x .state)))) n) _ (x .state) _ refl
+serve-total x h (holdings n) = guarded (eqb n mostGroup) _ (x .state) _ refl
+serve-total x h (ceiling g c) = ap (λ s. total (s .segments)) (setting-same g c x)

@@ -16,9 +16,11 @@ use Rattle.model.specs.Sizes.{classOf, pagesFor}
 use Rattle.model.specs.Arena.{Segment, run, direct, zone, pages, total, locate, Each}
 use Rattle.model.specs.Zone.{Zone, full, newZone, nextChunk, granted}
 use Rattle.model.specs.State.{State, listOf, Begins, ZoneAt}
+use Rattle.model.specs.PageMap.{pageMap}
 use Rattle.model.specs.Valid.{Apart, ValidZone, ValidSegment, Valid}
 use Rattle.model.specs.Pages.{FreeRun, claim, withRun, carve}
 use Rattle.model.specs.Calls.{groupOk, sizeOk}
+use Rattle.model.specs.Ceilings.{within}
 use Rattle.model.specs.Allocate.{Source, foundIn, sought, directFrom, zoneFrom, fromSpare, served, chunkFrom, allocate}
 use Rattle.model.proofs.Sizes.{classed}
 use Rattle.model.proofs.Arena.{total-edit, begins-kept, begins-new, begins-back, each-edit, each-locate}
@@ -205,11 +207,13 @@ module _ (s : State) (h : Valid s) (g : ℕ) (least : 0 < g) (most : g ≤ mostG
         let ok : ValidZone (w .0) = each-locate ValidSegment (s .segments) (p * pageBytes) (h .sound) (w .1) in
         rw (w .1) (served-valid p ps (w .0) e (w .1) (w .2) (grants g least most (w .0) ok (w .3)))
 
-pub allocate-valid : (s : State) → Valid s → (g n : ℕ) → Valid ((allocate g n s) .after)
-allocate-valid s h g n = bool (groupOk g)
+pub allocate-valid : (s : State) → Valid s → (c g n : ℕ) → Valid ((allocate c g n s) .after)
+allocate-valid s h c g n = bool (groupOk g)
     (λ t. rw t (bool (sizeOk n)
-    (λ u. rw u (bool (ltb n 8192)
+    (λ u. rw u (bool (within c g n (pageMap s))
+    (λ r. rw r (bool (ltb n 8192)
     (λ v. rw v (chunk-valid s h g (group-least g t) (group-most g t) (classOf n) (classed n (size-least n u) (ltb-true n 8192 v) .below) (listOf s (classOf n)) refl))
     (λ v. rw v (direct-valid s h g (group-least g t) (group-most g t) _ _ (omega (arith, ltb-false)) (sought (pagesFor n) s .chosen) refl))))
+    (λ r. rw r h)))
     (λ u. rw u h)))
     (λ t. rw t h)

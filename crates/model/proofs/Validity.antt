@@ -17,13 +17,15 @@ use Rattle.model.specs.Arena.{Segment, run, zone, total, Each}
 use Rattle.model.specs.Zone.{Zone}
 use Rattle.model.specs.State.{State, freshState, ZoneAt}
 use Rattle.model.specs.PageMap.{pageMap, Block, groupOf, blockAt}
+use Rattle.model.specs.Holdings.{Account, ceilingOf}
 use Rattle.model.specs.Valid.{Apart, ValidSegment, Valid}
-use Rattle.model.specs.Calls.{Action, group, trim, query, listing, holdings, Outcome, isRefused, provided, groupOk}
+use Rattle.model.specs.Calls.{Action, group, trim, query, listing, holdings, ceiling, Outcome, isRefused, provided, groupOk}
 use Rattle.model.specs.Allocate.{allocate}
 use Rattle.model.specs.Free.{freeBlock, free}
 use Rattle.model.specs.Listing.{listingText, listInto}
 use Rattle.model.specs.Perform.{asked, fetch, serve}
 use Rattle.model.proofs.Joins.{cut-zone}
+use Rattle.model.proofs.Ceilings.{setting-same}
 use Rattle.model.proofs.Allocated.{Allocated, gives, denies, allocated}
 use Rattle.model.proofs.ValidAllocate.{allocate-valid}
 use Rattle.model.proofs.ValidFree.{free-valid, reset-valid}
@@ -65,22 +67,23 @@ pub fetch-same : (n : ℕ) (s : State) → (fetch n s) .after ≡ s
 fetch-same n s = bool (eqb n mostGroup) (λ t. rw t) (λ t. rw t)
 
 -- A group's call that is not refused is that of a legal group.
-pub asked-group : (g : ℕ) (q : Operation) (s : State) → isRefused ((asked g q s) .answer) ≡ false → groupOk g ≡ true
-asked-group g (Allocate n) s d = bool (groupOk g) (λ t. t) (λ t. true-false refl (rw t at d))
-asked-group g (Free o) s d = bool (groupOk g) (λ t. t) (λ t. true-false refl (rw t at d))
-asked-group g Reset s d = bool (groupOk g) (λ t. t) (λ t. true-false refl (rw t at d))
+pub asked-group : (c g : ℕ) (q : Operation) (s : State) → isRefused ((asked c g q s) .answer) ≡ false → groupOk g ≡ true
+asked-group c g (Allocate n) s d = bool (groupOk g) (λ t. t) (λ t. true-false refl (rw t at d))
+asked-group c g (Free o) s d = bool (groupOk g) (λ t. t) (λ t. true-false refl (rw t at d))
+asked-group c g Reset s d = bool (groupOk g) (λ t. t) (λ t. true-false refl (rw t at d))
 
-asked-valid : (s : State) → Valid s → (g : ℕ) (q : Operation) → Valid ((asked g q s) .after)
-asked-valid s h g (Allocate n) = allocate-valid s h g n
-asked-valid s h g (Free o) = free-valid s h g o
-asked-valid s h g Reset = reset-valid s h g
+pub asked-valid : (s : State) → Valid s → (c g : ℕ) (q : Operation) → Valid ((asked c g q s) .after)
+asked-valid s h c g (Allocate n) = allocate-valid s h c g n
+asked-valid s h c g (Free o) = free-valid s h g o
+asked-valid s h c g Reset = reset-valid s h g
 
-pub serve-valid : (s : State) → Valid s → (a : Action) → Valid ((serve s a) .after)
-serve-valid s h (group c) = asked-valid s h (c .group) (c .operation)
-serve-valid s h trim = trimmed-valid s h
-serve-valid s h (query o) = h
-serve-valid s h (listing n) = rw (list-same n s) h
-serve-valid s h (holdings n) = rw (fetch-same n s) h
+pub serve-valid : (x : Account) → Valid (x .state) → (a : Action) → Valid ((serve x a) .after .state)
+serve-valid x h (group c) = asked-valid (x .state) h (ceilingOf x (c .group)) (c .group) (c .operation)
+serve-valid x h trim = trimmed-valid (x .state) h
+serve-valid x h (query o) = h
+serve-valid x h (listing n) = rw (list-same n (x .state)) h
+serve-valid x h (holdings n) = rw (fetch-same n (x .state)) h
+serve-valid x h (ceiling g c) = rw (setting-same g c x) h
 
 -- Refusals --------------------------------------------------------------------------------------------------------------
 
@@ -92,10 +95,10 @@ pub guarded : {S : Type 0} (b : Bool) (k : Answer) (s : S) (r : Outcome S) → L
 guarded true k s r h = h
 guarded false k s r h = λ _. refl
 
-allocate-leaves : (s : State) → Valid s → (g n : ℕ) → Leaves s (allocate g n s)
-allocate-leaves s h g n = go (allocated s h g n)
+allocate-leaves : (s : State) → Valid s → (c g n : ℕ) → Leaves s (allocate c g n s)
+allocate-leaves s h c g n = go (allocated s h c g n)
   where
-    go : {r : ℕ} → Allocated s g r (allocate g n s) → Leaves s (allocate g n s)
+    go : {r : ℕ} → Allocated s g r (allocate c g n s) → Leaves s (allocate c g n s)
     go (gives o k b ans fresh grp rm only) = λ t. true-false t (ap isRefused ans)
     go (denies r k ans st) = λ _. st
 
@@ -106,14 +109,16 @@ free-leaves s g o = guarded (groupOk g) _ s _ (go (blockAt (pageMap s) o))
     go none = λ _. refl
     go (some b) = guarded (eqb (groupOf b) g) _ s _ (λ t. true-false t refl)
 
-asked-leaves : (s : State) → Valid s → (g : ℕ) (q : Operation) → Leaves s (asked g q s)
-asked-leaves s h g (Allocate n) = allocate-leaves s h g n
-asked-leaves s h g (Free o) = free-leaves s g o
-asked-leaves s h g Reset = guarded (groupOk g) _ s _ (λ t. true-false t refl)
+asked-leaves : (s : State) → Valid s → (c g : ℕ) (q : Operation) → Leaves s (asked c g q s)
+asked-leaves s h c g (Allocate n) = allocate-leaves s h c g n
+asked-leaves s h c g (Free o) = free-leaves s g o
+asked-leaves s h c g Reset = guarded (groupOk g) _ s _ (λ t. true-false t refl)
 
-pub serve-leaves : (s : State) → Valid s → (a : Action) → Leaves s (serve s a)
-serve-leaves s h (group c) = asked-leaves s h (c .group) (c .operation)
-serve-leaves s h trim = λ t. true-false t refl
-serve-leaves s h (query o) = λ _. refl
-serve-leaves s h (listing n) = λ _. list-same n s
-serve-leaves s h (holdings n) = λ _. fetch-same n s
+-- A refused call on a state leaves it; so the account stays, too (`serve-same`).
+pub state-leaves : (x : Account) → Valid (x .state) → (a : Action) → isRefused ((serve x a) .answer) ≡ true → (serve x a) .after .state ≡ x .state
+state-leaves x h (group c) = asked-leaves (x .state) h (ceilingOf x (c .group)) (c .group) (c .operation)
+state-leaves x h trim = λ t. true-false t refl
+state-leaves x h (query o) = λ _. refl
+state-leaves x h (listing n) = λ _. list-same n (x .state)
+state-leaves x h (holdings n) = λ _. fetch-same n (x .state)
+state-leaves x h (ceiling g c) = λ _. setting-same g c x

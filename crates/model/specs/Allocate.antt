@@ -1,5 +1,6 @@
--- Allocation (document 01: a request): a direct block, or a chunk by the rules of "Zones"; and where the pages that one of them
--- needs come from (document 02, a), with the runs that were looked at for them (document 02, b). Assumes nothing.
+-- Allocation (document 01: a request): a direct block, or a chunk by the rules of "Zones"; where the pages that one of them needs come
+-- from (document 02, a), with the runs that were looked at for them (document 02, b); and what is refused before (document 02, e).
+-- Assumes nothing.
 use Prim.Native.Nat.{ℕ, _+_, _*_}
 use mathlib.Core.List.{List, [], _∷_}
 use mathlib.Core.Option.{Option, none, some, Option·map}
@@ -7,14 +8,16 @@ use mathlib.Core.Bool.{cond}
 use lib.Dec.{ltb}
 use lib.ListN.{set}
 use Rattle.model.specs.Numbers.{pageBytes, zonePages, largeSize}
-use Rattle.model.specs.declared.Refusal.the-variants.{BadGroup, BadSize, NoRoom}
+use Rattle.model.specs.declared.Refusal.the-variants.{BadGroup, BadSize, OverCeiling, NoRoom}
 use Rattle.model.specs.declared.Answer.the-variants.{Granted, Denied}
 use Rattle.model.specs.Sizes.{room, classOf, pagesFor}
 use Rattle.model.specs.Arena.{Segment, direct, zone}
 use Rattle.model.specs.Zone.{Zone, newZone, full, nextChunk, granted}
 use Rattle.model.specs.State.{State, listOf, arranged, zoneAt, putZone}
+use Rattle.model.specs.PageMap.{pageMap}
 use Rattle.model.specs.Pages.{FreeRun, Search, followed, claim, carve}
 use Rattle.model.specs.Calls.{Outcome, answers, denies, provided, groupOk, sizeOk}
+use Rattle.model.specs.Ceilings.{within}
 use Rattle.model.specs.Trim.{trimmed}
 
 -- Where pages are taken from: a state, and the free run of it that a search found.
@@ -74,9 +77,13 @@ abbrev pub supplied : ℕ → ℕ → State → Outcome State
 supplied g n s =
     cond (ltb n largeSize) (chunkFrom (classOf n) g s (listOf s (classOf n))) (wholePages (pagesFor n) g s)
 
--- Refusals in document 01's order: 4, 5, 6. Before 6 no run is looked at.
-abbrev pub allocate : ℕ → ℕ → State → Outcome State
-allocate g n s = provided (groupOk g) (Denied BadGroup 0) s (provided (sizeOk n) (Denied BadSize 0) s (supplied g n s))
+-- A request by the group whose ceiling is c. Refusals in document 01's order, with document 02's between them: 4, 5, 10, 6. Before 6 no run
+-- is looked at.
+abbrev pub allocate : ℕ → ℕ → ℕ → State → Outcome State
+allocate c g n s =
+    provided (groupOk g) (Denied BadGroup 0) s
+    (provided (sizeOk n) (Denied BadSize 0) s
+    (provided (within c g n (pageMap s)) (Denied OverCeiling 0) s (supplied g n s)))
 
 -- The pages that a request of n bytes needs, if it needs any: a chunk needs those of a zone only where its class's list and the empty
 -- list are both empty. (`no-room` says when they are refused.)

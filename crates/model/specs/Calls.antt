@@ -11,25 +11,27 @@ use Rattle.model.specs.declared.Call.{Call}
 use Rattle.model.specs.declared.Operation.{Operation}
 use Rattle.model.specs.declared.Operation.the-variants.{Allocate, Free, Reset}
 use Rattle.model.specs.declared.Refusal.{Refusal}
-use Rattle.model.specs.declared.Refusal.the-variants.{BadPages, FewWords, NoState, BadGroup, BadSize, NoRoom, NoBlock, OtherGroup, BadList, ShortBuffer}
+use Rattle.model.specs.declared.Refusal.the-variants.{BadPages, FewWords, NoState, BadGroup, BadSize, NoRoom, NoBlock, OtherGroup, BadList, OverCeiling, ShortBuffer}
 use Rattle.model.specs.declared.Answer.{Answer}
 use Rattle.model.specs.declared.Answer.the-variants.{Granted, Denied, Refused, Done, Counted, Block}
 
 -- What is asked of a valid state: by a group (document 01: request, return, reset), or by nobody: trim (document 01: tidy),
--- query (ask) of an offset, the listing into a buffer of so many bytes, and the holdings (document 02, c) into a list of so many records.
+-- query (ask) of an offset, the listing into a buffer of so many bytes, the holdings (document 02, c) into a list of so many records, and
+-- the ceiling (document 02, e) of a group in bytes.
 pub data Action : Type 0 where
   group : Call → Action
   trim : Action
   query : ℕ → Action
   listing : ℕ → Action
   holdings : ℕ → Action
+  ceiling : ℕ → ℕ → Action
 
 -- Every call: init (document 01: start) with a number of pages, or an action.
 pub data Command : Type 0 where
   init : ℕ → Command
   act : Action → Command
 
--- The number of each refusal (document 01; document 02, c).
+-- The number of each refusal (document 01; document 02, c and e).
 abbrev pub number : Refusal → ℕ
 number BadPages = 1
 number FewWords = 2
@@ -40,6 +42,7 @@ number NoRoom = 6
 number NoBlock = 7
 number OtherGroup = 8
 number BadList = 9
+number OverCeiling = 10
 number ShortBuffer = 12
 
 -- The papers' reading of an answer: the refusal's number, 0 where it is none, and the values that the answer has. A request's answer
@@ -136,3 +139,4 @@ refusalOf trim k = Refused k
 refusalOf (query o) k = Refused k
 refusalOf (listing n) k = Refused k
 refusalOf (holdings n) k = Refused k
+refusalOf (ceiling g c) k = Refused k

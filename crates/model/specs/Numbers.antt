@@ -11,7 +11,7 @@ zonePages = 8
 abbrev pub zoneBytes : ℕ
 zoneBytes = 32768
 
--- The size from which a request takes whole pages, and the largest that may be asked for.
+-- The size from which a request takes whole pages, and the largest that may be asked for; it is the largest ceiling too.
 abbrev pub largeSize : ℕ
 largeSize = 8192
 

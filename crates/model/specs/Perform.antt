@@ -1,4 +1,4 @@
--- One call on the lent words (document 01, "Calls" and "Numbers for no"; document 02, c), as the rules see the words: how many there are,
+-- One call on the lent words (document 01, "Calls" and "Numbers for no"; document 02, c and e), as the rules see the words: how many there are,
 -- and which valid account they encode, if any. Assumes nothing.
 use Prim.Native.Nat.{ℕ, _+_, _*_}
 use mathlib.Core.Option.{Option, none, some}
@@ -10,31 +10,37 @@ use Rattle.model.specs.declared.Operation.the-variants.{Allocate, Free, 
 use Rattle.model.specs.declared.Refusal.the-variants.{BadPages, FewWords, NoState, BadList}
 use Rattle.model.specs.declared.Answer.the-variants.{Refused, Done}
 use Rattle.model.specs.State.{State}
-use Rattle.model.specs.Holdings.{Account, accounted, freshAccount}
-use Rattle.model.specs.Calls.{Action, group, trim, query, listing, holdings, Command, init, act, Outcome, answers, provided, refusalOf}
+use Rattle.model.specs.Holdings.{Account, accounted, freshAccount, ceilingOf}
+use Rattle.model.specs.Calls.{Action, group, trim, query, listing, holdings, ceiling, Command, init, act, Outcome, answers, provided, refusalOf}
+use Rattle.model.specs.Ceilings.{setCeiling}
 use Rattle.model.specs.Allocate.{allocate}
 use Rattle.model.specs.Free.{free, reset}
 use Rattle.model.specs.Trim.{trimAll, queryAt}
 use Rattle.model.specs.Listing.{listInto}
 
--- What a group asks of a valid state.
-abbrev pub asked : ℕ → Operation → State → Outcome State
-asked g (Allocate n) s = allocate g n s
-asked g (Free o) s = free g o s
-asked g Reset s = reset g s
+-- What a group, whose ceiling is c, asks of a valid state.
+abbrev pub asked : ℕ → ℕ → Operation → State → Outcome State
+asked c g (Allocate n) s = allocate c g n s
+asked c g (Free o) s = free g o s
+asked c g Reset s = reset g s
 
 -- The holdings into a list of n records: it is to be as long as there are groups. Refusal 9. (What it is filled with are the account's
 -- records, `holdingsOf`.)
 abbrev pub fetch : ℕ → State → Outcome State
 fetch n s = provided (eqb n mostGroup) (Refused BadList) s (answers s Done)
 
--- What is asked of a valid state.
-abbrev pub serve : State → Action → Outcome State
-serve s (group c) = asked (c .group) (c .operation) s
-serve s trim = trimAll s
-serve s (query o) = queryAt o s
-serve s (listing n) = listInto n s
-serve s (holdings n) = fetch n s
+-- What is asked of the state alone, as a valid account has it.
+abbrev pub ofState : Account → Outcome State → Outcome Account
+ofState a o = answers (accounted a (o .after)) (o .answer)
+
+-- What is asked of a valid account.
+abbrev pub serve : Account → Action → Outcome Account
+serve a (group c) = ofState a (asked (ceilingOf a (c .group)) (c .group) (c .operation) (a .state))
+serve a trim = ofState a (trimAll (a .state))
+serve a (query o) = ofState a (queryAt o (a .state))
+serve a (listing n) = ofState a (listInto n (a .state))
+serve a (holdings n) = ofState a (fetch n (a .state))
+serve a (ceiling g c) = setCeiling g c a
 
 -- The lent words (document 01: the books): their number, and the valid account that they encode (document 01: picture).
 pub record Metadata : Type 0 where
@@ -60,7 +66,7 @@ initialise m n =
 -- Any other call: refusal 3 comes first.
 abbrev pub onAccount : Metadata → Action → Option Account → Outcome Metadata
 onAccount m a none = answers m (refusalOf a NoState)
-onAccount m a (some b) = let o = serve (b .state) a in answers (keeping m (accounted b (o .after))) (o .answer)
+onAccount m a (some b) = let o = serve b a in answers (keeping m (o .after)) (o .answer)
 
 abbrev pub perform : Metadata → Command → Outcome Metadata
 perform m (init n) = initialise m n

@@ -8,13 +8,13 @@ use mathlib.Core.List.{List, [], _∷_, List·Memᴰ}
 use mathlib.Core.Bool.{Bool, true, false}
 use lib.ListN.{length, getD}
 use Rattle.lemmas.specs.Times.{times, Distinct}
-use Rattle.model.specs.Numbers.{pageBytes, mostGroup, classCount, mostPages, mostSpare}
+use Rattle.model.specs.Numbers.{pageBytes, mostBytes, mostGroup, classCount, mostPages, mostSpare}
 use Rattle.model.specs.Sizes.{chunks}
 use Rattle.model.specs.Arena.{Segment, run, direct, zone, total, Each}
 use Rattle.model.specs.Zone.{Zone, touched, full}
 use Rattle.model.specs.State.{State, listOf, ZoneAt}
 use Rattle.model.specs.PageMap.{pageMap, idleZone}
-use Rattle.model.specs.Holdings.{heldOf, Account}
+use Rattle.model.specs.Holdings.{heldOf, Account, ceilingAt}
 
 -- Free runs have pages, and no two of them touch. (b: a run stands just before.)
 abbrev pub Apart : {Z : Type 0} → Bool → List (Segment Z) → Type 0
@@ -75,7 +75,7 @@ pub record Valid (s : State) : Type 0 where
   pub once-spare : Distinct (s .spare)
   pub not-both : (c p : ℕ) → List·Memᴰ p (listOf s c) → List·Memᴰ p (s .spare) → ⊥
 
--- A valid account (document 02, c). What a group holds is told by the state, so that nothing is left to say of it here.
+-- A valid account (document 02, c and e). What a group holds is told by the state, so that nothing is left to say of it here.
 pub record ValidAccount (a : Account) : Type 0 where
   -- the state is valid
   pub state : Valid (a .state)
@@ -85,3 +85,7 @@ pub record ValidAccount (a : Account) : Type 0 where
   pub least : (i : ℕ) → i < mostGroup → heldOf (suc i) (pageMap (a .state)) ≤ getD (a .greatest) i 0
   -- .. and not above N × 4,096
   pub most : (i : ℕ) → i < mostGroup → getD (a .greatest) i 0 ≤ total (a .state .segments) * pageBytes
+  -- there is a ceiling for each group, ..
+  pub limits : length (a .ceilings) ≡ mostGroup
+  -- .. and none is above 1,048,576. It may be below what the group holds.
+  pub ceiling : (i : ℕ) → i < mostGroup → ceilingAt a i ≤ mostBytes

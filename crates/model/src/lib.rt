@@ -32,6 +32,7 @@ pub enum Refusal {
     NoBlock,
     OtherGroup,
     BadList,
+    OverCeiling,
     ShortBuffer,
 }
 
@@ -68,6 +69,7 @@ pub fn number(refusal: Refusal) -> u32
         Refusal::NoBlock => 7,
         Refusal::OtherGroup => 8,
         Refusal::BadList => 9,
+        Refusal::OverCeiling => 10,
         Refusal::ShortBuffer => 12,
     }
 }

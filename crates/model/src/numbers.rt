@@ -7,7 +7,7 @@ pub const ZONE_PAGES: usize = 8;
 
 pub const ZONE_BYTES: u32 = 32768;
 
-// The size from which a request takes whole pages, and the largest that may be asked for.
+// The size from which a request takes whole pages, and the largest that may be asked for; it is the largest ceiling too.
 pub const LARGE_SIZE: u32 = 8192;
 
 pub const MOST_BYTES: u32 = 1048576;

@@ -17,25 +17,25 @@ use Rattle.model.specs.declared.Call.{Call}
 use Rattle.model.specs.declared.Operation.{Operation}
 use Rattle.model.specs.declared.Answer.{Answer}
 use Rattle.model.specs.Arena.{total}
-use Rattle.model.specs.Holdings.{Account, holdingOf}
+use Rattle.model.specs.State.{State}
+use Rattle.model.specs.Holdings.{Account, accounted, holdingOf, ceilingAt}
 use Rattle.model.specs.Valid.{ValidAccount}
 use Rattle.model.specs.PageMap.{shown, pageMap, blockAt}
 use Rattle.model.specs.Trim.{described, queryAt}
-use Rattle.model.specs.Calls.{Action, group, listing, act, isRefused, refusalOf}
+use Rattle.model.specs.Calls.{Action, group, listing, act, Outcome, isRefused, refusalOf}
 use Rattle.model.proofs.Answers.{refusal-refused}
 use Rattle.model.proofs.Accounts.{serve-same}
 use Rattle.model.specs.Listing.{listingText}
-use Rattle.model.specs.Perform.{serve, wordsFor, allWords}
+use Rattle.model.specs.Perform.{ofState, serve, wordsFor, allWords}
 use Rattle.header.specs.Encoding.{pagesIn}
 use Rattle.pages.specs.Decoding.{segmentsOf, Holds}
 use Rattle.listing.specs.Into.{listAnswer, listedInto}
 use Rattle.listing.proofs.Into.{list-answer}
-use Rattle.figures.specs.Encoding.{figuresEncoding}
 use Rattle.figures.proofs.Encoded.{length-figures}
 use Rattle.metadata.specs.Encoding.{encode}
 use Rattle.metadata.specs.Decoding.{headerPart, pagesPart, decode, isState}
 use Rattle.metadata.proofs.States.{state-read, state-pages, encode-long}
-use Rattle.account.specs.Encoding.{accountEncoding}
+use Rattle.account.specs.Encoding.{figuresOf, accountEncoding}
 use Rattle.account.specs.Decoding.{statePart, accountIn, isAccount, accountOf}
 use Rattle.account.proofs.Accounts.{front-fits, passed, account-valid, account-begins, account-long, accountOf-some, accountOf-none}
 use Rattle.steps.specs.Lent.{Good}
@@ -104,8 +104,14 @@ module _ {w : List ℕ} {n : ℕ} (h : Arena w n) where
   pub arena-few : n ≤ mostPages
   arena-few = omega (arith, h .pages, arena-valid .state .most)
 
-  F-long : length (figuresEncoding (holdingOf x)) ≡ figureWords
-  F-long = length-figures (holdingOf x)
+  F-long : length (figuresOf x) ≡ figureWords
+  F-long = length-figures (holdingOf x) (ceilingAt x)
+
+  -- A call that the rules refuse.
+  pub arena-denied : (a : Action) (r : Answer) → r ≡ (serve (accountIn w) a) .answer → isRefused r ≡ true → (r ≡ answerOf w (act a)) × (w ≡ metaAfter w (act a))
+  arena-denied a r q t =
+      let said = q ∙ sym (served-answer w x arena-valid (account-begins w (h .account)) a) in
+      (said, sym (refused-same w (act a) (ap isRefused (sym said) ∙ t)))
 
   module _ (e : ℕ) (at : e ≡ allWords n) where
     -- They are there.
@@ -116,21 +122,21 @@ module _ {w : List ℕ} {n : ℕ} (h : Arena w n) where
     abbrev rest : List ℕ
     rest = drop (e - figureWords) (drop figureWords w)
 
-    whole : w ≡ figuresEncoding (holdingOf x) ++ (encode (x .state) ++ drop e w)
+    whole : w ≡ figuresOf x ++ (encode (x .state) ++ drop e w)
     unfolding accountEncoding
     whole =
         sym (front-same (accountEncoding x) w (account-begins w (h .account)))
         ∙ ap (λ k. accountEncoding x ++ drop k w) (arena-long ∙ sym at)
-        ∙ append-assoc (figuresEncoding (holdingOf x)) (encode (x .state)) (drop e w)
+        ∙ append-assoc (figuresOf x) (encode (x .state)) (drop e w)
 
     part-long : length (encode (x .state)) ≡ e - figureWords
     part-long = omega (arith, at, state-long)
 
-    pub figures-lent : take figureWords w ≡ figuresEncoding (holdingOf x)
-    figures-lent = ap (take figureWords) whole ∙ take-at (figuresEncoding (holdingOf x)) (encode (x .state) ++ drop e w) figureWords F-long
+    pub figures-lent : take figureWords w ≡ figuresOf x
+    figures-lent = ap (take figureWords) whole ∙ take-at (figuresOf x) (encode (x .state) ++ drop e w) figureWords F-long
 
     lent-is : mid figureWords (e - figureWords) w ≡ encode (x .state)
-    lent-is = ap (mid figureWords (e - figureWords)) whole ∙ mid-at (figuresEncoding (holdingOf x)) (encode (x .state)) (drop e w) figureWords (e - figureWords) F-long part-long
+    lent-is = ap (mid figureWords (e - figureWords)) whole ∙ mid-at (figuresOf x) (encode (x .state)) (drop e w) figureWords (e - figureWords) F-long part-long
 
     pub arena-good : Good (mid figureWords (e - figureWords) w) n
     arena-good = good-of (mid figureWords (e - figureWords) w) (x .state) n (arena-valid .state) lent-is (h .pages)
@@ -138,57 +144,61 @@ module _ {w : List ℕ} {n : ℕ} (h : Arena w n) where
     pub arena-decoded : decode (mid figureWords (e - figureWords) w) ≡ x .state
     arena-decoded = good-decoded (mid figureWords (e - figureWords) w) (x .state) (arena-valid .state) lent-is
 
-    -- A lower function answers what the rules answer on the words lent, ..
-    pub arena-answer : (a : Action) (r : Answer) → r ≡ (serve (decode (mid figureWords (e - figureWords) w)) a) .answer → r ≡ answerOf w (act a)
-    arena-answer a r q = q ∙ ap (λ s. (serve s a) .answer) arena-decoded ∙ sym (served-answer w x arena-valid (account-begins w (h .account)) a)
-
     -- The room of the block at an offset, as the query tells it.
     pub told-room : (o : ℕ) (r : Answer) → r ≡ (queryAt o (decode (mid figureWords (e - figureWords) w))) .answer → roomTold r ≡ roomTold (described (blockAt (pageMap (accountIn w .state)) o))
     told-room o r q = ap roomTold (q ∙ ap (λ s. (queryAt o s) .answer) arena-decoded)
 
-    -- It is a refusal there just if it is one here.
-    pub arena-done : (a : Action) (r : Answer) → r ≡ (serve (decode (mid figureWords (e - figureWords) w)) a) .answer → (b : Bool) → b ≡ isRefused r → b ≡ false →
-        isRefused ((serve (accountIn w .state) a) .answer) ≡ false
-    arena-done a r q b p f = ap (λ s. isRefused ((serve s a) .answer)) (sym arena-decoded) ∙ ap isRefused (sym q) ∙ sym p ∙ f
+    -- A call that is one on the state alone, f. A lower function answers what f answers on the words lent, ..
+    module _ (a : Action) (f : State → Outcome State) (is : serve (accountIn w) a ≡ ofState (accountIn w) (f (accountIn w .state))) where
+      pub arena-answer : (r : Answer) → r ≡ (f (decode (mid figureWords (e - figureWords) w))) .answer → r ≡ answerOf w (act a)
+      arena-answer r q = q ∙ ap (λ s. (f s) .answer) arena-decoded ∙ ap (λ o. o .answer) (sym is) ∙ sym (served-answer w x arena-valid (account-begins w (h .account)) a)
 
-    pub arena-not : (a : Action) (r : Answer) → r ≡ (serve (decode (mid figureWords (e - figureWords) w)) a) .answer → (b : Bool) → b ≡ isRefused r → b ≡ true →
-        isRefused ((serve (decode (mid figureWords (e - figureWords) w)) a) .answer) ≡ true
-    arena-not a r q b p f = ap isRefused (sym q) ∙ sym p ∙ f
+      -- It is a refusal there just if it is one here.
+      pub arena-done : (r : Answer) → r ≡ (f (decode (mid figureWords (e - figureWords) w))) .answer → (b : Bool) → b ≡ isRefused r → b ≡ false → isRefused ((f (accountIn w .state)) .answer) ≡ false
+      arena-done r q b p t = ap (λ s. isRefused ((f s) .answer)) (sym arena-decoded) ∙ ap isRefused (sym q) ∙ sym p ∙ t
 
-    -- .. and leaves there the words of the state that they leave. Where the figures are then those of the account that follows, all words
-    -- are those of that account, and the later ones as they were.
-    module _ (a : Action) (v : List ℕ) (q : v ≡ encode ((serve (decode (mid figureWords (e - figureWords) w)) a) .after)) where
-      left : v ≡ encode (following x a .state)
-      left = q ∙ ap (λ s. encode ((serve s a) .after)) arena-decoded
+      pub arena-not : (r : Answer) → r ≡ (f (decode (mid figureWords (e - figureWords) w))) .answer → (b : Bool) → b ≡ isRefused r → b ≡ true → isRefused ((f (accountIn w .state)) .answer) ≡ true
+      arena-not r q b p t = ap (λ s. isRefused ((f s) .answer)) (sym arena-decoded) ∙ ap isRefused (sym q) ∙ sym p ∙ t
 
-      put-is : putMid figureWords (e - figureWords) w v ≡ figuresEncoding (holdingOf x) ++ (v ++ drop e w)
-      put-is = ap (λ l. putMid figureWords (e - figureWords) l v) whole ∙ put-at (figuresEncoding (holdingOf x)) (encode (x .state)) (drop e w) v figureWords (e - figureWords) F-long part-long
+      -- .. and leaves there the words of the state that f leaves. Where the figures are then those of the account that follows, all words
+      -- are those of that account, and the later ones as they were.
+      module _ (v : List ℕ) (q : v ≡ encode ((f (decode (mid figureWords (e - figureWords) w))) .after)) where
+        left : v ≡ encode (following x a .state)
+        left = q ∙ ap (λ s. encode ((f s) .after)) arena-decoded ∙ ap (λ o. encode (o .after .state)) (sym is)
 
-      all-words : (f : List ℕ) → f ≡ figuresEncoding (holdingOf (following x a)) → f ++ (v ++ drop e w) ≡ metaAfter w (act a)
-      unfolding accountEncoding
-      all-words f g =
-          (λ i. g i ++ (left i ++ drop e w))
-          ∙ sym (append-assoc (figuresEncoding (holdingOf (following x a))) (encode (following x a .state)) (drop e w))
-          ∙ ap (λ k. accountEncoding (following x a) ++ drop k w) (at ∙ sym arena-long ∙ sym (served-long x arena-valid a))
-          ∙ sym (served-words w x arena-valid (account-begins w (h .account)) a)
+        put-is : putMid figureWords (e - figureWords) w v ≡ figuresOf x ++ (v ++ drop e w)
+        put-is = ap (λ l. putMid figureWords (e - figureWords) l v) whole ∙ put-at (figuresOf x) (encode (x .state)) (drop e w) v figureWords (e - figureWords) F-long part-long
 
-      -- The figures are lent for a step, ..
-      pub figures-there : take figureWords (putMid figureWords (e - figureWords) w v) ≡ figuresEncoding (holdingOf x)
-      figures-there = ap (take figureWords) put-is ∙ take-at (figuresEncoding (holdingOf x)) (v ++ drop e w) figureWords F-long
+        all-words : (g : List ℕ) → g ≡ figuresOf (following x a) → g ++ (v ++ drop e w) ≡ metaAfter w (act a)
+        unfolding accountEncoding
+        all-words g k =
+            (λ i. k i ++ (left i ++ drop e w))
+            ∙ sym (append-assoc (figuresOf (following x a)) (encode (following x a .state)) (drop e w))
+            ∙ ap (λ k. accountEncoding (following x a) ++ drop k w) (at ∙ sym arena-long ∙ sym (served-long x arena-valid a))
+            ∙ sym (served-words w x arena-valid (account-begins w (h .account)) a)
 
-      pub long-there : figureWords ≤ length (putMid figureWords (e - figureWords) w v)
-      long-there = omega (arith, ap length put-is, length-append (figuresEncoding (holdingOf x)) (v ++ drop e w), F-long)
+        -- The account that follows.
+        next-figures : figuresOf (accounted (accountIn w) ((f (accountIn w .state)) .after)) ≡ figuresOf (following x a)
+        next-figures = ap (λ o. figuresOf (o .after)) (sym is)
 
-      -- .. and come back as those of the account that follows; or they stay.
-      pub arena-stepped : (f : List ℕ) → f ≡ figuresEncoding (holdingOf (following x a)) → f ++ drop figureWords (putMid figureWords (e - figureWords) w v) ≡ metaAfter w (act a)
-      arena-stepped f g = ap (λ l. f ++ l) (ap (drop figureWords) put-is ∙ drop-at (figuresEncoding (holdingOf x)) (v ++ drop e w) figureWords F-long) ∙ all-words f g
+        -- The figures are lent for a step, ..
+        pub figures-there : take figureWords (putMid figureWords (e - figureWords) w v) ≡ figuresOf (accountIn w)
+        figures-there = ap (take figureWords) put-is ∙ take-at (figuresOf x) (v ++ drop e w) figureWords F-long
 
-      pub arena-still : figuresEncoding (holdingOf x) ≡ figuresEncoding (holdingOf (following x a)) → putMid figureWords (e - figureWords) w v ≡ metaAfter w (act a)
-      arena-still g = put-is ∙ all-words (figuresEncoding (holdingOf x)) g
+        pub long-there : figureWords ≤ length (putMid figureWords (e - figureWords) w v)
+        long-there = omega (arith, ap length put-is, length-append (figuresOf x) (v ++ drop e w), F-long)
 
-      -- A refusal leaves the figures.
-      pub arena-refused : isRefused ((serve (decode (mid figureWords (e - figureWords) w)) a) .answer) ≡ true → putMid figureWords (e - figureWords) w v ≡ metaAfter w (act a)
-      arena-refused t = arena-still (ap (λ y. figuresEncoding (holdingOf y)) (sym (serve-same x arena-valid a (ap (λ s. isRefused ((serve s a) .answer)) (sym arena-decoded) ∙ t))))
+        -- .. and come back as those of the account that follows; or they stay.
+        pub arena-stepped : (g : List ℕ) → g ≡ figuresOf (accounted (accountIn w) ((f (accountIn w .state)) .after)) → g ++ drop figureWords (putMid figureWords (e - figureWords) w v) ≡ metaAfter w (act a)
+        arena-stepped g k = ap (λ l. g ++ l) (ap (drop figureWords) put-is ∙ drop-at (figuresOf x) (v ++ drop e w) figureWords F-long) ∙ all-words g (k ∙ next-figures)
+
+        pub arena-still : figuresOf (accountIn w) ≡ figuresOf (accounted (accountIn w) ((f (accountIn w .state)) .after)) → putMid figureWords (e - figureWords) w v ≡ metaAfter w (act a)
+        arena-still k = put-is ∙ all-words (figuresOf x) (k ∙ next-figures)
+
+        -- A refusal leaves the figures.
+        pub arena-refused : isRefused ((f (accountIn w .state)) .answer) ≡ true → putMid figureWords (e - figureWords) w v ≡ metaAfter w (act a)
+        arena-refused t =
+            put-is ∙ all-words (figuresOf x) (ap (λ y. figuresOf y) (sym (serve-same x arena-valid a (ap (λ o. isRefused (o .answer)) is ∙ t))))
 
     -- The pages' words, for the listing.
     abbrev fixed : ℕ

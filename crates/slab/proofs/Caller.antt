@@ -21,8 +21,8 @@ use Rattle.model.proofs.Held.{held-most, blocks-most}
 use Rattle.model.proofs.Figures.{Gains}
 
 -- The group whose call was not refused is one of the groups.
-pub caller : (g : ℕ) (q : Operation) (s : State) → isRefused ((asked g q s) .answer) ≡ false → (0 < g) × (g ≤ mostGroup)
-caller g q s done = let t = asked-group g q s done in (group-least g t, group-most g t)
+pub caller : (c g : ℕ) (q : Operation) (s : State) → isRefused ((asked c g q s) .answer) ≡ false → (0 < g) × (g ≤ mostGroup)
+caller c g q s done = let t = asked-group c g q s done in (group-least g t, group-most g t)
 
 -- The groups other than g.
 pub other-group : (g i : ℕ) → 0 < g → (i ≡ g - 1 → ⊥) → eqb g (suc i) ≡ false

@@ -15,7 +15,7 @@ use Rattle.model.specs.Numbers.{mostGroup, figureWords}
 use Rattle.model.specs.declared.Holding.{Holding}
 use Rattle.model.specs.declared.Answer.the-variants.{Refused}
 use Rattle.model.specs.declared.Refusal.the-variants.{NoState}
-use Rattle.model.specs.Holdings.{Account, holdingOf, holdingsOf}
+use Rattle.model.specs.Holdings.{Account, holdingOf, holdingsOf, ceilingAt}
 use Rattle.model.specs.Calls.{holdings, act}
 use Rattle.figures.specs.Encoding.{atHeld, atGreatest, recordIn}
 use Rattle.figures.specs.Records.{recordsIn, filled}
@@ -57,7 +57,7 @@ module _ (w : List ℕ) (l : List Holding) where
         (λ i b. getD-listFrom (recordIn w) 0 mostGroup i (holdingOf x 0) b ∙ at-index (0 + i) (omega arith))
       where
         at-index : (i : ℕ) → i < mostGroup → recordIn w i ≡ holdingOf (accountIn w) i
-        at-index i b = front i b ∙ ap (λ f. recordIn f i) (figures-are w t) ∙ record-encoded (holdingOf (accountIn w)) i b
+        at-index i b = front i b ∙ ap (λ f. recordIn f i) (figures-are w t) ∙ record-encoded (holdingOf (accountIn w)) (ceilingAt (accountIn w)) i b
 
     pub good-list : filled w l ≡ listAfter w l
     unfolding filled listAfter

@@ -3,6 +3,7 @@ pub mod Promises
 pub mod Acting
 pub mod Caller
 pub mod Granting
+pub mod Capping
 pub mod Returning
 pub mod Resetting
 pub mod Fresh

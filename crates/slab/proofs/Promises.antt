@@ -9,28 +9,30 @@ use mathlib.Core.Option.{Option, none, some}
 use native.Mathlib.Omega.{arith}
 use lib.ListN.{length, take, drop}
 use lib.Seq.{take-all}
-use Rattle.model.specs.Numbers.{pageBytes, mostGroup, largeSize, mostPages}
+use Rattle.model.specs.Numbers.{pageBytes, mostBytes, mostGroup, largeSize, mostPages}
 use Rattle.model.specs.declared.Refusal.the-variants.{NoState, NoRoom, ShortBuffer}
 use Rattle.model.specs.declared.Holding.{Holding}
 use Rattle.model.specs.declared.Answer.the-variants.{Denied, Done, Counted}
 use mathlib.Core.Bool.{true, false, cond, _&&_}
 use Rattle.model.specs.declared.Operation.the-variants.{Allocate}
 use lib.Dec.{eqb}
-use borrow.Author.Tests.{le-leb, eq-eqb, ne-eqb}
-use Rattle.model.specs.Sizes.{pagesFor}
+use borrow.Author.Tests.{leb-false, le-leb, lt-leb, eq-eqb, ne-eqb}
+use Rattle.model.specs.Sizes.{pagesFor, roomFor}
 use Rattle.model.specs.Arena.{total}
 use Rattle.model.specs.State.{State}
-use Rattle.model.specs.Holdings.{Account, accounted, freshAccount, holdingsOf}
+use Rattle.model.specs.Holdings.{heldOf, Account, accounted, freshAccount, ceilingOf, holdingsOf}
+use Rattle.model.specs.Ceilings.{within, limited}
 use Rattle.model.specs.PageMap.{pageMap, Block, roomOf, blockAt}
 use Rattle.model.specs.Valid.{ValidAccount}
-use Rattle.model.specs.Calls.{Action, trim, query, listing, holdings, Command, init, act, reading, isRefused, lookedOf, RefusedBy, DeniedBy, GrantedAt, refusalOf, group, groupOk, sizeOk}
+use Rattle.model.specs.Calls.{Action, trim, query, listing, holdings, ceiling, Command, init, act, reading, isRefused, lookedOf, RefusedBy, DeniedBy, GrantedAt, refusalOf, group, groupOk, sizeOk}
 use Rattle.model.specs.Pages.{mostLooked}
 use Rattle.model.specs.Allocate.{searched, needed, looksFor}
 use Rattle.model.specs.Trim.{trimmed}
 use Rattle.model.specs.Perform.{serve, allWords, onAccount}
-use Rattle.model.specs.Listing.{listingText}
+use Rattle.model.specs.Listing.{listingText, listInto}
 use Rattle.lemmas.proofs.Cases.{bool, some-inj, none-some}
 use Rattle.model.proofs.Accounts.{accounted-valid, fresh-account}
+use Rattle.model.proofs.Ceilings.{setting-same}
 use Rattle.model.proofs.Disjoint as model
 use Rattle.model.proofs.NoRoom as rules
 use Rattle.model.proofs.Looked as looked
@@ -39,9 +41,12 @@ use Rattle.model.proofs.BoundMet as met
 use Rattle.model.proofs.NoRoom.{Short}
 use Rattle.history.specs.Demand.{Demand3, LedgerAgrees}
 use Rattle.history.specs.Holdings.{HoldingsTold}
+use Rattle.history.specs.Ceilings.{CeilingsTold, CeilingKept, StretchCovered}
 use Rattle.history.specs.Rows.{Row}
-use Rattle.model.proofs.Answers.{refused-number, refusal-refused, refusal-told, denial-told, grant-told}
+use Rattle.model.proofs.Answers.{refused-number, refusal-refused, refusal-told, grant-told}
 use Rattle.history.proofs.Theorem.{demand-3, ledger-agrees, holdings-told}
+use Rattle.history.proofs.Ceilings.{stretch-covered}
+use Rattle.history.proofs.Within.{ceilings-told, ceiling-kept}
 use Rattle.history.proofs.Second as second
 use Rattle.account.specs.Encoding.{accountEncoding, BeginsWith}
 use Rattle.account.specs.Decoding.{accountOf}
@@ -49,7 +54,7 @@ use Rattle.account.proofs.Accounts.{accountOf-some}
 use Rattle.slab.specs.Arena.{pagesOf}
 use Rattle.slab.specs.Calls.{viewOf, stateIn, stateOf, written, answerOf, metaAfter, listedOf, textAfter, heldIn, fetchedIf, listAfter, extent}
 use Rattle.slab.proofs.Words.{following, encodes-of, by-account, standing, by-state, written-later, view-after, after-is, same-length, refused-same}
-use Rattle.slab.proofs.Words.{query-same, listing-same, unserved-answer, served-long, served-answer, served-words, holdings-same}
+use Rattle.slab.proofs.Words.{query-same, listing-same, unserved-answer, served-long, served-answer, served-words, answered, holdings-same}
 use Rattle.slab.proofs.Fresh.{no-pages, many-pages, short-answer, fresh-done, fresh-words}
 use Rattle.slab.proofs.Fetching.{fetched-answer}
 use Rattle.slab.proofs.Front.{front-account, front-alone}
@@ -122,10 +127,9 @@ no-state-refused w f a = (no, refused-same w (act a) (ap isRefused no ∙ refusa
     no : answerOf w (act a) ≡ refusalOf a NoState
     no = unserved-answer w (by-account (λ y. y ≡ none) w (λ _. refl) (λ x _ h. absurd (f x (h .valid) (h .begins)))) a
 
--- .. and served on words that do: the answer is that of the rules on that account's state, and the words are those of the account that
--- follows with the state that they leave.
+-- .. and served on words that do: the answer is that of the rules on that account, and the words are those of the account that they leave.
 pub state-served : (w : List ℕ) (x : Account) → ValidAccount x → BeginsWith w x → (a : Action) →
-    (answerOf w (act a) ≡ (serve (x .state) a) .answer) × (metaAfter w (act a) ≡ accountEncoding (accounted x ((serve (x .state) a) .after)) ++ drop (length (accountEncoding x)) w)
+    (answerOf w (act a) ≡ (serve x a) .answer) × (metaAfter w (act a) ≡ accountEncoding ((serve x a) .after) ++ drop (length (accountEncoding x)) w)
 state-served w x v b a = (served-answer w x v b a, served-words w x v b a ∙ ap (λ k. accountEncoding (following x a) ++ drop k w) (served-long x v a))
 
 -- Demand 3, for any list of calls on lent words: see specs/Demand.antt of the crate history.
@@ -176,22 +180,28 @@ never-share w s e o q b c f g x i j k l = model.never-share s (standing w s e .v
 abbrev pub request : ℕ → ℕ → Action
 request g n = group (record { group = g; operation = Allocate n })
 
--- A request is refused by 6 exactly if the words begin with those of a valid state, its group and size are legal, it needs pages, and no
--- run of the page map that trim would leave has as many (`Short`), ..
-no-room-on : (w : List ℕ) (s : State) → stateOf w ≡ some s → (g n : ℕ) → DeniedBy 6 (answerOf w (act (request g n))) ↔ Short s g n
-no-room-on w s e g n =
-    let told = standing w s e .answers (request g n) in
-    (λ r. rules.no-room s g n .0 (subst (DeniedBy 6) told r), λ k. subst (DeniedBy 6) (sym told) (rules.no-room s g n .1 k))
+-- On words that encode no account a request is refused by 3, and so by no other number.
+without : (k : ℕ) (w : List ℕ) (g n : ℕ) → (3 ≡ k → ⊥) → accountOf w ≡ none → DeniedBy k (answerOf w (act (request g n))) → ⊥
+without k w g n other e r = other (ap (λ q. q .refusal) (ap reading (sym (unserved-answer w e (request g n))) ∙ r .1))
 
-no-room-without : (w : List ℕ) (g n : ℕ) → accountOf w ≡ none → DeniedBy 6 (answerOf w (act (request g n))) → ⊥
-no-room-without w g n e r =
-    let u = sym (unserved-answer w e (request g n)) ∙ denial-told NoRoom (answerOf w (act (request g n))) .0 r .1 in
-    let z : _≡_ {A = ℕ} 0 1 = cc in omega arith
+-- A claim about the account of words, by which a request's refusal with a number other than 3 is told.
+denied-exactly : (k : ℕ) → (3 ≡ k → ⊥) → (P : Account → Type 0) (w : List ℕ) (g n : ℕ) →
+    ((x : Account) → accountOf w ≡ some x → DeniedBy k (answerOf w (act (request g n))) ↔ P x) →
+    DeniedBy k (answerOf w (act (request g n))) ↔ ((x : Account) × (accountOf w ≡ some x) × P x)
+denied-exactly k other P w g n on = by-account (λ y. DeniedBy k (answerOf w (act (request g n))) ↔ ((x : Account) × (y ≡ some x) × P x)) w
+    (λ e. (λ r. absurd (without k w g n other e r), λ h. none-some (h .1)))
+    (λ x e _. (λ r. (x, refl, on x e .0 r), λ h. on x e .1 (subst P (sym (some-inj (h .1))) (h .2))))
 
-pub no-room : (w : List ℕ) (g n : ℕ) → DeniedBy 6 (answerOf w (act (request g n))) ↔ ((s : State) × (stateOf w ≡ some s) × Short s g n)
-no-room w g n = by-state (λ x. DeniedBy 6 (answerOf w (act (request g n))) ↔ ((s : State) × (x ≡ some s) × Short s g n)) w
-    (λ e. (λ r. absurd (no-room-without w g n e r), λ k. none-some (k .1)))
-    (λ s e _. (λ r. (s, refl, no-room-on w s e g n .0 r), λ k. no-room-on w s e g n .1 (subst (λ x. Short x g n) (sym (some-inj (k .1))) (k .2))))
+-- A request is refused by 6 exactly if the words begin with those of a valid account, its group and size are legal, it is within the
+-- group's ceiling, it needs pages, and no run of the page map that trim would leave has as many (`Short`), ..
+no-room-on : (w : List ℕ) (x : Account) → accountOf w ≡ some x → (g n : ℕ) → DeniedBy 6 (answerOf w (act (request g n))) ↔ Short (x .state) (ceilingOf x g) g n
+no-room-on w x e g n =
+    let told = answered w x e (request g n) in
+    let rule = rules.no-room (x .state) (ceilingOf x g) g n in
+    (λ r. rule .0 (subst (DeniedBy 6) told r), λ k. subst (DeniedBy 6) (sym told) (rule .1 k))
+
+pub no-room : (w : List ℕ) (g n : ℕ) → DeniedBy 6 (answerOf w (act (request g n))) ↔ ((x : Account) × (accountOf w ≡ some x) × Short (x .state) (ceilingOf x g) g n)
+no-room w g n = denied-exactly 6 (λ q. omega arith) (λ x. Short (x .state) (ceilingOf x g) g n) w g n (λ x e. no-room-on w x e g n)
 
 -- .. so a trim before it does not help, nor does it harm: it is refused by 6 after a trim just if it is without one, ..
 pub trim-needless : (w : List ℕ) (g n : ℕ) → DeniedBy 6 (answerOf w (act (request g n))) ↔ DeniedBy 6 (answerOf (metaAfter w (act trim)) (act (request g n)))
@@ -201,45 +211,85 @@ trim-needless w g n = go (accountOf w) refl
     after y e = ap (λ m. m .account) (view-after w (act trim)) ∙ ap (λ y. (onAccount (viewOf w) trim y) .after .account) e
 
     go : (y : Option Account) → accountOf w ≡ y → DeniedBy 6 (answerOf w (act (request g n))) ↔ DeniedBy 6 (answerOf (metaAfter w (act trim)) (act (request g n)))
-    go none e = (λ r. absurd (no-room-without w g n e r), λ r. absurd (no-room-without (metaAfter w (act trim)) g n (after none e ∙ e) r))
+    go none e = (λ r. absurd (without 6 w g n (λ q. omega arith) e r), λ r. absurd (without 6 (metaAfter w (act trim)) g n (λ q. omega arith) (after none e ∙ e) r))
     go (some x) e =
-        let s = x .state in
-        let on : stateOf w ≡ some s = ap stateIn e in
-        let here = no-room-on w s on g n in
-        let there = no-room-on (metaAfter w (act trim)) (trimmed s) (ap stateIn (after (some x) e)) g n in
-        let same = second.short-trimmed s (standing w s on .valid) g n in
+        let here = no-room-on w x e g n in
+        let there = no-room-on (metaAfter w (act trim)) (accounted x (trimmed (x .state))) (after (some x) e) g n in
+        let same = second.short-trimmed (x .state) (encodes-of w x e .valid .state) (ceilingOf x g) g n in
         (λ r. there .1 (same .0 (here .0 r)), λ r. here .1 (same .1 (there .0 r)))
 
--- .. and the empty board does not say no: where no block is live, it is granted if the arena has the pages that it needs.
-pub empty-board : (w : List ℕ) (s : State) → stateOf w ≡ some s → ((o : ℕ) → blockAt (pageMap s) o ≡ none) → (g n : ℕ) → groupOk g ≡ true → sizeOk n ≡ true →
-    ((k : ℕ) → needed n s ≡ some k → k ≤ total (s .segments)) → (o : ℕ) × GrantedAt o (answerOf w (act (request g n)))
-empty-board w s e bare g n t u enough =
-    let h = standing w s e in
-    let told = h .answers (request g n) in
-    let k = second.empty-board s (h .valid) bare g n t u enough in
-    (k .0, subst (GrantedAt (k .0)) (sym told) (k .1))
+-- .. and the empty board does not say no: where no block is live, it is granted if its room is within the group's ceiling and the arena
+-- has the pages that it needs.
+pub empty-board : (w : List ℕ) (x : Account) → accountOf w ≡ some x → ((o : ℕ) → blockAt (pageMap (x .state)) o ≡ none) → (g n : ℕ) → groupOk g ≡ true → sizeOk n ≡ true →
+    roomFor n ≤ ceilingOf x g → ((k : ℕ) → needed n (x .state) ≡ some k → k ≤ total (x .state .segments)) → (o : ℕ) × GrantedAt o (answerOf w (act (request g n)))
+empty-board w x e bare g n t u most enough =
+    let k = second.empty-board (x .state) (encodes-of w x e .valid .state) bare (ceilingOf x g) g n t u most enough in
+    (k .0, subst (GrantedAt (k .0)) (sym (answered w x e (request g n))) (k .1))
 
--- Demand 3's rule on refusals, of words that encode any valid state: a request from 8,192 bytes up, of a legal group and size, is refused
--- by 6 exactly when no row of as many pages as it needs is clear.
-pub no-row : (w : List ℕ) (s : State) → stateOf w ≡ some s → (g n : ℕ) → largeSize ≤ n → groupOk g ≡ true → sizeOk n ≡ true →
-    DeniedBy 6 (answerOf w (act (request g n))) ↔ (Row (pagesFor n) (pageMap s) → ⊥)
-no-row w s e g n h t u =
-    let here = no-room-on w s e g n in
-    let rows = second.no-row s (standing w s e .valid) g n h t u in
-    (λ r. rows .0 (rules.no-room s g n .1 (here .0 r)), λ f. here .1 (rules.no-room s g n .0 (rows .1 f)))
+-- Demand 3's rule on refusals, of words that encode any valid account: a request from 8,192 bytes up, of a legal group and size and within
+-- the ceiling, is refused by 6 exactly when no row of as many pages as it needs is clear.
+pub no-row : (w : List ℕ) (x : Account) → accountOf w ≡ some x → (g n : ℕ) → largeSize ≤ n → groupOk g ≡ true → sizeOk n ≡ true →
+    within (ceilingOf x g) g n (pageMap (x .state)) ≡ true → DeniedBy 6 (answerOf w (act (request g n))) ↔ (Row (pagesFor n) (pageMap (x .state)) → ⊥)
+no-row w x e g n h t u r =
+    let told = answered w x e (request g n) in
+    let rows = second.no-row (x .state) (encodes-of w x e .valid .state) (ceilingOf x g) g n h t u r in
+    (λ d. rows .0 (subst (DeniedBy 6) told d), λ f. subst (DeniedBy 6) (sym told) (rows .1 f))
+
+-- Ceilings (document 02, e). A request is refused by 10 exactly if the words begin with those of a valid account, its group and size are
+-- legal, and what the group holds and the new block's room are more than the group's ceiling. ..
+pub over-ceiling : (w : List ℕ) (g n : ℕ) → DeniedBy 10 (answerOf w (act (request g n))) ↔
+    ((x : Account) × (accountOf w ≡ some x) × ((groupOk g ≡ true) × (sizeOk n ≡ true) × (ceilingOf x g < heldOf g (pageMap (x .state)) + roomFor n)))
+over-ceiling w g n = denied-exactly 10 (λ q. omega arith) (λ x. (groupOk g ≡ true) × (sizeOk n ≡ true) × (ceilingOf x g < heldOf g (pageMap (x .state)) + roomFor n)) w g n (λ x e.
+    let told = answered w x e (request g n) in
+    let rule = rules.over-ceiling (x .state) (ceilingOf x g) g n in
+    let sum = heldOf g (pageMap (x .state)) + roomFor n in
+    (
+      λ r. let k = rule .0 (subst (DeniedBy 10) told r) in (k .0, k .1, leb-false sum (ceilingOf x g) (k .2)),
+      λ k. subst (DeniedBy 10) (sym told) (rule .1 (k .0, k .1, lt-leb sum (ceilingOf x g) (k .2))),
+    ))
+
+-- .. A setting that the tests let pass sets the ceiling of its group, and changes nothing else of the account, ..
+pub ceiling-set : (w : List ℕ) (x : Account) → accountOf w ≡ some x → (g c : ℕ) → groupOk g ≡ true → c ≤ mostBytes →
+    (answerOf w (act (ceiling g c)) ≡ Done) × (accountOf (metaAfter w (act (ceiling g c))) ≡ some (limited g c x))
+ceiling-set w x e g c t h =
+    let u = le-leb c mostBytes h in
+    (
+      answered w x e (ceiling g c) ∙ rw (t, u),
+      ap (λ m. m .account) (view-after w (act (ceiling g c))) ∙ ap (λ y. (onAccount (viewOf w) (ceiling g c) y) .after .account) e ∙ rw (t, u),
+    )
+
+-- .. so no setting takes anything away, refused or not, whatever the words and the ceiling: the state stays. ..
+pub nothing-taken : (w : List ℕ) (g c : ℕ) → stateOf (metaAfter w (act (ceiling g c))) ≡ stateOf w
+nothing-taken w g c = ap (λ m. stateIn (m .account)) (view-after w (act (ceiling g c))) ∙ by-account (λ y. stateIn ((onAccount (viewOf w) (ceiling g c) y) .after .account) ≡ stateIn y) w
+    (λ e. ap stateIn e)
+    (λ x e _. ap some (setting-same g c x))
+
+-- .. Over a list of calls: the words have the ceilings that the calls and their answers tell, ..
+pub words-ceilings-told : CeilingsTold (List ℕ) viewOf metaAfter answerOf
+unfolding answerOf
+words-ceilings-told = ceilings-told (List ℕ) viewOf metaAfter answerOf view-after (λ w c. refl)
+
+-- .. as long as a group's ceiling is not lowered below what the group holds, its held bytes are never above it, ..
+pub words-ceiling-kept : CeilingKept (List ℕ) viewOf metaAfter answerOf
+unfolding answerOf
+words-ceiling-kept = ceiling-kept (List ℕ) viewOf metaAfter answerOf view-after (λ w c. refl)
+
+-- .. and calls by which no ceiling changes, with refused settings or settings to what the ceiling is, leave all as demand 3 supposes.
+pub words-stretch-covered : StretchCovered (List ℕ) viewOf metaAfter answerOf
+words-stretch-covered = stretch-covered (List ℕ) viewOf metaAfter answerOf
 
 -- How far a request looks (document 02, b). Its answer has a count, whatever the words: that of the searches for the pages that it needs,
--- where the words encode a state and its group and size are legal; else 0. ..
-pub request-looks : (w : List ℕ) (s : State) → stateOf w ≡ some s → (g n : ℕ) →
-    lookedOf (answerOf w (act (request g n))) ≡ some (cond (groupOk g && sizeOk n) (looksFor (needed n s) s) 0)
-request-looks w s e g n = ap lookedOf (standing w s e .answers (request g n)) ∙ looked.counted s g n
+-- where the words encode an account, its group and size are legal and it is within the ceiling; else 0. ..
+pub request-looks : (w : List ℕ) (x : Account) → accountOf w ≡ some x → (g n : ℕ) →
+    lookedOf (answerOf w (act (request g n))) ≡ some (cond (groupOk g && sizeOk n && within (ceilingOf x g) g n (pageMap (x .state))) (looksFor (needed n (x .state)) (x .state)) 0)
+request-looks w x e g n = ap lookedOf (answered w x e (request g n)) ∙ looked.counted (x .state) (ceilingOf x g) g n
 
 -- .. Where it needs pages, the count can be read off the listings as they are and as trim would leave them: it is the number of the line
 -- that tells the run which is taken, or that of all lines. ..
-pub request-read-off : (w : List ℕ) (s : State) → stateOf w ≡ some s → (g n k : ℕ) → groupOk g ≡ true → sizeOk n ≡ true → needed n s ≡ some k →
-    ReadOff s k (answerOf w (act (request g n)))
-request-read-off w s e g n k t u f =
-    subst (ReadOff s k) (sym (standing w s e .answers (request g n))) (read-off s g n k t u f)
+pub request-read-off : (w : List ℕ) (x : Account) → accountOf w ≡ some x → (g n k : ℕ) → groupOk g ≡ true → sizeOk n ≡ true →
+    within (ceilingOf x g) g n (pageMap (x .state)) ≡ true → needed n (x .state) ≡ some k → ReadOff (x .state) k (answerOf w (act (request g n)))
+request-read-off w x e g n k t u r f =
+    subst (ReadOff (x .state) k) (sym (answered w x e (request g n))) (read-off (x .state) (ceilingOf x g) g n k t u r f)
 
 -- .. No other call's answer has a count of runs, refused or not. ..
 pub others-uncounted : (w : List ℕ) (c : Command) → ((g n : ℕ) → c ≡ act (request g n) → ⊥) → lookedOf (answerOf w c) ≡ none
@@ -253,20 +303,20 @@ search-bounded w s e n = let v = standing w s e .valid in (looked.search-bounded
 
 -- .. and a request at no more than twice that: at none, where the words encode no state. ..
 pub request-bounded : (w : List ℕ) (g n : ℕ) → (k : ℕ) × (lookedOf (answerOf w (act (request g n))) ≡ some k) × (k ≤ 2 * mostLooked (pagesOf (stateOf w)))
-request-bounded w g n = by-state (λ x. (k : ℕ) × (lookedOf (answerOf w (act (request g n))) ≡ some k) × (k ≤ 2 * mostLooked (pagesOf x))) w
+request-bounded w g n = by-account (λ y. (k : ℕ) × (lookedOf (answerOf w (act (request g n))) ≡ some k) × (k ≤ 2 * mostLooked (pagesOf (stateIn y)))) w
     (λ e. (0, ap lookedOf (unserved-answer w e (request g n)), omega arith))
-    (λ s e h. let b = looked.request-bounded s (h .valid) g n in (b .0, ap lookedOf (h .answers (request g n)) ∙ b .1, b .2))
+    (λ x e h. let b = looked.request-bounded (x .state) (h .valid .state) (ceilingOf x g) g n in (b .0, ap lookedOf (answered w x e (request g n)) ∙ b .1, b .2))
 
 -- .. Both bounds are met, in arenas of any number of pages, odd or even.
 pub bounds-met : (n : ℕ) → 1 ≤ n → n ≤ mostPages → (w : List ℕ) × (s : State) × (stateOf w ≡ some s) × (total (s .segments) ≡ n)
-    × (searched 2 s .looked ≡ mostLooked n) × (answerOf w (act (request 1 8192)) ≡ Denied NoRoom (2 * mostLooked n))
+    × (searched 2 s .looked ≡ mostLooked n) × (answerOf w (act (request 2 8192)) ≡ Denied NoRoom (2 * mostLooked n))
 bounds-met n a b =
     let s = met.combed n in
     let x : Account = accounted (freshAccount n) s in
     let v = accounted-valid (freshAccount n) (fresh-account n a b) s (met.comb-valid n a b) (met.comb-total n ∙ omega arith) in
     let w = accountEncoding x in
     let here : BeginsWith w x = take-all (length w) w (omega arith) in
-    (w, s, ap stateIn (accountOf-some w x v here), met.comb-total n, met.search-met n, served-answer w x v here (request 1 8192) ∙ met.request-met n)
+    (w, s, ap stateIn (accountOf-some w x v here), met.comb-total n, met.search-met n, served-answer w x v here (request 2 8192) ∙ met.request-met n)
 
 -- A live block begins at a multiple of every number that divides a page's bytes and the block's room, ..
 pub block-aligned : (w : List ℕ) (s : State) → stateOf w ≡ some s → (o : ℕ) (b : Block) → blockAt (pageMap s) o ≡ some b → (d : ℕ) → pageBytes % d ≡ 0 → roomOf b % d ≡ 0 → o % d ≡ 0
@@ -276,9 +326,9 @@ block-aligned w s e o b f d p h = aligned.block-aligned (pageMap s) o b f d p h
 pub grant-aligned : (w : List ℕ) (g n o : ℕ) → GrantedAt o (answerOf w (act (request g n))) → Aligned n o
 grant-aligned w g n o h =
     let e = grant-told o (answerOf w (act (request g n))) .0 h in
-    by-state (λ _. Aligned n o) w
+    by-account (λ _. Aligned n o) w
     (λ f. absurd (let u = sym (unserved-answer w f (request g n)) ∙ e .1 in let z : _≡_ {A = ℕ} 0 1 = cc in omega arith))
-    (λ s _ h. aligned.grant-aligned s (h .valid) g n o (e .0) (sym (h .answers (request g n)) ∙ e .1))
+    (λ x f h. aligned.grant-aligned (x .state) (h .valid .state) (ceilingOf x g) g n o (e .0) (sym (answered w x f (request g n)) ∙ e .1))
 
 -- A listing has at most as many bytes as that of as many direct blocks of one page, of group 12, as the arena has pages, ..
 pub listing-longest : (w : List ℕ) (s : State) → stateOf w ≡ some s → length (listingText (pageMap s)) ≤ longest (total (s .segments))
@@ -294,7 +344,9 @@ longest-few w s e p h = lengths.longest-grows (total (s .segments)) p (omega (ar
 -- A buffer of so many bytes is answered with the listing's length, ..
 pub listing-answered : (w : List ℕ) (s : State) → stateOf w ≡ some s → (n : ℕ) → longest (total (s .segments)) ≤ n → answerOf w (act (listing n)) ≡ Counted (length (listingText (pageMap s)))
 listing-answered w s e n h =
-    standing w s e .answers (listing n)
+    let t = standing w s e in
+    answered w (t .account) (t .encoded) (listing n)
+    ∙ ap (λ r. (listInto n r) .answer) (t .state)
     ∙ rw (le-leb (length (listingText (pageMap s))) n (omega (arith, listing-longest w s e)))
 
 -- .. so 2,220 bytes are never too few, whatever the words, nor are those of p such blocks where there are no more words than p pages need.

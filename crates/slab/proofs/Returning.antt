@@ -13,16 +13,17 @@ use Rattle.model.specs.declared.Operation.the-variants.{Free}
 use Rattle.model.specs.declared.Answer.the-variants.{Done}
 use Rattle.model.specs.State.{State}
 use Rattle.model.specs.PageMap.{pageMap, Block, groupOf, roomOf, blockAt}
-use Rattle.model.specs.Holdings.{Account, accounted, holdingOf}
+use Rattle.model.specs.Holdings.{Account, accounted, holdingOf, ceilingAt}
 use Rattle.model.specs.Valid.{ValidAccount}
 use Rattle.model.specs.Calls.{isRefused, groupOk}
 use Rattle.model.specs.Free.{freeBlock, free}
 use Rattle.model.specs.Trim.{described}
 use Rattle.model.proofs.Validity.{asked-group}
 use Rattle.model.proofs.Figures.{Gains, return-gains}
-use Rattle.figures.specs.Encoding.{figuresEncoding, recordIn}
+use Rattle.figures.specs.Encoding.{recordIn}
 use Rattle.figures.specs.Steps.{taken}
 use Rattle.figures.proofs.Encoded.{length-figures, record-encoded}
+use Rattle.account.specs.Encoding.{figuresOf}
 use Rattle.account.proofs.Next.{taken-figures}
 use Rattle.slab.specs.Arena.{roomTold}
 use Rattle.slab.proofs.Caller.{caller, other-group, own-group, gains-other, gains-own}
@@ -35,10 +36,10 @@ module _ (x : Account) (v : ValidAccount x) (g o : ℕ) (done : isRefused ((free
   t = (free g o (x .state)) .after
 
   legal-group : groupOk g ≡ true
-  legal-group = asked-group g (Free o) s done
+  legal-group = asked-group 0 g (Free o) s done
 
   legal : (0 < g) × (g ≤ mostGroup)
-  legal = caller g (Free o) s done
+  legal = caller 0 g (Free o) s done
 
   is-done : (free g o s) .answer ≡ Done
   is-done = rw legal-group (go (blockAt (pageMap s) o) (rw legal-group at done))
@@ -63,12 +64,12 @@ module _ (x : Account) (v : ValidAccount x) (g o : ℕ) (done : isRefused ((free
   index-low : g - 1 < mostGroup
   index-low = omega (arith, legal .0, legal .1)
 
-  pub return-fits : let h = recordIn (figuresEncoding (holdingOf x)) (g - 1) in (0 < h .blocks) × (roomTold (described (blockAt (pageMap (x .state)) o)) ≤ h .held)
+  pub return-fits : let h = recordIn (figuresOf x) (g - 1) in (0 < h .blocks) × (roomTold (described (blockAt (pageMap (x .state)) o)) ≤ h .held)
   return-fits =
-      let e = record-encoded (holdingOf x) (g - 1) index-low in
+      let e = record-encoded (holdingOf x) (ceilingAt x) (g - 1) index-low in
       (omega (arith, ap (λ h. h .blocks) e, own .blocks), omega (arith, ap (λ h. h .held) e, own .held))
 
-  pub return-figures : taken (g - 1) (roomTold (described (blockAt (pageMap (x .state)) o))) (figuresEncoding (holdingOf x)) ≡ figuresEncoding (holdingOf (accounted x ((free g o (x .state)) .after)))
+  pub return-figures : taken (g - 1) (roomTold (described (blockAt (pageMap (x .state)) o))) (figuresOf x) ≡ figuresOf (accounted x ((free g o (x .state)) .after))
   return-figures = taken-figures x v t (g - 1) index-low
       (λ i l ne. gains-back (gains-other (eqb g (suc i)) (suc i) _ t s (other-group g i (legal .0) ne) (gains (suc i) (omega arith))))
       _ own
@@ -77,11 +78,11 @@ module _ (x : Account) (v : ValidAccount x) (g o : ℕ) (done : isRefused ((free
       gains-back k = record { blocks = omega (arith, k .blocks); held = omega (arith, k .held) }
 
   -- As the code has them: the figures f lent for the step, the index i and the room r that was told.
-  module _ (f : List ℕ) (e : f ≡ figuresEncoding (holdingOf x)) (i : ℕ) (at : i ≡ g - 1) (r : ℕ) (is : r ≡ roomTold (described (blockAt (pageMap (x .state)) o))) where
+  module _ (f : List ℕ) (e : f ≡ figuresOf x) (i : ℕ) (at : i ≡ g - 1) (r : ℕ) (is : r ≡ roomTold (described (blockAt (pageMap (x .state)) o))) where
     pub return-needs : ((length f ≡ figureWords) × (i < mostGroup)) × ((0 < recordIn f i .blocks) × (r ≤ recordIn f i .held))
     return-needs =
-        let same : recordIn f i ≡ recordIn (figuresEncoding (holdingOf x)) (g - 1) = λ j. recordIn (e j) (at j) in
-        ((ap length e ∙ length-figures (holdingOf x), omega (arith, index-low)), (omega (arith, ap (λ h. h .blocks) same, return-fits .0), omega (arith, ap (λ h. h .held) same, return-fits .1)))
+        let same : recordIn f i ≡ recordIn (figuresOf x) (g - 1) = λ j. recordIn (e j) (at j) in
+        ((ap length e ∙ length-figures (holdingOf x) (ceilingAt x), omega (arith, index-low)), (omega (arith, ap (λ h. h .blocks) same, return-fits .0), omega (arith, ap (λ h. h .held) same, return-fits .1)))
 
-    pub return-done : (v : List ℕ) → v ≡ taken i r f → v ≡ figuresEncoding (holdingOf (accounted x ((free g o (x .state)) .after)))
+    pub return-done : (v : List ℕ) → v ≡ taken i r f → v ≡ figuresOf (accounted x ((free g o (x .state)) .after))
     return-done v q = q ∙ (λ j. taken (at j) (is j) (e j)) ∙ return-figures

@@ -84,7 +84,7 @@ view-written w (some x) h = λ i. record {
 
 -- The account that a call leaves of the account x.
 abbrev pub following : Account → Action → Account
-following x a = accounted x ((serve (x .state) a) .after)
+following x a = (serve x a) .after
 
 own-writes : (w : List ℕ) → Writes w (accountOf w)
 own-writes w = by-account (Writes w) w (λ e. e) (λ x _ h. (h .valid, encodes-long w x h))
@@ -104,7 +104,7 @@ perform-lands w (init n) = bool (leb 1 n && leb n mostPages)
     (λ t. rw t (own-lands w))
 perform-lands w (act a) = by-account (λ y. Lands w ((onAccount (viewOf w) a y) .after)) w
     (λ e. own-lands w)
-    (λ x e h. (refl, (serve-account x (h .valid) a, omega (arith, serve-total (x .state) (h .valid .state) a, encodes-long w x h))))
+    (λ x e h. (refl, (serve-account x (h .valid) a, omega (arith, serve-total x (h .valid .state) a, encodes-long w x h))))
 
 metaAfter-is : (w : List ℕ) (c : Command) → metaAfter w c ≡ written w ((perform (viewOf w) c) .after .account)
 unfolding metaAfter
@@ -139,19 +139,19 @@ pub refused-same : (w : List ℕ) (c : Command) → isRefused (answerOf w c) ≡
 unfolding answerOf
 refused-same w c r = metaAfter-is w c ∙ ap (λ m. written w (m .account)) (perform-leaves (viewOf w) c (account-holds w) r) ∙ written-own w
 
-still-same : (w : List ℕ) (a : Action) → ((s : State) → (serve s a) .after ≡ s) → metaAfter w (act a) ≡ w
+still-same : (w : List ℕ) (a : Action) → ((x : Account) → ValidAccount x → (serve x a) .after ≡ x) → metaAfter w (act a) ≡ w
 still-same w a f = metaAfter-is w (act a) ∙ by-account (λ y. written w ((onAccount (viewOf w) a y) .after .account) ≡ w) w
     (λ e. written-own w)
-    (λ x e h. ap (λ t. written w (some t)) (ap (accounted x) (f (x .state)) ∙ accounted-same x (h .valid)) ∙ front-same (accountEncoding x) w (h .begins))
+    (λ x e h. ap (λ t. written w (some t)) (f x (h .valid)) ∙ front-same (accountEncoding x) w (h .begins))
 
 pub query-same : (w : List ℕ) (o : ℕ) → metaAfter w (act (query o)) ≡ w
-query-same w o = still-same w (query o) (λ s. refl)
+query-same w o = still-same w (query o) accounted-same
 
 pub listing-same : (w : List ℕ) (n : ℕ) → metaAfter w (act (listing n)) ≡ w
-listing-same w n = still-same w (listing n) (list-same n)
+listing-same w n = still-same w (listing n) (λ x v. ap (accounted x) (list-same n (x .state)) ∙ accounted-same x v)
 
 pub holdings-same : (w : List ℕ) (n : ℕ) → metaAfter w (act (holdings n)) ≡ w
-holdings-same w n = still-same w (holdings n) (fetch-same n)
+holdings-same w n = still-same w (holdings n) (λ x v. ap (accounted x) (fetch-same n (x .state)) ∙ accounted-same x v)
 
 -- A call on words that encode no account is refused.
 pub unserved-answer : (w : List ℕ) → accountOf w ≡ none → (a : Action) → answerOf w (act a) ≡ refusalOf a NoState
@@ -160,16 +160,20 @@ unserved-answer w e a = ap (λ y. (onAccount (viewOf w) a y) .answer) e
 
 -- The account that a call leaves has as many words as the one before.
 pub served-long : (x : Account) → ValidAccount x → (a : Action) → length (accountEncoding (following x a)) ≡ length (accountEncoding x)
-served-long x v a = account-long (following x a) (serve-account x v a) ∙ ap (λ n. allWords n) (serve-total (x .state) (v .state) a) ∙ sym (account-long x v)
+served-long x v a = account-long (following x a) (serve-account x v a) ∙ ap (λ n. allWords n) (serve-total x (v .state) a) ∙ sym (account-long x v)
 
 -- A call on words that begin with those of a valid account.
 module _ (w : List ℕ) (x : Account) (v : ValidAccount x) (b : BeginsWith w x) (a : Action) where
-  pub served-answer : answerOf w (act a) ≡ (serve (x .state) a) .answer
+  pub served-answer : answerOf w (act a) ≡ (serve x a) .answer
   unfolding answerOf
   served-answer = ap (λ y. (onAccount (viewOf w) a y) .answer) (accountOf-some w x v b)
 
   pub served-words : metaAfter w (act a) ≡ written w (some (following x a))
   served-words = metaAfter-is w (act a) ∙ ap (λ y. written w ((onAccount (viewOf w) a y) .after .account)) (accountOf-some w x v b)
+
+-- So on words of which it is known that they encode the account.
+pub answered : (w : List ℕ) (x : Account) → accountOf w ≡ some x → (a : Action) → answerOf w (act a) ≡ (serve x a) .answer
+answered w x e a = let h = encodes-of w x e in served-answer w x (h .valid) (h .begins) a
 
 -- The state of the account that words encode ----------------------------------------------------------------------------------------
 
@@ -179,13 +183,12 @@ pub record Standing (w : List ℕ) (s : State) : Type 0 where
   pub encoded : accountOf w ≡ some account
   pub state : account .state ≡ s
   pub valid : Valid s
-  pub answers : (a : Action) → answerOf w (act a) ≡ (serve s a) .answer
   pub long : allWords (total (s .segments)) ≤ length w
 
 standing-at : (w : List ℕ) (x : Account) → accountOf w ≡ some x → Standing w (x .state)
 standing-at w x e =
     let h = encodes-of w x e in
-    record { account = x; encoded = e; state = refl; valid = h .valid .state; answers = served-answer w x (h .valid) (h .begins); long = encodes-long w x h }
+    record { account = x; encoded = e; state = refl; valid = h .valid .state; long = encodes-long w x h }
 
 pub standing : (w : List ℕ) (s : State) → stateOf w ≡ some s → Standing w s
 standing w s = by-account (λ y. stateIn y ≡ some s → Standing w s) w

@@ -1,6 +1,6 @@
 // The public calls. Any words may be lent: every call but `init` first checks that they begin with the words of a valid account, and is
 // refused otherwise. specs/Calls.antt says what each call answers and leaves; proofs/Promises.antt what follows from it. A group's call
-// that is not refused steps the figures of that group, and no others.
+// that is not refused steps the figures of that group, and no others; so does the setting of its ceiling.
 ghost use mathlib.Core.Path.{_≡_};
 ghost use lib.ListN.{length};
 ghost use Rattle.model.specs.Calls as rules;
@@ -9,7 +9,10 @@ ghost use Rattle.model.specs.declared.Answer.the-variants.{Refused};
 ghost use Rattle.model.specs.declared.Operation.the-variants as operation;
 ghost use Rattle.model.specs.declared.Refusal.the-variants as refusal;
 ghost use Rattle.slab.specs.Calls.{stateOf, answerOf, metaAfter, textAfter, fetchedIf, listAfter};
-ghost use Rattle.slab.specs.Arena.{pagesOf, Arena, roomTold};
+ghost use Rattle.model.specs.Sizes.{roomFor};
+ghost use Rattle.classes.specs.Table.{classFor};
+ghost use Rattle.account.specs.Decoding.{accountIn};
+ghost use Rattle.slab.specs.Arena.{pagesOf, Arena, Accepted, roomTold};
 use model::Answer;
 use model::Call;
 use model::Holding;
@@ -17,6 +20,7 @@ use model::Operation;
 use model::Refusal;
 use model::numbers::FIGURE_WORDS;
 use model::numbers::HEADER_WORDS;
+use model::numbers::MOST_BYTES;
 use model::numbers::MOST_PAGES;
 
 // The words in front of those of the pages.
@@ -124,25 +128,62 @@ pub fn holdings(meta: &mut [u32], list: &mut [Holding]) -> Answer
     unread()
 }
 
-// The group is granted a block of so many bytes. The class is looked up once, for the chunk and for its room.
+// Sets the ceiling of a group, in bytes. What the group holds stays, even where it is more.
+pub fn set_ceiling(meta: &mut [u32], group: u32, ceiling: u32) -> Answer
+    ensures { λ r. ⌜ r ≡ answerOf (now (meta .entry)) (rules.act (rules.ceiling group ceiling)) ⌝ }
+    ensures { λ _. ⌜ now (meta .exit) ≡ metaAfter (now (meta .entry)) (rules.act (rules.ceiling group ceiling)) ⌝ }
+{
+    if !account::check(meta) {
+        return Answer::Refused(Refusal::NoState);
+    }
+    if !model::group_ok(group) {
+        return Answer::Refused(Refusal::BadGroup);
+    }
+    if MOST_BYTES < ceiling {
+        return Answer::Refused(Refusal::BadSize);
+    }
+    let index = model::wide(group) - 1;
+    figures::steps::cap(&mut meta[..FIGURE_WORDS], index, ceiling);
+    Answer::Done
+}
+
+// The group is granted a block of so many bytes, if the pages that it needs are found.
+fn grant_in(meta: &mut [u32], n: usize, group: u32, size: u32, class: u32, room: u32) -> Answer
+    requires { ⌜ Arena (now meta) n × Accepted (accountIn (now meta)) group size ⌝ }
+    requires { ⌜ (class ≡ classFor size) × (room ≡ roomFor size) ⌝ }
+    ensures { λ r. ⌜ r ≡ answerOf (now (meta .entry)) (rules.act (rules.group (record { group = group; operation = operation.Allocate size }))) ⌝ }
+    ensures { λ _. ⌜ now (meta .exit) ≡ metaAfter (now (meta .entry)) (rules.act (rules.group (record { group = group; operation = operation.Allocate size }))) ⌝ }
+{
+    let e = account::words_for(n);
+    let answer = allocate::supply(&mut meta[FIGURE_WORDS..e], n, group, size, class);
+    if model::is_refused(answer) {
+        return answer;
+    }
+    let index = model::wide(group) - 1;
+    figures::steps::add(&mut meta[..FIGURE_WORDS], index, room);
+    answer
+}
+
+// A group asks for a block of so many bytes: what is refused before any run is looked at, in its order, 4, 5, 10. The class is looked up
+// once, for the chunk and for its room.
 fn allocate_in(meta: &mut [u32], n: usize, group: u32, size: u32) -> Answer
     requires { ⌜ Arena (now meta) n ⌝ }
     ensures { λ r. ⌜ r ≡ answerOf (now (meta .entry)) (rules.act (rules.group (record { group = group; operation = operation.Allocate size }))) ⌝ }
     ensures { λ _. ⌜ now (meta .exit) ≡ metaAfter (now (meta .entry)) (rules.act (rules.group (record { group = group; operation = operation.Allocate size }))) ⌝ }
 {
-    let e = account::words_for(n);
-    let class = classes::class_for(size);
-    let answer = allocate::allocate(&mut meta[FIGURE_WORDS..e], n, group, size, class);
-    if model::is_refused(answer) {
-        return answer;
+    if !model::group_ok(group) {
+        return model::denied_by(Refusal::BadGroup);
     }
+    if !allocate::size_ok(size) {
+        return model::denied_by(Refusal::BadSize);
+    }
+    let class = classes::class_for(size);
+    let room = allocate::room_for(size, class);
     let index = model::wide(group) - 1;
-    figures::steps::add(
-        &mut meta[..FIGURE_WORDS],
-        index,
-        allocate::room_for(size, class),
-    );
-    answer
+    if !figures::within(&meta[..FIGURE_WORDS], index, room) {
+        return model::denied_by(Refusal::OverCeiling);
+    }
+    grant_in(meta, n, group, size, class, room)
 }
 
 // The room that an answer tells of a block, 0 where it tells of none.

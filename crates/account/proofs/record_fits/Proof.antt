@@ -1,5 +1,5 @@
 -- `record_fits` meets its contract. Assumes nothing.
-use Rattle.account.proofs.Checked.{other-blocks, other-bytes, too-low, last-test}
+use Rattle.account.proofs.Checked.{other-blocks, other-bytes, too-low, too-high, last-test}
 use borrow.Author.Needs.{needs}
 use Rattle.account.proofs.record_fits.Statement.{statement}
 use Rattle.account.proofs.record_fits.Tie as tie
@@ -21,10 +21,17 @@ returns-3 c =
 
 returns-4 : tie.Need-returns-4
 returns-4 c =
-    let two : tie.Else2 = c .before .before in
+    let a = c .before .before .before .before .before .before .before .before .before .args in
+    too-high (a .figures .now) (a .tally .now) (a .index) (a .most) (c .if4 .taken)
+
+returns-5 : tie.Need-returns-5
+returns-5 c =
+    let four : tie.Else4 = c .before in
+    let three : tie.Else3 = four .before in
+    let two : tie.Else2 = three .before .before in
     let one : tie.Else1 = two .before .before .before in
     let a = one .before .before .before .args in
-    last-test (a .figures .now) (a .tally .now) (a .index) (a .most) (one .if1 .left) (two .if2 .left) (c .if3 .left)
+    last-test (a .figures .now) (a .tally .now) (a .index) (a .most) (one .if1 .left) (two .if2 .left) (three .if3 .left) (four .if4 .left)
 
 pub record-fits-spec : {M : Type 1} → statement M
 record-fits-spec =
@@ -46,4 +53,8 @@ record-fits-spec =
     (λ c. search needs)
     (λ c. search needs)
     returns-3
-    returns-4)
+    returns-4
+    (λ c. search needs)
+    (λ c. search needs)
+    (λ c. search needs)
+    returns-5)

@@ -1,19 +1,20 @@
 -- `free_in` meets its contract. Assumes nothing.
 use native.Mathlib.Omega.{arith}
-use mathlib.Core.Path.{_≡_, sym, ap, _∙_}
+use mathlib.Core.Path.{_≡_, refl, sym, ap, _∙_}
 use mathlib.Core.Bool.{false}
 use Prim.Native.Nat.{_-_}
 use lib.ListN.{length, take}
 use Rattle.lemmas.specs.Parts.{putMid}
 use Rattle.model.specs.Numbers.{figureWords}
 use Rattle.model.specs.declared.Operation.the-variants.{Free}
-use Rattle.model.specs.Holdings.{holdingOf}
+use Rattle.model.specs.State.{State}
+use Rattle.model.specs.Holdings.{holdingOf, ceilingAt}
 use Rattle.model.specs.PageMap.{pageMap, blockAt}
 use Rattle.model.specs.Trim.{described}
-use Rattle.model.specs.Calls.{Action, group, isRefused}
-use Rattle.model.specs.Perform.{serve}
-use Rattle.figures.specs.Encoding.{figuresEncoding}
+use Rattle.model.specs.Calls.{Action, group, Outcome, isRefused}
+use Rattle.model.specs.Free.{free}
 use Rattle.figures.proofs.Encoded.{length-figures}
+use Rattle.account.specs.Encoding.{figuresOf}
 use Rattle.account.specs.Decoding.{accountIn}
 use Rattle.slab.specs.Arena.{roomTold}
 use Rattle.slab.proofs.Acting.{arena-few, arena-valid, arena-inside, arena-good, arena-answer, arena-done, arena-not, figures-there, long-there, arena-stepped, arena-refused, told-room}
@@ -43,18 +44,21 @@ begun c = start (sized (answered (kept c)))
 abbrev call : tie.Start → Action
 call s = group (record { group = s .args .group; operation = Free (s .args .offset) })
 
+abbrev asks : tie.Start → State → Outcome State
+asks s = free (s .args .group) (s .args .offset)
+
 -- The figures, as they are lent for their step.
 lent : (c : tie.After-wide) → take figureWords (putMid figureWords (sized (answered (kept c)) .words-for .result - figureWords) (begun c .args .meta .now) (answered (kept c) .free .last .0))
-    ≡ figuresEncoding (holdingOf (accountIn (begun c .args .meta .now)))
-lent c = let a = answered (kept c) in let w = sized a in figures-there (start w .pre) _ (w .words-for .ensures) (call (start w)) _ (a .free .ensures .1)
+    ≡ figuresOf (accountIn (begun c .args .meta .now))
+lent c = let a = answered (kept c) in let w = sized a in figures-there (start w .pre) _ (w .words-for .ensures) (call (start w)) (asks (start w)) refl _ (a .free .ensures .1)
 
 -- It was not refused.
-done : (c : tie.After-wide) → isRefused ((serve (accountIn (begun c .args .meta .now) .state) (call (begun c))) .answer) ≡ false
+done : (c : tie.After-wide) → isRefused ((asks (begun c) (accountIn (begun c .args .meta .now) .state)) .answer) ≡ false
 done c =
     let t = kept c in
     let a = answered t in
     let w = sized a in
-    arena-done (start w .pre) _ (w .words-for .ensures) (call (start w)) _ (a .free .ensures .0) _ (t .is-refused .ensures) (c .before .if1 .left)
+    arena-done (start w .pre) _ (w .words-for .ensures) (call (start w)) (asks (start w)) refl _ (a .free .ensures .0) _ (t .is-refused .ensures) (c .before .if1 .left)
 
 -- The room that was told before the block came back.
 told : (c : tie.After-wide) → answered (kept c) .before .before .room-told .result ≡ roomTold (described (blockAt (pageMap (accountIn (begun c .args .meta .now) .state)) (begun c .args .offset)))
@@ -86,16 +90,16 @@ returns c =
     let s = start w in
     let e = w .words-for .ensures in
     let r = a .free .ensures in
-    (arena-answer (s .pre) _ e (call s) _ (r .0), arena-refused (s .pre) _ e (call s) _ (r .1) (arena-not (s .pre) _ e (call s) _ (r .0) _ (t .is-refused .ensures) (c .if1 .taken)))
+    (arena-answer (s .pre) _ e (call s) (asks s) refl _ (r .0), arena-refused (s .pre) _ e (call s) (asks s) refl _ (r .1) (arena-not (s .pre) _ e (call s) (asks s) refl _ (r .0) _ (t .is-refused .ensures) (c .if1 .taken)))
 
 sub-index : tie.Need-sub-index
-sub-index c = let s = begun c in omega (arith, c .wide .ensures, caller (s .args .group) (Free (s .args .offset)) _ (done c) .0)
+sub-index c = let s = begun c in omega (arith, c .wide .ensures, caller 0 (s .args .group) (Free (s .args .offset)) _ (done c) .0)
 
 slice-relend-prefix-take : tie.Need-slice-relend-prefix-take
-slice-relend-prefix-take c = let a = answered (kept c) in let w = sized a in long-there (start w .pre) _ (w .words-for .ensures) (call (start w)) _ (a .free .ensures .1)
+slice-relend-prefix-take c = let a = answered (kept c) in let w = sized a in long-there (start w .pre) _ (w .words-for .ensures) (call (start w)) (asks (start w)) refl _ (a .free .ensures .1)
 
 slice-aggregate-take : tie.Need-slice-aggregate-take
-slice-aggregate-take c = sym (ap length (lent (c .before)) ∙ length-figures (holdingOf (accountIn (begun (c .before) .args .meta .now))))
+slice-aggregate-take c = sym (ap length (lent (c .before)) ∙ length-figures (holdingOf (accountIn (begun (c .before) .args .meta .now))) (ceilingAt (accountIn (begun (c .before) .args .meta .now))))
 
 take-requires : tie.Need-take-requires
 take-requires c κs =
@@ -112,8 +116,8 @@ returns-2 c =
     let s = start w in
     let e = w .words-for .ensures in
     let r = a .free .ensures in (
-      arena-answer (s .pre) _ e (call s) _ (r .0),
-      arena-stepped (s .pre) _ e (call s) _ (r .1) _
+      arena-answer (s .pre) _ e (call s) (asks s) refl _ (r .0),
+      arena-stepped (s .pre) _ e (call s) (asks s) refl _ (r .1) _
           (return-done (accountIn (s .args .meta .now)) (arena-valid (s .pre)) (s .args .group) (s .args .offset) (done i) _ (lent i) _ (ap (λ g. g - 1) (i .wide .ensures)) _ (told i) _ (b .take .ensures)),
     )
 

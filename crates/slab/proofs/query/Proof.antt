@@ -1,6 +1,7 @@
 -- `query` meets its contract. Assumes nothing.
-use mathlib.Core.Path.{sym}
+use mathlib.Core.Path.{refl, sym}
 use Rattle.model.specs.Calls.{query}
+use Rattle.model.specs.Trim.{queryAt}
 use Rattle.slab.specs.Arena.{Arena}
 use Rattle.slab.proofs.Words.{query-same}
 use Rattle.slab.proofs.Acting.{refused-answer, refused-words, arena-of, arena-few, arena-inside, arena-good, arena-answer}
@@ -28,7 +29,7 @@ returns-2 : tie.Need-returns-2
 returns-2 c =
     let w : tie.After-words-for = c .before .before .before in
     let s = w .before .before .before .before .before in
-    (arena-answer (arena (w .before)) _ (w .words-for .ensures) (query (s .args .offset)) _ (c .describe .ensures), sym (query-same _ _))
+    (arena-answer (arena (w .before)) _ (w .words-for .ensures) (query (s .args .offset)) (queryAt (s .args .offset)) refl _ (c .describe .ensures), sym (query-same _ _))
 
 pub query-spec : {M : Type 1} → statement M
 query-spec =

@@ -1,17 +1,18 @@
 -- `reset_in` meets its contract. Assumes nothing.
 use native.Mathlib.Omega.{arith}
-use mathlib.Core.Path.{_≡_, sym, ap, _∙_}
+use mathlib.Core.Path.{_≡_, refl, sym, ap, _∙_}
 use mathlib.Core.Bool.{false}
 use Prim.Native.Nat.{_-_}
 use lib.ListN.{length, take}
 use Rattle.lemmas.specs.Parts.{putMid}
 use Rattle.model.specs.Numbers.{figureWords}
 use Rattle.model.specs.declared.Operation.the-variants.{Reset}
-use Rattle.model.specs.Holdings.{holdingOf}
-use Rattle.model.specs.Calls.{Action, group, isRefused}
-use Rattle.model.specs.Perform.{serve}
-use Rattle.figures.specs.Encoding.{figuresEncoding}
+use Rattle.model.specs.State.{State}
+use Rattle.model.specs.Holdings.{holdingOf, ceilingAt}
+use Rattle.model.specs.Calls.{Action, group, Outcome, isRefused}
+use Rattle.model.specs.Free.{reset}
 use Rattle.figures.proofs.Encoded.{length-figures}
+use Rattle.account.specs.Encoding.{figuresOf}
 use Rattle.account.specs.Decoding.{accountIn}
 use Rattle.slab.proofs.Acting.{arena-few, arena-valid, arena-inside, arena-good, arena-answer, arena-done, arena-not, figures-there, long-there, arena-stepped, arena-refused}
 use Rattle.slab.proofs.Caller.{caller}
@@ -40,18 +41,21 @@ begun c = start (sized (answered (kept c)))
 abbrev call : tie.Start → Action
 call s = group (record { group = s .args .group; operation = Reset })
 
+abbrev asks : tie.Start → State → Outcome State
+asks s = reset (s .args .group)
+
 -- The figures, as they are lent for their step.
 lent : (c : tie.After-wide) → take figureWords (putMid figureWords (sized (answered (kept c)) .words-for .result - figureWords) (begun c .args .meta .now) (answered (kept c) .reset .last .0))
-    ≡ figuresEncoding (holdingOf (accountIn (begun c .args .meta .now)))
-lent c = let a = answered (kept c) in let w = sized a in figures-there (start w .pre) _ (w .words-for .ensures) (call (start w)) _ (a .reset .ensures .1)
+    ≡ figuresOf (accountIn (begun c .args .meta .now))
+lent c = let a = answered (kept c) in let w = sized a in figures-there (start w .pre) _ (w .words-for .ensures) (call (start w)) (asks (start w)) refl _ (a .reset .ensures .1)
 
 -- It was not refused.
-done : (c : tie.After-wide) → isRefused ((serve (accountIn (begun c .args .meta .now) .state) (call (begun c))) .answer) ≡ false
+done : (c : tie.After-wide) → isRefused ((asks (begun c) (accountIn (begun c .args .meta .now) .state)) .answer) ≡ false
 done c =
     let t = kept c in
     let a = answered t in
     let w = sized a in
-    arena-done (start w .pre) _ (w .words-for .ensures) (call (start w)) _ (a .reset .ensures .0) _ (t .is-refused .ensures) (c .before .if1 .left)
+    arena-done (start w .pre) _ (w .words-for .ensures) (call (start w)) (asks (start w)) refl _ (a .reset .ensures .0) _ (t .is-refused .ensures) (c .before .if1 .left)
 
 words-for-requires : tie.Need-words-for-requires
 words-for-requires c κs = arena-few (c .before .pre)
@@ -70,16 +74,16 @@ returns c =
     let s = start w in
     let e = w .words-for .ensures in
     let r = a .reset .ensures in
-    (arena-answer (s .pre) _ e (call s) _ (r .0), arena-refused (s .pre) _ e (call s) _ (r .1) (arena-not (s .pre) _ e (call s) _ (r .0) _ (t .is-refused .ensures) (c .if1 .taken)))
+    (arena-answer (s .pre) _ e (call s) (asks s) refl _ (r .0), arena-refused (s .pre) _ e (call s) (asks s) refl _ (r .1) (arena-not (s .pre) _ e (call s) (asks s) refl _ (r .0) _ (t .is-refused .ensures) (c .if1 .taken)))
 
 sub-index : tie.Need-sub-index
-sub-index c = let s = begun c in omega (arith, c .wide .ensures, caller (s .args .group) Reset _ (done c) .0)
+sub-index c = let s = begun c in omega (arith, c .wide .ensures, caller 0 (s .args .group) Reset _ (done c) .0)
 
 slice-relend-prefix-clear : tie.Need-slice-relend-prefix-clear
-slice-relend-prefix-clear c = let a = answered (kept c) in let w = sized a in long-there (start w .pre) _ (w .words-for .ensures) (call (start w)) _ (a .reset .ensures .1)
+slice-relend-prefix-clear c = let a = answered (kept c) in let w = sized a in long-there (start w .pre) _ (w .words-for .ensures) (call (start w)) (asks (start w)) refl _ (a .reset .ensures .1)
 
 slice-aggregate-clear : tie.Need-slice-aggregate-clear
-slice-aggregate-clear c = sym (ap length (lent (c .before)) ∙ length-figures (holdingOf (accountIn (begun (c .before) .args .meta .now))))
+slice-aggregate-clear c = sym (ap length (lent (c .before)) ∙ length-figures (holdingOf (accountIn (begun (c .before) .args .meta .now))) (ceilingAt (accountIn (begun (c .before) .args .meta .now))))
 
 clear-requires : tie.Need-clear-requires
 clear-requires c κs =
@@ -96,8 +100,8 @@ returns-2 c =
     let s = start w in
     let e = w .words-for .ensures in
     let r = a .reset .ensures in (
-      arena-answer (s .pre) _ e (call s) _ (r .0),
-      arena-stepped (s .pre) _ e (call s) _ (r .1) _
+      arena-answer (s .pre) _ e (call s) (asks s) refl _ (r .0),
+      arena-stepped (s .pre) _ e (call s) (asks s) refl _ (r .1) _
           (reset-done (accountIn (s .args .meta .now)) (arena-valid (s .pre)) (s .args .group) (done i) _ (lent i) _ (ap (λ g. g - 1) (i .wide .ensures)) _ (b .clear .ensures)),
     )
 

@@ -1,7 +1,8 @@
 -- `trim` meets its contract. Assumes nothing.
-use mathlib.Core.Path.{ap}
+use mathlib.Core.Path.{refl, ap}
 use Rattle.model.specs.declared.Answer.the-variants.{Counted}
 use Rattle.model.specs.Calls.{trim}
+use Rattle.model.specs.Trim.{trimAll}
 use Rattle.slab.specs.Arena.{Arena}
 use Rattle.slab.proofs.Acting.{refused-answer, refused-words, arena-of, arena-valid, arena-few, arena-inside, arena-good, arena-answer, arena-still}
 use Rattle.slab.proofs.Resetting.{trim-figures}
@@ -31,8 +32,8 @@ returns-2 c =
     let h = arena (w .before) in
     let e = w .words-for .ensures in
     let r = c .before .before .trim-all .ensures in
-    let words = arena-still h _ e trim _ (r .1) (trim-figures _ (arena-valid h)) in
-    (arena-answer h _ e trim _ (ap Counted (r .0)), words)
+    let words = arena-still h _ e trim trimAll refl _ (r .1) (trim-figures _ (arena-valid h)) in
+    (arena-answer h _ e trim trimAll refl _ (ap Counted (r .0)), words)
 
 pub trim-spec : {M : Type 1} → statement M
 trim-spec =
