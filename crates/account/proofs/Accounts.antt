@@ -240,7 +240,7 @@ module _ (a : Account) (v : ValidAccount a) where
         (ap (λ f. figuresFit f (decode (statePart w))) figures-is ∙ ap (figuresFit F) decoded ∙ figures-fit F F-long (a .state)
         (λ i l.
         let fit : Fitting (holdingOf a i) (ceilingAt a i) (blocksOf (suc i) (pageMap (a .state))) (heldOf (suc i) (pageMap (a .state))) (total (a .state .segments) * pageBytes)
-            = record { blocks = refl; held = refl; least = v .least i l; most = v .most i l; ceiling = v .ceiling i l } in
+        = record { blocks = refl; held = refl; least = v .least i l; most = v .most i l; ceiling = v .ceiling i l } in
         subst (λ (h : Holding × ℕ). Fitting (h .0) (h .1) (blocksOf (suc i) (pageMap (a .state))) (heldOf (suc i) (pageMap (a .state))) (total (a .state .segments) * pageBytes))
         (λ j. (sym (record-encoded (holdingOf a) (ceilingAt a) i l) j, sym (ceiling-encoded (holdingOf a) (ceilingAt a) i l) j)) fit)
         (rest-encoded (holdingOf a) (ceilingAt a)))

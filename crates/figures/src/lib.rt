@@ -39,10 +39,10 @@ pub fn set_up(words: &mut [u32])
     requires { ⌜ length (now words) ≡ figureWords ⌝ }
     ensures { λ _. ⌜ now (words .exit) ≡ figuresEncoding noHolding largest ⌝ }
 {
-    let mut i: usize = 0;
-    while i < FIGURE_WORDS {
-        words[i] = first_word(i);
-        i += 1;
+    let mut at: usize = 0;
+    while at < FIGURE_WORDS {
+        words[at] = first_word(at);
+        at += 1;
     }
 }
 

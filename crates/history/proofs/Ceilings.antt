@@ -36,7 +36,7 @@ module _ (x : Account) (v : ValidAccount x) (k : ℕ → ℕ) (told : (i : ℕ) 
   ceilings-served (ceiling g c) i h = bool (groupOk g)
       (λ t. bool (leb c mostBytes)
       (λ u. rw (t, u) (
-        limited-at g c x v (omega (arith, group-least g t, group-most g t)) i ∙ (λ j. cond (index-group i g (group-least g t) j) c (told i h j))))
+      limited-at g c x v (omega (arith, group-least g t, group-most g t)) i ∙ (λ j. cond (index-group i g (group-least g t) j) c (told i h j))))
       (λ u. rw (t, u) (told i h)))
       (λ t. rw t (told i h))
 

@@ -332,9 +332,9 @@ module _ (B : Type 0) (view : B → Metadata) (next : B → Command → B) (says
       (λ x i. early x (subst (List·Memᴰ x) (sym (re .live)) i))
       (λ x i. subst (List·Memᴰ x) (re .live) (all x (subst (List·Memᴰ x) (sym (rs .live)) i))) in
       let tops : SameCeilings B view next says split end → rs .account .ceilings ≡ re .account .ceilings =
-          λ c. ext-getD 0 (rs .account .ceilings) (re .account .ceilings) (rs .valid .limits ∙ sym (re .valid .limits)) (λ i l.
-          let k : i < mostGroup = omega (arith, rs .valid .limits) in
-          rs .ceilings i k ∙ sym (c (suc i) (and-both (leb 1 (suc i)) (leb (suc i) mostGroup) (le-leb 1 (suc i) (omega arith)) (le-leb (suc i) mostGroup (omega arith)))) ∙ sym (re .ceilings i k)) in
+      λ c. ext-getD 0 (rs .account .ceilings) (re .account .ceilings) (rs .valid .limits ∙ sym (re .valid .limits)) (λ i l.
+      let k : i < mostGroup = omega (arith, rs .valid .limits) in
+      rs .ceilings i k ∙ sym (c (suc i) (and-both (leb 1 (suc i)) (leb (suc i) mostGroup) (le-leb 1 (suc i) (omega arith)) (le-leb (suc i) mostGroup (omega arith)))) ∙ sym (re .ceilings i k)) in
       alike (rs .words) (re .words) _ _ (rs .account) (re .account) (rs .keeps) (re .keeps) (rs .valid .state) (re .valid .state) _ tops
       (λ o. cc (re .agree o, rs .agree o)) (cc)
 

@@ -1,4 +1,4 @@
--- Setting a ceiling on words that pass the check: its refusals, and the one word that it changes. Assumes nothing.
+-- Setting a ceiling on words that pass the check: its refusals, 4 and 5, and the one word that it changes. Assumes nothing.
 use Prim.Native.Nat.{ℕ, _-_, _≤_, _<_}
 use mathlib.Core.Path.{_≡_, refl, sym, ap, _∙_}
 use mathlib.Core.List.{List, _++_, append-assoc}
@@ -9,7 +9,7 @@ use lib.ListN.{length, take, drop, length-append}
 use lib.Seq.{drop-at, length-take-le}
 use borrow.Author.Tests.{le-leb, lt-leb}
 use Rattle.model.specs.Numbers.{mostGroup, mostBytes, figureWords}
-use Rattle.model.specs.declared.Refusal.the-variants.{NoState, BadGroup, BadSize}
+use Rattle.model.specs.declared.Refusal.the-variants.{BadGroup, BadSize}
 use Rattle.model.specs.declared.Answer.{Answer}
 use Rattle.model.specs.declared.Answer.the-variants.{Refused, Done}
 use Rattle.model.specs.Holdings.{Account, holdingOf, ceilingAt}
@@ -21,19 +21,15 @@ use Rattle.figures.proofs.Encoded.{length-figures}
 use Rattle.metadata.specs.Encoding.{encode}
 use Rattle.account.specs.Encoding.{figuresOf, accountEncoding}
 use Rattle.account.specs.Decoding.{accountIn, isAccount}
-use Rattle.account.proofs.Accounts.{account-valid, account-begins, accountOf-none, has-figures, figures-are}
+use Rattle.account.proofs.Accounts.{account-valid, account-begins, has-figures, figures-are}
 use Rattle.account.proofs.Next.{capped-figures}
 use Rattle.slab.specs.Calls.{answerOf, metaAfter}
-use Rattle.slab.proofs.Words.{front-same, refused-same, unserved-answer, served-answer, served-words, served-long}
+use Rattle.slab.proofs.Words.{front-same, refused-same, served-answer, served-words, served-long}
 
 module _ (w : List ℕ) (g c : ℕ) where
   -- What the answer and the words are, where it is refused.
   refused : (r : Answer) → r ≡ answerOf w (act (ceiling g c)) → isRefused r ≡ true → (r ≡ answerOf w (act (ceiling g c))) × (w ≡ metaAfter w (act (ceiling g c)))
   refused r e t = (e, sym (refused-same w (act (ceiling g c)) (ap isRefused (sym e) ∙ t)))
-
-  -- Refusal 3.
-  pub unset : isAccount w ≡ false → (Refused NoState ≡ answerOf w (act (ceiling g c))) × (w ≡ metaAfter w (act (ceiling g c)))
-  unset t = refused (Refused NoState) (sym (unserved-answer w (accountOf-none w t) (ceiling g c))) refl
 
   module _ (t : isAccount w ≡ true) where
     abbrev x : Account
@@ -76,9 +72,8 @@ module _ (w : List ℕ) (g c : ℕ) where
           let same : (setCeiling g c x) .after ≡ y = rw (u, le-leb c mostBytes h) in
           let F-long = length-figures (holdingOf x) (ceilingAt x) in
           let whole : w ≡ figuresOf x ++ (encode (x .state) ++ drop (length (accountEncoding x)) w)
-              = sym (front-same (accountEncoding x) w (account-begins w t)) ∙ append-assoc (figuresOf x) (encode (x .state)) (drop (length (accountEncoding x)) w) in
-          let step : v ≡ figuresOf y = q ∙ (λ j. capped (at j) c (set-lent j)) ∙ capped-figures x (account-valid w t) g c index-low in
-          (
+          = sym (front-same (accountEncoding x) w (account-begins w t)) ∙ append-assoc (figuresOf x) (encode (x .state)) (drop (length (accountEncoding x)) w) in
+          let step : v ≡ figuresOf y = q ∙ (λ j. capped (at j) c (set-lent j)) ∙ capped-figures x (account-valid w t) g c index-low in (
             served (rw (u, le-leb c mostBytes h)),
             (λ j. step j ++ drop figureWords (whole j))
                 ∙ ap (λ l. figuresOf y ++ l) (drop-at (figuresOf x) (encode (x .state) ++ drop (length (accountEncoding x)) w) figureWords F-long)

@@ -242,8 +242,7 @@ pub over-ceiling : (w : List ℕ) (g n : ℕ) → DeniedBy 10 (answerOf w (act (
 over-ceiling w g n = denied-exactly 10 (λ q. omega arith) (λ x. (groupOk g ≡ true) × (sizeOk n ≡ true) × (ceilingOf x g < heldOf g (pageMap (x .state)) + roomFor n)) w g n (λ x e.
     let told = answered w x e (request g n) in
     let rule = rules.over-ceiling (x .state) (ceilingOf x g) g n in
-    let sum = heldOf g (pageMap (x .state)) + roomFor n in
-    (
+    let sum = heldOf g (pageMap (x .state)) + roomFor n in (
       λ r. let k = rule .0 (subst (DeniedBy 10) told r) in (k .0, k .1, leb-false sum (ceilingOf x g) (k .2)),
       λ k. subst (DeniedBy 10) (sym told) (rule .1 (k .0, k .1, lt-leb sum (ceilingOf x g) (k .2))),
     ))
@@ -252,8 +251,7 @@ over-ceiling w g n = denied-exactly 10 (λ q. omega arith) (λ x. (groupOk g ≡
 pub ceiling-set : (w : List ℕ) (x : Account) → accountOf w ≡ some x → (g c : ℕ) → groupOk g ≡ true → c ≤ mostBytes →
     (answerOf w (act (ceiling g c)) ≡ Done) × (accountOf (metaAfter w (act (ceiling g c))) ≡ some (limited g c x))
 ceiling-set w x e g c t h =
-    let u = le-leb c mostBytes h in
-    (
+    let u = le-leb c mostBytes h in (
       answered w x e (ceiling g c) ∙ rw (t, u),
       ap (λ m. m .account) (view-after w (act (ceiling g c))) ∙ ap (λ y. (onAccount (viewOf w) (ceiling g c) y) .after .account) e ∙ rw (t, u),
     )

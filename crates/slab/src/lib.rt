@@ -133,18 +133,19 @@ pub fn set_ceiling(meta: &mut [u32], group: u32, ceiling: u32) -> Answer
     ensures { λ r. ⌜ r ≡ answerOf (now (meta .entry)) (rules.act (rules.ceiling group ceiling)) ⌝ }
     ensures { λ _. ⌜ now (meta .exit) ≡ metaAfter (now (meta .entry)) (rules.act (rules.ceiling group ceiling)) ⌝ }
 {
-    if !account::check(meta) {
+    let n = arena_pages(meta);
+    if n == 0 {
         return Answer::Refused(Refusal::NoState);
     }
     if !model::group_ok(group) {
         return Answer::Refused(Refusal::BadGroup);
     }
-    if MOST_BYTES < ceiling {
-        return Answer::Refused(Refusal::BadSize);
+    if ceiling <= MOST_BYTES {
+        let index = model::wide(group) - 1;
+        figures::steps::cap(&mut meta[..FIGURE_WORDS], index, ceiling);
+        return Answer::Done;
     }
-    let index = model::wide(group) - 1;
-    figures::steps::cap(&mut meta[..FIGURE_WORDS], index, ceiling);
-    Answer::Done
+    Answer::Refused(Refusal::BadSize)
 }
 
 // The group is granted a block of so many bytes, if the pages that it needs are found.

@@ -1,4 +1,4 @@
--- `set_up` meets its contract. The loop's invariant: `i` words are set up. Assumes nothing.
+-- `set_up` meets its contract. The loop's invariant: `at` words are set up. Assumes nothing.
 use Prim.Native.Nat.{_-_}
 use mathlib.Core.Path.{sym, _∙_}
 use Rattle.model.specs.Numbers.{figureWords}
@@ -8,22 +8,22 @@ use Rattle.figures.proofs.set_up.Statement.{statement}
 use Rattle.figures.proofs.set_up.Tie as tie
 
 abbrev Inv-loop : tie.InvT-loop
-Inv-loop words₀ i₀ words i = Begun words i
+Inv-loop words₀ at₀ words at = Begun words at
 
 abbrev μ-loop : tie.MeasureT-loop
-μ-loop words₀ i₀ words i = figureWords - i
+μ-loop words₀ at₀ words at = figureWords - at
 
 loop-holds : tie.Need-loop-holds Inv-loop μ-loop
 loop-holds c = begun-none _ (c .before .pre)
 
 loop-again : tie.Need-loop-again Inv-loop μ-loop
-loop-again c = let l = c .before .before .loop in begun-more (l .words) (l .i) _ (l .inv) (c .before .loop-test .taken) (c .first-word .ensures)
+loop-again c = let l = c .before .before .loop in begun-more (l .words) (l .at) _ (l .inv) (c .before .loop-test .taken) (c .first-word .ensures)
 
 same-length : tie.Need-same-length Inv-loop μ-loop
 same-length c = c .before .loop .inv .long ∙ sym (c .before .before .before .pre)
 
 returns : tie.Need-returns Inv-loop μ-loop
-returns c = let l = c .before .loop in begun-all (l .words) (l .i) (l .inv) (c .loop-test .left)
+returns c = let l = c .before .loop in begun-all (l .words) (l .at) (l .inv) (c .loop-test .left)
 
 pub set-up-spec : {M : Type 1} → statement M
 set-up-spec =
