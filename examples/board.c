@@ -14,8 +14,8 @@
 #include <stdlib.h>
 #include <string.h>
 
-#if NOSTRIMEL_LAYOUT != 2
-#error "This program was written for words of layout 2."
+#if NOSTRIMEL_LAYOUT != 3
+#error "This program was written for words of layout 3."
 #endif
 
 #define PAGES 24u

@@ -73,14 +73,14 @@ extern "C" {
  * Which layout the words have (docs/LAYOUT.md). It grows whenever the words of some state change, so words that were kept are to be
  * lent only to a library with the number of the one that wrote them. #if compares it.
  */
-#define NOSTRIMEL_LAYOUT 2u
+#define NOSTRIMEL_LAYOUT 3u
 
 /* Bytes of a page, the most pages of an arena, and its groups: 1 to NOSTRIMEL_GROUPS. */
 #define NOSTRIMEL_PAGE_BYTES 4096u
 #define NOSTRIMEL_MAX_PAGES 256u
 #define NOSTRIMEL_GROUPS 12u
 
-/* The largest size that a request may name, in bytes: all of the largest arena. */
+/* The largest size that a request may name, in bytes: all of the largest arena. It is the largest ceiling of a group, too. */
 #define NOSTRIMEL_MAX_SIZE 1048576u
 
 /* How many words of metadata an arena of so many pages needs: 13,568 for 24 pages, 134,208 for 256. #if can compute it. */
@@ -96,19 +96,20 @@ extern "C" {
  * listing is refused for want of room; for an arena of 24 pages or fewer 207 are enough. */
 #define NOSTRIMEL_LONGEST_LISTING 2220u
 
-/* Why a call was refused. 10 and 11 are kept for later. */
+/* Why a call was refused. 11 is kept for later. */
 enum nostrimel_refusal {
-    NOSTRIMEL_DONE = 0,         /* not refused */
-    NOSTRIMEL_BAD_PAGES = 1,    /* the number of pages is 0 or above 256 */
-    NOSTRIMEL_FEW_WORDS = 2,    /* fewer words than so many pages need */
-    NOSTRIMEL_NO_STATE = 3,     /* the words hold no valid state, or are fewer than theirs needs */
-    NOSTRIMEL_BAD_GROUP = 4,    /* the group is not 1 to 12 */
-    NOSTRIMEL_BAD_SIZE = 5,     /* the size is 0 or above 1,048,576 */
-    NOSTRIMEL_NO_ROOM = 6,      /* pages are needed, and no free run would have as many even after a trim */
-    NOSTRIMEL_NO_BLOCK = 7,     /* no live block begins at the offset */
-    NOSTRIMEL_OTHER_GROUP = 8,  /* the block is another group's */
-    NOSTRIMEL_BAD_LIST = 9,     /* the list is not of 12 records */
-    NOSTRIMEL_SHORT_BUFFER = 12 /* the capacity is less than the listing's length */
+    NOSTRIMEL_DONE = 0,          /* not refused */
+    NOSTRIMEL_BAD_PAGES = 1,     /* the number of pages is 0 or above 256 */
+    NOSTRIMEL_FEW_WORDS = 2,     /* fewer words than so many pages need */
+    NOSTRIMEL_NO_STATE = 3,      /* the words hold no valid state, or are fewer than theirs needs */
+    NOSTRIMEL_BAD_GROUP = 4,     /* the group is not 1 to 12 */
+    NOSTRIMEL_BAD_SIZE = 5,      /* the size is 0 or above 1,048,576, or the ceiling is above 1,048,576 */
+    NOSTRIMEL_NO_ROOM = 6,       /* pages are needed, and no free run would have as many even after a trim */
+    NOSTRIMEL_NO_BLOCK = 7,      /* no live block begins at the offset */
+    NOSTRIMEL_OTHER_GROUP = 8,   /* the block is another group's */
+    NOSTRIMEL_BAD_LIST = 9,      /* the list is not of 12 records */
+    NOSTRIMEL_OVER_CEILING = 10, /* the group would hold more than its ceiling */
+    NOSTRIMEL_SHORT_BUFFER = 12  /* the capacity is less than the listing's length */
 };
 
 /* What a group holds. A block counts with its room, as nostrimel_query tells it: 104 bytes for a request of 100. */
@@ -119,8 +120,8 @@ struct nostrimel_holding {
 };
 
 /*
- * Makes the metadata those of a fresh arena: all pages free, no block live. Whatever the words held is forgotten, an arena in use
- * among them.
+ * Makes the metadata those of a fresh arena: all pages free, no block live, and the ceiling of every group NOSTRIMEL_MAX_SIZE. Whatever
+ * the words held is forgotten, an arena in use among them.
  * Refusals: BAD_PAGES, FEW_WORDS.
  */
 NOSTRIMEL_LOOK_AT uint32_t nostrimel_init(uint32_t *meta, size_t words, uint32_t pages);
@@ -128,6 +129,9 @@ NOSTRIMEL_LOOK_AT uint32_t nostrimel_init(uint32_t *meta, size_t words, uint32_t
 /*
  * Requests a block of at least size bytes for a group. *offset is where it begins, in bytes from the arena's start. The block is
  * live until the group returns it, and shares no byte with another live block.
+ * The group's ceiling: if its held bytes and the new block's room together are more than the ceiling, the request is refused by
+ * OVER_CEILING. Just the ceiling is granted. nostrimel_set_ceiling sets one; where nobody did, it is NOSTRIMEL_MAX_SIZE, so that a
+ * group that holds anything is refused that many bytes by OVER_CEILING.
  * Where pages are needed and no free run has as many, every zone without a live chunk is given back as nostrimel_trim does, if then
  * one has; if not even then, the request is refused by NO_ROOM and nothing has been given back. So trimming before a request is
  * never needed for it to be granted.
@@ -135,7 +139,7 @@ NOSTRIMEL_LOOK_AT uint32_t nostrimel_init(uint32_t *meta, size_t words, uint32_t
  * counts those up to and including the first that has enough pages, or all of them if none has. If none has, a second search goes
  * through the runs as a trim would leave them, whether there is a zone to give back or not, and its count is added, whether it
  * finds one or not. *looked is 0 where no pages are needed, since a zone that stands gives the chunk, and where the request is
- * refused by NO_STATE, BAD_GROUP or BAD_SIZE.
+ * refused by NO_STATE, BAD_GROUP, BAD_SIZE or OVER_CEILING.
  * Its bound: no two runs touch, so an arena of N pages has at most (N + 1) / 2 of them, rounded down. One search looks at no more,
  * and a request at no more than twice as many: at most 24 for 24 pages, at most 256 for 256.
  * Written: *offset only where the function returns 0, *looked always.
@@ -143,7 +147,7 @@ NOSTRIMEL_LOOK_AT uint32_t nostrimel_init(uint32_t *meta, size_t words, uint32_t
  * a multiple of 8 always, of 16 from 128 bytes up, of 32 from 256, of 64 from 512, of 128 from 1,024, of 256 from 2,048, of 512
  * from 4,096, of 4,096 from 8,192; and a request of 64 bytes begins at a multiple of 64. The address arena + *offset is aligned so
  * as far as the arena's start is.
- * Refusals: NO_STATE, BAD_GROUP, BAD_SIZE, NO_ROOM.
+ * Refusals: NO_STATE, BAD_GROUP, BAD_SIZE, OVER_CEILING, NO_ROOM.
  */
 NOSTRIMEL_LOOK_AT uint32_t nostrimel_allocate(uint32_t *meta, size_t words, uint32_t group, uint32_t size, uint32_t *offset,
                                               uint32_t *looked);
@@ -188,10 +192,20 @@ NOSTRIMEL_LOOK_AT uint32_t nostrimel_listing(const uint32_t *meta, size_t words,
  * group's. count has to be NOSTRIMEL_GROUPS; a list with fewer or more records is refused, and no record is written then. Changes no
  * word.
  * The figures stand in the words, and every call keeps them true; words in which they disagree with the blocks are no valid state.
- * nostrimel_init sets them all to 0.
+ * nostrimel_init sets them all to 0. (Ceilings are not among them: docs/LAYOUT.md says in which words they stand.)
  * Refusals: NO_STATE, BAD_LIST.
  */
 NOSTRIMEL_LOOK_AT uint32_t nostrimel_holdings(const uint32_t *meta, size_t words, struct nostrimel_holding *list, size_t count);
+
+/*
+ * Sets the ceiling of a group, in bytes: the most that its requests may bring it to hold, 0 to NOSTRIMEL_MAX_SIZE. It stays until it is
+ * set again, or nostrimel_init sets all of them to NOSTRIMEL_MAX_SIZE. A ceiling of 0 refuses every request of the group.
+ * A ceiling below what the group holds takes nothing away: its blocks stay live, and it can return them. It is granted no block then
+ * until it holds so much less that the block's room fits. A room is what counts, as nostrimel_query tells it, and not the size: 104 bytes
+ * for a request of 100. As long as no ceiling is set below what its group holds, no group ever holds more than its ceiling.
+ * Refusals: NO_STATE, BAD_GROUP, BAD_SIZE (the ceiling is above NOSTRIMEL_MAX_SIZE).
+ */
+NOSTRIMEL_LOOK_AT uint32_t nostrimel_set_ceiling(uint32_t *meta, size_t words, uint32_t group, uint32_t ceiling);
 
 #ifdef __cplusplus
 }

@@ -4,9 +4,10 @@
 //!     cargo run --release --offline --locked -p benches --bin calls
 //!
 //! A call reads all of its state's words before it does anything, so what the check takes is the
-//! least that it can take; the bar says how much more it may. The fetching of holdings has a bar of
-//! its own, since it copies 36 words and does nothing else. The check is `nostrimel_check`, and is
-//! measured in the state that the call meets, in the same round.
+//! least that it can take; the bar says how much more it may. The fetching of holdings and the setting
+//! of a ceiling have bars of their own, since the one copies 36 words and the other writes one, and
+//! neither does anything else. The check is `nostrimel_check`, and is measured in the state that the
+//! call meets, in the same round.
 //!
 //! Each call is measured by itself. What brings the words to its state and what puts them right
 //! again is outside of the measured part, and after each round the words are again those of the
@@ -21,6 +22,7 @@ mod single;
 
 use arenas::{arenas, Arena};
 use bars::remark;
+use reference::ceilings::MAX_CEILING;
 use reference::listing::LONGEST;
 use reference::sizes::{GROUPS, PAGE_BYTES};
 use reference::state::State;
@@ -30,7 +32,7 @@ use single::{clock, time_of};
 use std::cell::RefCell;
 use std::process::ExitCode;
 use tests::calls::{
-    allocate, free, holdings, init, listing, query, reset, trim, Requested, UNFILLED,
+    allocate, free, holdings, init, listing, query, reset, set_ceiling, trim, Requested, UNFILLED,
 };
 use tests::check::check;
 use tests::layout::encode;
@@ -39,6 +41,8 @@ use tests::layout::encode;
 const CALL_BAR: f64 = 1.5;
 /// The same for the fetching of holdings.
 const HOLDINGS_BAR: f64 = 1.05;
+/// The same for the setting of a ceiling.
+const SETTING_BAR: f64 = 1.05;
 /// A reset takes at most one part in so many of what single returns take.
 const RESET_PARTS: f64 = 50.0;
 /// The greatest ratio of a reset of twice the blocks, and of what a request takes beyond the check
@@ -186,6 +190,7 @@ fn measured(arena: Arena) -> Vec<Measured> {
     let give_and_trim =
         |offset| step(move |words| free(words, GROUP, offset) == Ok(()) && trim(words).is_ok());
     let trimmed = || step(|words| trim(words).is_ok());
+    let set = |bytes| step(move |words| set_ceiling(words, GROUP, bytes) == Ok(()));
     // The list is there before the call, as a display's is.
     let list = RefCell::new([UNFILLED; GROUPS as usize]);
     let asked = last_block(&state);
@@ -222,6 +227,12 @@ fn measured(arena: Arena) -> Vec<Measured> {
             "holdings",
             step(move |words| holdings(words, &mut *list.borrow_mut()) == Ok(())),
             nothing(),
+        ),
+        with_bar(
+            Some(SETTING_BAR),
+            "set ceiling",
+            set(LARGE),
+            set(MAX_CEILING),
         ),
         with_bar(
             None,

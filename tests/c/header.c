@@ -1,8 +1,9 @@
 /*
  * The header by itself: its numbers where the preprocessor and a declaration need them, each function by a pointer of the type that is
  * written out here, the record of what a group holds by its members, what a request writes: its count always, its offset only where it is
- * granted; and what the fetching of holdings writes: twelve records, or none. It is compiled as C99 and as C++17, with warnings about
- * conversions and casts too. With UNLOOKED_AT it leaves a result unlooked at, and must not compile where warnings are errors.
+ * granted; what the fetching of holdings writes: twelve records, or none; and what the ceilings that are set refuse. It is compiled as C99
+ * and as C++17, with warnings about conversions and casts too. With UNLOOKED_AT it leaves a result unlooked at, and must not compile where
+ * warnings are errors.
  */
 #include <nostrimel.h>
 
@@ -26,6 +27,7 @@ static uint32_t (*const trim)(uint32_t *, size_t, uint32_t *) = nostrimel_trim;
 static uint32_t (*const query)(const uint32_t *, size_t, uint32_t, uint32_t *, uint32_t *) = nostrimel_query;
 static uint32_t (*const listing)(const uint32_t *, size_t, uint8_t *, size_t, size_t *) = nostrimel_listing;
 static uint32_t (*const holdings)(const uint32_t *, size_t, struct nostrimel_holding *, size_t) = nostrimel_holdings;
+static uint32_t (*const set_ceiling)(uint32_t *, size_t, uint32_t, uint32_t) = nostrimel_set_ceiling;
 
 /* A request: its number, its offset or what stood there before, and its count, in place of which something else stood before. */
 static int is_answered(size_t words, uint32_t group, uint32_t size, uint32_t number, uint32_t at, uint32_t runs)
@@ -44,9 +46,10 @@ static int requests(size_t words)
            init(meta, words, 24) == NOSTRIMEL_DONE && is_answered(words, 1, 8192, NOSTRIMEL_DONE, 0, 1) &&
            is_answered(words, 1, 100, NOSTRIMEL_DONE, 8192, 1) && is_answered(words, 1, 100, NOSTRIMEL_DONE, 8296, 0) &&
            is_answered(words, 13, 100, NOSTRIMEL_BAD_GROUP, 0, 0) && is_answered(words, 1, 0, NOSTRIMEL_BAD_SIZE, 0, 0) &&
-           is_answered(words, 1, NOSTRIMEL_MAX_SIZE, NOSTRIMEL_NO_ROOM, 0, 2) &&
+           is_answered(words, 2, NOSTRIMEL_MAX_SIZE, NOSTRIMEL_NO_ROOM, 0, 2) &&
+           is_answered(words, 1, NOSTRIMEL_MAX_SIZE, NOSTRIMEL_OVER_CEILING, 0, 0) &&
            is_answered(words - 1, 1, 8192, NOSTRIMEL_NO_STATE, 0, 0) && give_back(meta, words, 1, 0) == NOSTRIMEL_DONE &&
-           is_answered(words, 1, NOSTRIMEL_MAX_SIZE, NOSTRIMEL_NO_ROOM, 0, 4) &&
+           is_answered(words, 2, NOSTRIMEL_MAX_SIZE, NOSTRIMEL_NO_ROOM, 0, 4) &&
            is_answered(words, 1, 12288, NOSTRIMEL_DONE, 40960, 2);
 }
 
@@ -97,6 +100,22 @@ static int fetches(size_t words)
     return is_record(around, unwritten, unwritten, unwritten) && is_record(list + NOSTRIMEL_GROUPS, unwritten, unwritten, unwritten);
 }
 
+/* Ceilings on the same words. One that a request just meets grants it, and a byte less refuses it; one below what is held takes nothing. */
+static int ceilings(size_t words)
+{
+    const uint32_t largest = 1048576, held = 12496;
+
+    return set_ceiling(meta, words - 1, 1, 0) == NOSTRIMEL_NO_STATE && set_ceiling(meta, words, 0, largest + 1) == NOSTRIMEL_BAD_GROUP &&
+           set_ceiling(meta, words, 13, 0) == NOSTRIMEL_BAD_GROUP && set_ceiling(meta, words, 1, largest + 1) == NOSTRIMEL_BAD_SIZE &&
+           set_ceiling(meta, words, 12, UINT32_MAX) == NOSTRIMEL_BAD_SIZE && set_ceiling(meta, words, 1, held + 103) == NOSTRIMEL_DONE &&
+           is_answered(words, 1, 100, NOSTRIMEL_OVER_CEILING, 0, 0) && set_ceiling(meta, words, 1, held + 104) == NOSTRIMEL_DONE &&
+           is_answered(words, 1, 100, NOSTRIMEL_DONE, 8400, 0) && is_answered(words, 1, 1, NOSTRIMEL_OVER_CEILING, 0, 0) &&
+           is_answered(words, 1, 0, NOSTRIMEL_BAD_SIZE, 0, 0) && set_ceiling(meta, words, 1, 0) == NOSTRIMEL_DONE &&
+           give_back(meta, words, 1, 8400) == NOSTRIMEL_DONE && is_answered(words, 1, 1, NOSTRIMEL_OVER_CEILING, 0, 0) &&
+           is_answered(words, 2, 1, NOSTRIMEL_DONE, 53248, 2) && give_back(meta, words, 2, 53248) == NOSTRIMEL_DONE &&
+           set_ceiling(meta, words, 1, largest) == NOSTRIMEL_DONE && is_answered(words, 1, 100, NOSTRIMEL_DONE, 8504, 0);
+}
+
 int main(void)
 {
     const uint32_t pages = 24;
@@ -109,9 +128,9 @@ int main(void)
 #ifdef UNLOOKED_AT
     nostrimel_init(meta, words, pages);
 #endif
-    /* Requests and holdings; then each function once, and the last answer is that of words of one page too few. */
-    return !(sizeof meta / sizeof meta[0] == words && is_three_words() && requests(words) && fetches(words) &&
-             init(meta, words, pages) == NOSTRIMEL_DONE &&
+    /* Requests, holdings and ceilings; then each function once, and the last answer is that of words of one page too few. */
+    return !(sizeof meta / sizeof meta[0] == words && is_three_words() && requests(words) && fetches(words) && ceilings(words) &&
+             init(meta, words, pages) == NOSTRIMEL_DONE && set_ceiling(meta, words, 12, 104) == NOSTRIMEL_DONE &&
              allocate(meta, words, 12, 100, &offset, &looked) == NOSTRIMEL_DONE && offset == 0 && looked == 1 &&
              query(meta, words, offset, &group, &room) == NOSTRIMEL_DONE && group == 12 && room == 104 &&
              listing(meta, words, text, sizeof text, &length) == NOSTRIMEL_DONE && length == 36 &&

@@ -15,9 +15,9 @@
 
 enum { STACK = 65536, WORDS = NOSTRIMEL_WORDS(NOSTRIMEL_MAX_PAGES), PAINT = 0xa5 };
 
-enum call { INIT, ALLOCATE, FREE, RESET, TRIM, QUERY, LISTING, HOLDINGS, CALLS };
+enum call { INIT, ALLOCATE, FREE, RESET, TRIM, QUERY, LISTING, HOLDINGS, SET_CEILING, CALLS };
 
-static const char *const names[CALLS] = {"init", "allocate", "free", "reset", "trim", "query", "listing", "holdings"};
+static const char *const names[CALLS] = {"init", "allocate", "free", "reset", "trim", "query", "listing", "holdings", "set_ceiling"};
 
 static uint32_t meta[WORDS];
 static uint8_t text[NOSTRIMEL_LONGEST_LISTING];
@@ -46,6 +46,7 @@ static void make(void)
     case QUERY: answer = nostrimel_query(meta, WORDS, first, &group, &room); break;
     case LISTING: answer = nostrimel_listing(meta, WORDS, text, sizeof text, &length); break;
     case HOLDINGS: answer = nostrimel_holdings(meta, WORDS, list, first); break;
+    case SET_CEILING: answer = nostrimel_set_ceiling(meta, WORDS, first, second); break;
     case CALLS: break;
     }
 }
@@ -102,6 +103,12 @@ static uint32_t any_size(void)
     }
 }
 
+/* A ceiling of any kind: mostly the largest, so that requests are granted too. */
+static uint32_t any_ceiling(void)
+{
+    return draw(3) > 0 ? 1048576 : any_size();
+}
+
 /* A history on an arena of so many pages: every call, granted and refused. */
 static void history(uint32_t pages, unsigned turns)
 {
@@ -112,16 +119,17 @@ static void history(uint32_t pages, unsigned turns)
     while (turns-- > 0) {
         unsigned at = draw(KEPT);
 
-        switch (draw(13)) {
+        switch (draw(14)) {
         case 0: call(RESET, draw(14), 0); break;
         case 1: call(TRIM, 0, 0); break;
         case 2: call(LISTING, 0, 0); break;
         case 3: call(HOLDINGS, NOSTRIMEL_GROUPS - 1 + draw(3), 0); break;
-        case 4:
-        case 5: call(QUERY, offsets[at] + draw(2), 0); break;
-        case 6:
+        case 4: call(SET_CEILING, draw(14), any_ceiling()); break;
+        case 5:
+        case 6: call(QUERY, offsets[at] + draw(2), 0); break;
         case 7:
-        case 8: call(FREE, owners[at] + draw(2), offsets[at]); break;
+        case 8:
+        case 9: call(FREE, owners[at] + draw(2), offsets[at]); break;
         default:
             owners[at] = draw(14);
             if (call(ALLOCATE, owners[at], any_size()) == NOSTRIMEL_DONE) {
@@ -144,6 +152,8 @@ static void crowds(void)
         }
         call(LISTING, 0, 0);
         call(HOLDINGS, NOSTRIMEL_GROUPS, 0);
+        call(SET_CEILING, NOSTRIMEL_GROUPS, size);
+        call(ALLOCATE, NOSTRIMEL_GROUPS, size);
         call(RESET, NOSTRIMEL_GROUPS, 0);
         call(TRIM, 0, 0);
         call(LISTING, 0, 0);
@@ -175,7 +185,7 @@ int main(void)
     }
     crowds();
     for (asked = 0; asked < CALLS; asked++) {
-        printf("%-8s %4u bytes of stack at most, in %lu calls\n", names[asked], (unsigned)most[asked], made[asked]);
+        printf("%-11s %4u bytes of stack at most, in %lu calls\n", names[asked], (unsigned)most[asked], made[asked]);
         if (made[asked] < 40 || most[asked] > NOSTRIMEL_STACK_BYTES) {
             status = EXIT_FAILURE;
         }

@@ -35,6 +35,7 @@ extern "C" {
         length: *mut usize,
     ) -> u32;
     fn nostrimel_holdings(meta: *const u32, words: usize, list: *mut Record, count: usize) -> u32;
+    fn nostrimel_set_ceiling(meta: *mut u32, words: usize, group: u32, bytes: u32) -> u32;
 }
 
 /// What a group holds, as it lies in C's memory: `struct nostrimel_holding`.
@@ -214,6 +215,13 @@ impl From<Record> for Holding {
     }
 }
 
+/// Sets a group's ceiling.
+pub fn set_ceiling(words: &mut [u32], group: u32, bytes: u32) -> Result<(), Number> {
+    // SAFETY: as in `init`.
+    let number = unsafe { nostrimel_set_ceiling(words.as_mut_ptr(), words.len(), group, bytes) };
+    done(number)
+}
+
 /// A call of any kind.
 pub fn serve(words: &mut [u32], call: Call) -> Answer {
     let answer = match call {
@@ -227,6 +235,9 @@ pub fn serve(words: &mut [u32], call: Call) -> Answer {
         }
         Call::Listing { capacity } => listed(words, capacity).map(Answer::Listed),
         Call::Holdings { records } => fetched(words, records).map(Answer::Fetched),
+        Call::SetCeiling { group, bytes } => {
+            set_ceiling(words, group, bytes).map(|()| Answer::Done)
+        }
     };
     answer.unwrap_or_else(|number| Answer::Refused(refusal(number)))
 }

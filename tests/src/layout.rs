@@ -5,7 +5,8 @@
 //! | 0–11 | each group's live blocks, group 1 first |
 //! | 12–23 | each group's held bytes |
 //! | 24–35 | each group's greatest held bytes since the start |
-//! | 36–63 | zeros |
+//! | 36–47 | each group's ceiling |
+//! | 48–63 | zeros |
 //! | 64, 65 | the magic number, N |
 //! | 66–67 | the empty list, front first: start page + 1 |
 //! | 68–99 | the class lists in class order, each front first: 1 + 256 × class + page |
@@ -37,7 +38,9 @@ pub const BLOCKS: Range<usize> = 0..12;
 pub const HELD: Range<usize> = 12..24;
 /// The places of the groups' greatest held bytes.
 pub const GREATEST: Range<usize> = 24..36;
-/// The words of the groups' figures, with the zeros behind them.
+/// The places of the groups' ceilings.
+pub const CEILINGS: Range<usize> = 36..48;
+/// The words of the groups' figures and ceilings, with the zeros behind them.
 pub const FIGURE_WORDS: usize = 64;
 /// The place of the magic number.
 pub const MAGIC_AT: usize = 64;

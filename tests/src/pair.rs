@@ -167,6 +167,10 @@ impl Pair {
         }
     }
 
+    pub fn set_ceiling(&mut self, group: u32, bytes: u32) -> Result<(), Number> {
+        self.served(Call::SetCeiling { group, bytes }).map(|_| ())
+    }
+
     fn counted(&mut self, call: Call) -> Result<u32, Number> {
         match self.served(call)? {
             Answer::Counted(count) => Ok(count),

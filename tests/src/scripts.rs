@@ -33,7 +33,8 @@ impl Script {
         Script {
             bytes: Vec::new(),
             random: Xorshift::new(!seed),
-            history: History::with(profile, seed),
+            // No line sets a ceiling.
+            history: History::with(profile, seed).in_lines(),
             allocator: Allocator::zeroed(WORDS),
         }
     }

@@ -7,8 +7,8 @@
 
 use reference::calls::Call;
 use reference::pages::{Search, Searches};
-use reference::sizes::{DIRECT_FROM, GROUPS, MAX_SIZE};
-use reference::state::State;
+use reference::sizes::{need, DIRECT_FROM, GROUPS, MAX_SIZE};
+use reference::state::{Group, State};
 
 /// What a second search is for and what it comes to, and of these what is of more interest.
 pub const KINDS: [&str; 7] = [
@@ -21,7 +21,7 @@ pub const KINDS: [&str; 7] = [
     "second search, zone: finds, several zones go",
 ];
 
-/// How many runs a request of a legal group and size looks at.
+/// How many runs a request looks at that is not refused before any search.
 pub const COUNTS: [&str; 7] = [
     "runs looked at: none, a chunk at hand",
     "runs looked at: none, in two searches",
@@ -37,7 +37,7 @@ pub const COUNTS: [&str; 7] = [
 pub struct Met {
     /// The kinds of its second search; none, unless it comes to one.
     pub kinds: &'static [&'static str],
-    /// Its count; `None`, unless it is a request of a legal group and size.
+    /// Its count; `None`, unless it is a request of a legal group and size within the ceiling.
     pub count: Option<&'static str>,
 }
 
@@ -50,11 +50,13 @@ impl Met {
 
 /// What a call on this state comes to.
 pub fn met(state: &State, call: &Call) -> Met {
-    let size = match *call {
-        Call::Allocate { group, size } if (1..=GROUPS).contains(&group) => size,
+    let (group, size) = match *call {
+        Call::Allocate { group, size } if (1..=GROUPS).contains(&group) => (group, size),
         _ => return Met::default(),
     };
-    if !(1..=MAX_SIZE).contains(&size) {
+    if !(1..=MAX_SIZE).contains(&size)
+        || state.would_pass_ceiling(group as Group, need(size).room())
+    {
         return Met::default();
     }
     let searches = state

@@ -3,9 +3,10 @@
 
 use crate::zones::{any_class, any_group, any_zone, shuffle};
 use reference::calls::Allocator;
+use reference::ceilings::{Ceilings, MAX_CEILING};
 use reference::histories::{History, Xorshift};
 use reference::holdings::Holdings;
-use reference::sizes::{words_needed, PAGE_BYTES, ZONE_PAGES};
+use reference::sizes::{words_needed, GROUPS, PAGE_BYTES, ZONE_PAGES};
 use reference::state::{no_lists, DirectBlock, Page, Run, State, Zone};
 use std::collections::{BTreeMap, VecDeque};
 
@@ -28,8 +29,8 @@ pub fn reached(pages: u32, calls: u32, seed: u64) -> State {
 }
 
 /// A state drawn by the conditions alone: direct blocks of one page, zones with k = 0, several
-/// zones without a live chunk on a list, lists in any order, and greatest figures that are anything
-/// from the held bytes to those of the arena are all likely.
+/// zones without a live chunk on a list, lists in any order, greatest figures that are anything
+/// from the held bytes to those of the arena, and ceilings of any size are all likely.
 pub fn odd(pages: u32, seed: u64) -> State {
     let mut random = Xorshift::new(seed);
     let mut state = Plan::draw(pages, &mut random).assemble();
@@ -45,7 +46,29 @@ pub fn odd(pages: u32, seed: u64) -> State {
             _ => random.below(arena - holding.held + 1),
         };
     }
-    state
+    let ceilings = any_ceilings(&state.holdings, &mut random);
+    state.with_ceilings(ceilings)
+}
+
+/// Ceilings for groups that hold so much. Most are the largest, so that requests are granted as well;
+/// of some states none is.
+fn any_ceilings(holdings: &Holdings, random: &mut Xorshift) -> Ceilings {
+    let lowered = random.pick(&[0, 1, 3, GROUPS]);
+    holdings.map(|holding| match random.below(GROUPS) < lowered {
+        true => any_ceiling(holding.held, random),
+        false => MAX_CEILING,
+    })
+}
+
+/// A ceiling for a group that holds so many bytes.
+fn any_ceiling(held: u32, random: &mut Xorshift) -> u32 {
+    match random.below(5) {
+        0 => 0,
+        1 => held,
+        2 => random.below(held.max(1)),
+        3 => MAX_CEILING.min(held + 1 + random.below(20_000)),
+        _ => random.below(MAX_CEILING),
+    }
 }
 
 /// Arenas of many sizes: a fresh one of each, one that calls reach, and an odd one.

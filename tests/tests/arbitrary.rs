@@ -13,7 +13,7 @@ use tests::pair::{noise, Pair};
 /// Around each number of words that an encoding's part has, and those of a few arenas.
 fn lengths() -> Vec<usize> {
     let around = [
-        1, 36, 64, 66, 68, 100, 1_088, 1_608, 2_128, 13_568, 17_728, 133_688, 134_208,
+        1, 36, 48, 64, 66, 68, 100, 1_088, 1_608, 2_128, 13_568, 17_728, 133_688, 134_208,
     ];
     let mut lengths: Vec<usize> = around
         .into_iter()
@@ -42,6 +42,7 @@ fn calls(random: &mut Xorshift) -> Vec<Call> {
     let size = random.pick(&[0, 1, 8_191, 8_192, 1_048_576, 1_048_577]);
     let capacity = random.pick(&[0, 1, 29, LONGEST]);
     let records = random.pick(&[0, 1, 11, 13, 24]);
+    let bytes = random.pick(&[0, 1_048_576, 1_048_577, u32::MAX]);
     vec![
         Call::Allocate {
             group: 1,
@@ -60,6 +61,11 @@ fn calls(random: &mut Xorshift) -> Vec<Call> {
         Call::Listing { capacity },
         Call::Holdings { records: 12 },
         Call::Holdings { records },
+        Call::SetCeiling {
+            group: 1,
+            bytes: 4_096,
+        },
+        Call::SetCeiling { group, bytes },
     ]
 }
 

@@ -25,17 +25,21 @@ fn words_after_the_calls() -> Vec<u32> {
     encode(allocator.state().expect("a legal state"))
 }
 
+/// What a row of the table tells: one word, or the same one in several places, `36–47`.
+fn row(line: &str) -> Vec<(usize, u32)> {
+    let number = |digits: &str| digits.parse().expect("a number");
+    let mut fields = line.split_whitespace().skip(1);
+    let places = fields.next().expect("a place");
+    let (first, last) = places.split_once('–').unwrap_or((places, places));
+    let word = fields.next().expect("a word").parse().expect("a number");
+    (number(first)..=number(last))
+        .map(|at| (at, word))
+        .collect()
+}
+
 #[test]
 fn the_table_holds_every_word_that_is_not_zero() {
-    let told: Vec<(usize, u32)> = block("word     3 ")
-        .into_iter()
-        .map(|line| {
-            let mut fields = line.split_whitespace().skip(1);
-            let at = fields.next().expect("a place").parse().expect("a number");
-            let word = fields.next().expect("a word").parse().expect("a number");
-            (at, word)
-        })
-        .collect();
+    let told: Vec<(usize, u32)> = block("word     3 ").into_iter().flat_map(row).collect();
     let words = words_after_the_calls();
     let stands: Vec<(usize, u32)> = words
         .into_iter()

@@ -9,13 +9,14 @@ use reference::lines::{parse, render};
 use reference::sizes::{chunk_count, chunk_size, need, Need, PAGE_BYTES, ZONE_PAGES};
 use reference::state::{Page, State};
 use std::collections::VecDeque;
+use std::fs;
 use tests::program::answers;
 
 const GUIDE: &str = include_str!("../../docs/GUIDE.md");
 const TEACHER: &str = include_str!("../../docs/TEACHER.md");
 const TIMING: &str = include_str!("../../examples/timing.out");
 const HOLDINGS: &str = include_str!("../../examples/holdings.out");
-const HOLDINGS_IN_C: &str = include_str!("../../examples/holdings.c");
+const CEILINGS: &str = include_str!("../../examples/ceilings.out");
 
 /// What stands before a line that is typed.
 const TYPED: &str = "> ";
@@ -82,7 +83,7 @@ fn hold(document: &'static str) -> (usize, usize) {
                 format!("{COUNTS}\n{}", requests.join("\n"))
             }
             // Held to the example by a test of its own.
-            ("c", _) => continue,
+            ("c" | "ceilings", _) => continue,
             (kind, of) => {
                 drawings += 1;
                 let state = bench.allocator().state().expect("a start was made");
@@ -168,9 +169,34 @@ fn the_example_in_c_prints_the_holdings_of_the_guide() {
     assert!(told >= 3, "{told} tables");
 }
 
-/// What the guide shows of C stands in the example, line by line.
+/// What the guide shows of ceilings, which the bench program has no line for, is what the example prints.
 #[test]
-fn the_example_in_c_has_what_the_guide_shows() {
+fn the_example_in_c_prints_the_ceilings_of_the_guide() {
+    let shown = blocks(GUIDE)
+        .into_iter()
+        .filter(|block| block.kind == "ceilings")
+        .map(|block| block.lines.join("\n") + "\n");
+    let shown: Vec<String> = shown.collect();
+    assert!(shown.len() >= 2, "{} blocks", shown.len());
+    for part in shown {
+        assert!(CEILINGS.contains(&part), "not printed:\n{part}");
+    }
+}
+
+/// The examples in C, each whole.
+fn examples_in_c() -> Vec<String> {
+    let folder = concat!(env!("CARGO_MANIFEST_DIR"), "/../examples");
+    let entries = fs::read_dir(folder).expect("the examples' folder");
+    let paths = entries.map(|entry| entry.expect("an entry").path());
+    let in_c = paths.filter(|path| path.extension().map_or(false, |kind| kind == "c"));
+    in_c.map(|path| fs::read_to_string(path).expect("UTF-8"))
+        .collect()
+}
+
+/// What the guide shows of C stands in one of the examples, line by line.
+#[test]
+fn an_example_in_c_has_what_the_guide_shows() {
+    let examples = examples_in_c();
     let shown = blocks(GUIDE)
         .into_iter()
         .filter(|block| block.kind == "c")
@@ -178,7 +204,8 @@ fn the_example_in_c_has_what_the_guide_shows() {
     let shown: Vec<String> = shown.collect();
     assert!(!shown.is_empty());
     for part in shown {
-        assert!(HOLDINGS_IN_C.contains(&part), "not in the example:\n{part}");
+        let found = examples.iter().any(|example| example.contains(&part));
+        assert!(found, "in no example:\n{part}");
     }
 }
 

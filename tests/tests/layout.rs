@@ -82,6 +82,8 @@ fn neighbours() -> Vec<State> {
         states.push(state.clone());
         let changed = state.zones.get_mut(&8).expect("the second zone is there");
         changed.chain.rotate_left(1.min(changed.chain.len()));
+        states.push(state.clone());
+        state.ceilings[seed as usize % 12] -= 1;
         states.push(state);
     }
     states
@@ -133,9 +135,10 @@ fn a_damaged_word_makes_no_state_or_the_state_of_those_words() {
     assert!(none > 100_000 && some > 10_000, "{none} and {some}");
 }
 
-/// Words that are zero but for the magic number, N, and these.
+/// Words that are zero but for the ceilings of a start, the magic number, N, and these.
 fn words_with(pages: u32, written: &[(usize, u32)]) -> Vec<u32> {
     let mut words = vec![0; used_words(pages)];
+    words[36..48].fill(1_048_576);
     words[64] = MAGIC;
     words[65] = pages;
     for &(at, word) in written {
@@ -171,18 +174,26 @@ fn encodings_written_by_hand() {
     let written = [&figures[..], &block, &rest].concat();
     assert_eq!(encode(&state), words_with(4, &written));
     assert_eq!(decode(&words_with(4, &written)), Some(state));
+}
 
-    // Three zones: at page 0 chunks 0 and 2 returned in this order and chunk 1 live; at page 8 one
-    // as set-up leaves it, on the empty list; at page 16 a full one.
+/// Three zones: at page 0 chunks 0 and 2 returned in this order and chunk 1 live; at page 8 one as
+/// set-up leaves it, on the empty list; at page 16 a full one.
+#[test]
+fn zones_written_by_hand() {
     let mut state = Plan::new()
         .zone(zone_with(63, &[false, true, false]))
         .empty_zone(Zone::set_up(0))
         .zone(zone_with(63, &[true; 4]))
         .assemble();
-    // Group 1 holds five chunks and has held seven; group 2 has once held the whole arena.
+    // Group 1 holds five chunks and has held seven; group 2 has once held the whole arena. Group 1's
+    // ceiling is less than it holds, group 12 may hold nothing, and group 3 a byte less than the most.
     state.holdings[0].greatest = 57_344;
     state.holdings[1].greatest = 98_304;
+    state.ceilings[0] = 40_000;
+    state.ceilings[2] = 1_048_575;
+    state.ceilings[11] = 0;
     let figures = [(0, 5), (12, 40_960), (24, 57_344), (25, 98_304)];
+    let ceilings = [(36, 40_000), (38, 1_048_575), (47, 0)];
     let header = [(66, 9), (68, 1 + 256 * 63)];
     // Chunk 0 is at position 0 of the chain and chunk 2 at position 1.
     let first = [(1_088, 3), (1_089, 63), (1_090, 3), (1_091, 2)];
@@ -192,6 +203,7 @@ fn encodings_written_by_hand() {
     let live = [(9_472, 1), (9_473, 1), (9_474, 1), (9_475, 1)];
     let written = [
         &figures[..],
+        &ceilings,
         &header,
         &first,
         &slots,
@@ -218,17 +230,40 @@ fn figures_that_disagree_are_no_state() {
             assert_eq!(found.is_some(), legal.contains(&value), "{at}: {value}");
         }
     }
-    for at in 36..64 {
+    for at in 48..64 {
         let mut changed = words.clone();
         changed[at] = 1;
         assert_eq!(decode(&changed), None, "{at}");
     }
 }
 
+/// Any number up to 1,048,576 is a group's ceiling, whatever the group holds, and no larger one is.
+#[test]
+fn ceilings_above_the_largest_are_no_state() {
+    let state = Plan::new().direct(2, 12).run(1).assemble();
+    let words = encode(&state);
+    for (group, at) in (36..48).enumerate() {
+        for value in [0, 1, 8_191, 8_192, 8_193, 12_289, 1_048_575, 1_048_576] {
+            let mut changed = words.clone();
+            changed[at] = value;
+            let found = decode(&changed).expect("a ceiling");
+            let mut expected = state.clone();
+            expected.ceilings[group] = value;
+            assert_eq!(found, expected, "{at}: {value}");
+            assert_eq!(encode(&found), changed, "{at}: {value}");
+        }
+        for value in [1_048_577, 1 << 21, 1 << 31, u32::MAX] {
+            let mut changed = words.clone();
+            changed[at] = value;
+            assert_eq!(decode(&changed), None, "{at}: {value}");
+        }
+    }
+}
+
 /// What a state is odd in, by name.
 type Oddity = (&'static str, fn(&State) -> bool);
 
-const ODDITIES: [Oddity; 9] = [
+const ODDITIES: [Oddity; 13] = [
     ("a direct block of one page", |state| {
         state.direct.values().any(|block| block.pages == 1)
     }),
@@ -254,6 +289,18 @@ const ODDITIES: [Oddity; 9] = [
     ("a group that has held the whole arena", |state| {
         let mut holdings = state.holdings.iter();
         holdings.any(|holding| holding.greatest == state.pages * 4_096)
+    }),
+    ("a ceiling of nothing", |state| state.ceilings.contains(&0)),
+    ("a ceiling below what is held", |state| {
+        let mut groups = state.holdings.iter().zip(state.ceilings);
+        groups.any(|(holding, ceiling)| ceiling < holding.held)
+    }),
+    ("a ceiling that is just held", |state| {
+        let mut groups = state.holdings.iter().zip(state.ceilings);
+        groups.any(|(holding, ceiling)| ceiling == holding.held && ceiling > 0)
+    }),
+    ("no ceiling that is the largest", |state| {
+        state.ceilings.iter().all(|ceiling| *ceiling < 1_048_576)
     }),
     ("a list that descends", |state| {
         let mut lists = state.lists.iter();

@@ -16,7 +16,11 @@ const SCRIPTS: [&str; 4] = [
 ];
 
 /// Each layout's number, and the sum of the words that it has.
-const LAYOUTS: [(u32, u64); 2] = [(1, 0x81e3_29ed_bdc4_4bd3), (2, 0x35b2_5339_3f48_702b)];
+const LAYOUTS: [(u32, u64); 3] = [
+    (1, 0x81e3_29ed_bdc4_4bd3),
+    (2, 0x35b2_5339_3f48_702b),
+    (3, 0x70f9_bc79_03c1_3d2b),
+];
 
 /// The number that the header names.
 fn number() -> u32 {

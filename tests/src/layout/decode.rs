@@ -1,14 +1,15 @@
 //! From words to the state that they encode, if they do.
 //!
 //! The layout's own rules are seen to here: what stands where, which words are zero, that chunks and
-//! positions name each other. Whether what is read is a legal state, whose figures agree with its blocks,
-//! is left to the second program's clauses.
+//! positions name each other. Whether what is read is a legal state, whose figures agree with its blocks
+//! and whose ceilings are none too large, is left to the second program's clauses.
 
 use super::{
-    used_words, BLOCKS, CLASS_LISTS, CLASS_STRIDE, DIRECT, EMPTY_LIST, ENTRY_SHIFT, FIGURE_WORDS,
-    FIXED_WORDS, GREATEST, HELD, MAGIC, MAGIC_AT, PAGES_AT, PAGE_WORDS, RETURNED, RUN, STATE, ZONE,
-    ZONE_HEAD,
+    used_words, BLOCKS, CEILINGS, CLASS_LISTS, CLASS_STRIDE, DIRECT, EMPTY_LIST, ENTRY_SHIFT,
+    FIGURE_WORDS, FIXED_WORDS, GREATEST, HELD, MAGIC, MAGIC_AT, PAGES_AT, PAGE_WORDS, RETURNED,
+    RUN, STATE, ZONE, ZONE_HEAD,
 };
+use reference::ceilings::Ceilings;
 use reference::holdings::{Holding, Holdings};
 use reference::sizes::{chunk_count, CLASSES, MAX_PAGES, ZONE_PAGES};
 use reference::state::{no_lists, DirectBlock, Group, Page, Run, State, Zone};
@@ -21,7 +22,7 @@ pub fn decode(words: &[u32]) -> Option<State> {
     let pages = page_count(words)?;
     let used = words.get(..used_words(pages))?;
     let (fixed, body) = used.split_at(FIXED_WORDS);
-    let unused = [GREATEST.end..FIGURE_WORDS, CLASS_LISTS.end..FIXED_WORDS];
+    let unused = [CEILINGS.end..FIGURE_WORDS, CLASS_LISTS.end..FIXED_WORDS];
     if !unused.into_iter().all(|places| are_zero(&fixed[places])) {
         return None;
     }
@@ -33,7 +34,8 @@ pub fn decode(words: &[u32]) -> Option<State> {
         zones,
     } = segments(body)?;
     let holdings = holdings(fixed);
-    let state = State::from_parts(pages, runs, direct, zones, lists, empty.into(), holdings);
+    let state = State::from_parts(pages, runs, direct, zones, lists, empty.into(), holdings)
+        .with_ceilings(ceilings(fixed));
     is_valid(&state).then_some(state)
 }
 
@@ -50,6 +52,11 @@ fn holdings(fixed: &[u32]) -> Holdings {
         held: fixed[HELD][group],
         greatest: fixed[GREATEST][group],
     })
+}
+
+/// Each group's ceiling, as it stands.
+fn ceilings(fixed: &[u32]) -> Ceilings {
+    std::array::from_fn(|group| fixed[CEILINGS][group])
 }
 
 /// A list's entries, each less by the one that tells it from a free place. No entry comes after a

@@ -1,7 +1,7 @@
 //! From a state to its words.
 
 use super::{
-    page_at, slot_at, used_words, BLOCKS, CLASS_LISTS, CLASS_STRIDE, DIRECT, EMPTY_LIST,
+    page_at, slot_at, used_words, BLOCKS, CEILINGS, CLASS_LISTS, CLASS_STRIDE, DIRECT, EMPTY_LIST,
     ENTRY_SHIFT, GREATEST, HELD, MAGIC, MAGIC_AT, PAGES_AT, RETURNED, RUN, ZONE,
 };
 use reference::holdings::Holdings;
@@ -16,6 +16,7 @@ use reference::state::{Page, State, Zone};
 pub fn encode(state: &State) -> Vec<u32> {
     let mut words = vec![0; used_words(state.pages)];
     write_figures(&mut words, &state.holdings);
+    write(&mut words, CEILINGS.start, &state.ceilings);
     words[MAGIC_AT] = MAGIC;
     words[PAGES_AT] = state.pages;
     write_lists(&mut words, state);

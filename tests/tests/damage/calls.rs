@@ -8,6 +8,7 @@ use crate::subject::Subject;
 use crate::surgery;
 use crate::{damage, Edit};
 use reference::calls::{Allocator, Call};
+use reference::ceilings::MAX_CEILING;
 use reference::histories::Xorshift;
 use reference::listing::LONGEST;
 use reference::sizes::chunk_size;
@@ -31,10 +32,13 @@ const LARGE_CASES: u32 = 1_500;
 /// Parts with seeds of their own, which run beside each other.
 const PARTS: u32 = 2;
 
-/// All calls that were made, those refused by 3, and those not refused at all.
+/// All calls that were made, those refused by 3 and by 10, those not refused at all, and the
+/// settings of a ceiling among these.
 const MADE: &str = "calls";
 const STATELESS: &str = "calls: no 3";
+const OVER: &str = "calls: no 10";
 const SERVED: &str = "calls: served";
+const SET: &str = "calls: served, a ceiling set";
 
 #[test]
 fn calls_on_damaged_words_do_what_the_second_program_does() {
@@ -44,6 +48,7 @@ fn calls_on_damaged_words_do_what_the_second_program_does() {
     counts.expect(280_000, &[MADE]);
     counts.expect(80_000, &[STATELESS]);
     counts.expect(25_000, &[SERVED]);
+    counts.expect(1_000, &[OVER, SET]);
     counts.expect(50, &searches::KINDS);
     counts.expect(50, &searches::COUNTS);
 }
@@ -101,9 +106,17 @@ fn judge(
         });
     }
     subject.undo();
+    count_made(counts, &call, theirs.number());
+}
+
+/// Counts a call by the number of its refusal.
+fn count_made(counts: &mut Counts, call: &Call, number: u32) {
+    let is_setting = matches!(call, Call::SetCeiling { .. });
     counts.count(MADE, 1);
-    counts.count(STATELESS, u32::from(theirs.number() == 3));
-    counts.count(SERVED, u32::from(theirs.number() == 0));
+    counts.count(STATELESS, u32::from(number == 3));
+    counts.count(OVER, u32::from(number == 10));
+    counts.count(SERVED, u32::from(number == 0));
+    counts.count(SET, u32::from(number == 0 && is_setting));
 }
 
 /// A call that a state is likely to serve: about its blocks, its classes, its groups.
@@ -113,7 +126,7 @@ fn any_call(state: &State, random: &mut Xorshift) -> Call {
         0 => random.pick(&[0, 1, 12, 13]),
         _ => owner,
     };
-    match random.below(17) {
+    match random.below(18) {
         0 => Call::Init {
             pages: random.pick(&[0, 1, state.pages - 1, state.pages, state.pages + 1, 257]),
         },
@@ -127,6 +140,10 @@ fn any_call(state: &State, random: &mut Xorshift) -> Call {
         14 => Call::Query { offset },
         15 => Call::Holdings {
             records: random.pick(&[12, 12, 11, 13]),
+        },
+        16 => Call::SetCeiling {
+            group,
+            bytes: any_ceiling(state, group, random),
         },
         _ => Call::Listing {
             capacity: random.pick(&[LONGEST, 100, 29, 10]),
@@ -155,6 +172,14 @@ fn any_block(state: &State, random: &mut Xorshift) -> (u32, u32) {
         }
         _ => anything,
     }
+}
+
+/// A ceiling: about what the group holds, the largest, or above that.
+fn any_ceiling(state: &State, group: u32, random: &mut Xorshift) -> u32 {
+    let holding = state.holdings.get((group as usize).wrapping_sub(1));
+    let held = holding.map_or(0, |holding| holding.held);
+    let below = held.saturating_sub(1);
+    random.pick(&[0, below, held, MAX_CEILING, MAX_CEILING + 1, u32::MAX])
 }
 
 /// A size: of a class that has a zone more often than of another, or of a few pages.

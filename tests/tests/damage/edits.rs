@@ -1,11 +1,12 @@
 //! Damage without an aim of its own: a few words changed, here or there.
 
 use crate::subject::Subject;
+use reference::ceilings::MAX_CEILING;
 use reference::histories::Xorshift;
 use reference::sizes::chunk_count;
 use reference::state::Page;
 use tests::layout::{
-    page_at, slot_at, CLASS_LISTS, EMPTY_LIST, ENTRY_SHIFT, FIGURE_WORDS, FIXED_WORDS, GREATEST,
+    page_at, slot_at, CEILINGS, CLASS_LISTS, EMPTY_LIST, ENTRY_SHIFT, FIGURE_WORDS, FIXED_WORDS,
     MAGIC, RETURNED, STATE, ZONE_HEAD, ZONE_SLOTS,
 };
 
@@ -92,13 +93,13 @@ pub fn header(subject: &mut Subject, random: &mut Xorshift) {
     }
 }
 
-/// 1 or 2 of the groups' figures changed, or of the zeros behind them.
+/// 1 or 2 of the groups' figures and ceilings changed, or of the zeros behind them.
 pub fn figures(subject: &mut Subject, random: &mut Xorshift) {
     for _ in 0..1 + random.below(2) {
         let at = figure_place(random);
         let old = subject.get(at);
         let room = random.pick(&[8, 104, 4_096, 8_192]);
-        let value = match random.below(8) {
+        let value = match random.below(9) {
             0 => 0,
             1 => old.wrapping_add(random.pick(&[1, u32::MAX])),
             2 => old.wrapping_add(room),
@@ -106,6 +107,7 @@ pub fn figures(subject: &mut Subject, random: &mut Xorshift) {
             4 => subject.get(figure_place(random)),
             5 => random.below(subject.state.pages * 4_096 + 2),
             6 => subject.state.pages * 4_096 + random.below(2),
+            7 => MAX_CEILING + random.below(2),
             _ => any_value(subject, at, random),
         };
         subject.set(at, value);
@@ -177,12 +179,12 @@ fn header_place(random: &mut Xorshift) -> usize {
     FIGURE_WORDS + random.below((beyond - FIGURE_WORDS) as u32) as usize
 }
 
-/// A group's figure, or now and then a word behind them.
+/// A group's figure or ceiling, or now and then a word behind them.
 fn figure_place(random: &mut Xorshift) -> usize {
     match random.below(12) {
         0 => random.below(FIGURE_WORDS as u32) as usize,
-        1 => GREATEST.end,
-        _ => random.below(GREATEST.end as u32) as usize,
+        1 => CEILINGS.end,
+        _ => random.below(CEILINGS.end as u32) as usize,
     }
 }
 

@@ -1,14 +1,17 @@
-//! The groups' figures: made to agree with damaged words, and damaged themselves, every word of them.
+//! The groups' figures: made to agree with damaged words, and damaged themselves, every word of them
+//! and of the ceilings behind them.
 //!
 //! Which figures are right is told here by the layout's rule alone, and not by the second reading: the
 //! live blocks and the held bytes are those of the state, a greatest figure is anything from the held
-//! bytes to those of the arena, and all words behind them are zero.
+//! bytes to those of the arena, a ceiling is anything up to the largest, and all words behind them are
+//! zero.
 
 use crate::edits;
 use crate::pool;
 use crate::subject::Subject;
 use crate::surgery;
 use reference::calls::Call;
+use reference::ceilings::{AT_START, MAX_CEILING};
 use reference::histories::Xorshift;
 use reference::sizes::{
     chunk_count, chunk_size, CLASSES, GROUPS, MAX_PAGES, PAGE_BYTES, ZONE_PAGES,
@@ -16,7 +19,8 @@ use reference::sizes::{
 use reference::state::State;
 use tests::check::check;
 use tests::layout::{
-    encode, page_at, slot_at, BLOCKS, DIRECT, FIGURE_WORDS, GREATEST, HELD, PAGES_AT, STATE, ZONE,
+    encode, page_at, slot_at, BLOCKS, CEILINGS, DIRECT, FIGURE_WORDS, GREATEST, HELD, PAGES_AT,
+    STATE, ZONE,
 };
 use tests::pair::Pair;
 use tests::states::{odd, reached};
@@ -88,22 +92,22 @@ impl Found {
     }
 }
 
-/// Whether these figures are right for a state whose words were made with right ones.
+/// Whether these figures and ceilings are right for a state whose words were made with right ones.
 fn are_right(figures: &[u32], made: &[u32], pages: u32) -> bool {
     let counted = BLOCKS.start..HELD.end;
     let in_bounds = |group: usize| {
         let greatest = figures[GREATEST.start + group];
         (made[HELD.start + group]..=pages * PAGE_BYTES).contains(&greatest)
     };
+    let all_up_to = |most: u32, words: &[u32]| words.iter().all(|word| *word <= most);
     figures[counted.clone()] == made[counted]
         && (0..GREATEST.len()).all(in_bounds)
-        && figures[GREATEST.end..FIGURE_WORDS]
-            .iter()
-            .all(|word| *word == 0)
+        && all_up_to(MAX_CEILING, &figures[CEILINGS])
+        && all_up_to(0, &figures[CEILINGS.end..FIGURE_WORDS])
 }
 
 /// States in which groups hold nothing, something and everything.
-fn states() -> Vec<State> {
+pub fn states() -> Vec<State> {
     let mut states = vec![State::fresh(1), State::fresh(24), State::fresh(256)];
     states.extend(pool::tiny().into_iter().map(|subject| subject.state));
     states.extend((0..12).map(|seed| odd(1 + 3 * seed as u32, 3_000 + seed)));
@@ -112,7 +116,8 @@ fn states() -> Vec<State> {
     states
 }
 
-/// What to put in the place of a figure: near it, at the bounds and beyond them, and anything.
+/// What to put in the place of a figure or a ceiling: near it, at the bounds and beyond them, and
+/// anything.
 fn values(at: usize, made: &[u32], pages: u32, random: &mut Xorshift) -> Vec<u32> {
     let arena = pages * PAGE_BYTES;
     let held = made[HELD.start + at % BLOCKS.len()];
@@ -120,6 +125,7 @@ fn values(at: usize, made: &[u32], pages: u32, random: &mut Xorshift) -> Vec<u32
     values.extend([held, held.wrapping_sub(1), held + 1, held + 8]);
     values.extend([arena, arena - 1, arena + 1, arena / 2, u32::MAX, 1 << 31]);
     values.extend([made[at] ^ 1 << 16, made[at].wrapping_add(8), arena - held]);
+    values.extend([MAX_CEILING - 1, MAX_CEILING, MAX_CEILING + 1]);
     values.push(random.below(arena + 1));
     values
 }
@@ -141,11 +147,12 @@ fn calls(state: &State) -> Vec<Call> {
         Call::Reset { group },
         Call::Trim,
         Call::Holdings { records: 11 },
+        Call::SetCeiling { group, bytes: 104 },
     ]
 }
 
 /// All calls on these words: each is refused by 3, and an init alone is served.
-fn refuse(words: Vec<u32>, state: &State, told: &str) {
+pub fn refuse(words: Vec<u32>, state: &State, told: &str) {
     assert_eq!(check(&mut words.clone()), 0, "{told}");
     let mut pair = Pair::over(words).named(told.to_string());
     for call in calls(state) {
@@ -155,13 +162,18 @@ fn refuse(words: Vec<u32>, state: &State, told: &str) {
 }
 
 /// All calls on these words, one after another: none is refused by 3. A greatest figure stays unless
-/// its group holds more.
-fn serve(words: Vec<u32>, state: &State, told: &str) {
+/// its group holds more, and a ceiling unless it is set.
+pub fn serve(words: Vec<u32>, state: &State, told: &str) {
     assert_eq!(check(&mut words.clone()), 1, "{told}");
     let mut greatest = words[GREATEST].to_vec();
+    let mut ceilings = words[CEILINGS].to_vec();
     let mut pair = Pair::over(words).named(told.to_string());
     for call in calls(state) {
         assert_ne!(pair.call(call).number(), 3, "{told}: {call:?}");
+        if let Call::SetCeiling { group, bytes } = call {
+            ceilings[group as usize - 1] = bytes;
+        }
+        assert_eq!(pair.state().ceilings[..], ceilings, "{told}: {call:?}");
         let holdings = pair.holdings(12).expect("a list of twelve");
         for (greatest, holding) in greatest.iter_mut().zip(&holdings) {
             *greatest = holding.held.max(*greatest);
@@ -171,10 +183,11 @@ fn serve(words: Vec<u32>, state: &State, told: &str) {
     assert_eq!(pair.init(state.pages), Ok(()));
     let holdings = pair.holdings(12).expect("a list of twelve");
     assert!(holdings.iter().all(|holding| holding.greatest == 0));
+    assert_eq!(pair.state().ceilings, AT_START);
 }
 
 #[test]
-fn every_figure_word_changed_is_refused_unless_it_is_a_greatest_one_in_its_bounds() {
+fn every_word_changed_is_refused_unless_it_is_a_greatest_figure_or_a_ceiling_in_its_bounds() {
     let mut random = Xorshift::new(31);
     let (mut refused, mut served) = (0, 0);
     for state in states() {
@@ -185,7 +198,7 @@ fn every_figure_word_changed_is_refused_unless_it_is_a_greatest_one_in_its_bound
                 words[at] = value;
                 let told = format!("{} pages, word {at}: {value}", state.pages);
                 if are_right(&words[..FIGURE_WORDS], &made, state.pages) {
-                    let free = GREATEST.contains(&at) || value == made[at];
+                    let free = (GREATEST.start..CEILINGS.end).contains(&at) || value == made[at];
                     assert!(free, "{told}");
                     serve(words, &state, &told);
                     served += 1;

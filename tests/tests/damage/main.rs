@@ -8,6 +8,7 @@
 //! They print their cases by kind. The damage is the same in every run.
 
 mod calls;
+mod ceilings;
 mod edits;
 mod figures;
 mod pool;

@@ -80,7 +80,7 @@ impl Subject {
         !self.changes.is_empty()
     }
 
-    /// Whether one of the groups' figures, or a zero behind them, was changed.
+    /// Whether one of the groups' figures or ceilings, or a zero behind them, was changed.
     pub fn is_changed_in_figures(&self) -> bool {
         self.changes.iter().any(|(at, _)| *at < FIGURE_WORDS)
     }

@@ -18,10 +18,11 @@ use reference::histories::Xorshift;
 /// An operation on a subject's words.
 type Operation = fn(&mut Subject, &mut Xorshift);
 
-const ON_FIGURES: [Operation; 4] = [
+const ON_FIGURES: [Operation; 5] = [
     figures::move_block,
     figures::swap_groups,
     figures::set_greatest,
+    figures::set_ceiling,
     figures::forget_room,
 ];
 
@@ -70,7 +71,7 @@ pub fn operate(subject: &mut Subject, random: &mut Xorshift) {
     }
 }
 
-/// One operation on the figures.
+/// One operation on the figures or the ceilings.
 pub fn any_of_figures(subject: &mut Subject, random: &mut Xorshift) {
     random.pick(&ON_FIGURES)(subject, random);
 }

@@ -3,12 +3,12 @@
 use reference::calls::Call;
 use reference::listing::LONGEST;
 use tests::calls::{holdings_of, listing_of, query_of, Record, UNFILLED};
-use tests::layout::{encode, used_words, MAGIC};
+use tests::layout::{encode, used_words, CEILINGS, MAGIC};
 use tests::pair::{noise, Pair};
 use tests::states::{odd, reached};
 
 /// A call of every kind but init.
-const CALLS: [Call; 7] = [
+const CALLS: [Call; 8] = [
     Call::Allocate {
         group: 1,
         size: 100,
@@ -22,6 +22,10 @@ const CALLS: [Call; 7] = [
     Call::Query { offset: 0 },
     Call::Listing { capacity: LONGEST },
     Call::Holdings { records: 12 },
+    Call::SetCeiling {
+        group: 1,
+        bytes: 4_096,
+    },
 ];
 
 #[test]
@@ -128,6 +132,11 @@ static FIXED: [u32; 7_328] = fixed();
 
 const fn fixed() -> [u32; 7_328] {
     let mut words = [0; 7_328];
+    let mut at = CEILINGS.start;
+    while at < CEILINGS.end {
+        words[at] = 1_048_576;
+        at += 1;
+    }
     words[3] = 1;
     words[4] = 1;
     words[15] = 104;

@@ -1,8 +1,10 @@
 //! What histories come upon: the kinds of calls with their answers, and of states.
 
 use reference::calls::{Answer, Call};
+use reference::ceilings::MAX_CEILING;
 use reference::holdings::Holding;
-use reference::state::{State, Zone};
+use reference::sizes::GROUPS;
+use reference::state::{Group, State, Zone};
 use std::ops::RangeInclusive;
 use tests::counts::Counts;
 use tests::searches;
@@ -13,11 +15,13 @@ pub const CALLS: &str = "calls";
 pub const ASKED: &str = "live blocks asked for at the end";
 
 /// All that histories are to come upon, with the searches, and nothing else.
-pub const ALL: [&str; 34] = [
+pub const ALL: [&str; 43] = [
+    "allocate, chunk: no 10",
     "allocate, chunk: no 4",
     "allocate, chunk: no 5",
     "allocate, chunk: no 6",
     "allocate, chunk: served",
+    "allocate, pages: no 10",
     "allocate, pages: no 4",
     "allocate, pages: no 5",
     "allocate, pages: no 6",
@@ -28,6 +32,8 @@ pub const ALL: [&str; 34] = [
     "free: no 8",
     "free: served",
     "groups seen: that have held more",
+    "groups seen: that hold just their ceiling",
+    "groups seen: that hold more than their ceiling",
     "groups seen: that hold something",
     "holdings: no 9",
     "holdings: served",
@@ -43,6 +49,11 @@ pub const ALL: [&str; 34] = [
     "query: served",
     "reset: no 4",
     "reset: served",
+    "set ceiling: no 4",
+    "set ceiling: no 5",
+    "set ceiling: served",
+    "set ceiling: served, below what is held",
+    "set ceiling: served, the largest",
     "states seen: two runs or more",
     "trim: served",
     "zones seen: full",
@@ -95,6 +106,20 @@ pub fn count_searches(counts: &mut Counts, state: &State, call: &Call) -> bool {
     !met.kinds.is_empty() && state.zones.values().any(Zone::is_idle)
 }
 
+/// Counts a setting that is served by its ceiling, too, where that is of interest.
+pub fn count_setting(counts: &mut Counts, state: &State, call: &Call) {
+    let (group, bytes) = match *call {
+        Call::SetCeiling { group, bytes } if (1..=GROUPS).contains(&group) => (group, bytes),
+        _ => return,
+    };
+    if bytes == MAX_CEILING {
+        counts.count("set ceiling: served, the largest", 1);
+    }
+    if bytes < state.holding(group as Group).held {
+        counts.count("set ceiling: served, below what is held", 1);
+    }
+}
+
 /// A call's kind and its answer's.
 pub fn of_answer(call: &Call, answer: &Answer) -> String {
     let kind = match call {
@@ -107,6 +132,7 @@ pub fn of_answer(call: &Call, answer: &Answer) -> String {
         Call::Query { .. } => "query",
         Call::Listing { .. } => "listing",
         Call::Holdings { .. } => "holdings",
+        Call::SetCeiling { .. } => "set ceiling",
     };
     match answer.number() {
         0 => format!("{kind}: served"),
@@ -132,12 +158,28 @@ pub fn count_state(counts: &mut Counts, state: &State) {
     counts.count("lists seen: of two zones or more", long);
     counts.count("lists seen: empty list of two", two_empty);
     counts.count("states seen: two runs or more", parted);
-    let groups = |test: fn(&Holding) -> bool| {
-        let groups = state.holdings.iter();
-        groups.filter(|holding| test(holding)).count() as u32
+    count_groups(counts, state);
+}
+
+/// Counts the groups by what they hold, beside what they have held and what they may.
+fn count_groups(counts: &mut Counts, state: &State) {
+    let mut count = |name, test: fn(&Holding, u32) -> bool| {
+        let groups = state.holdings.iter().zip(state.ceilings);
+        let such = groups.filter(|(holding, ceiling)| test(holding, *ceiling));
+        counts.count(name, such.count() as u32);
     };
-    let holding = groups(|holding| holding.blocks > 0);
-    counts.count("groups seen: that hold something", holding);
-    let less = groups(|holding| holding.held < holding.greatest);
-    counts.count("groups seen: that have held more", less);
+    count("groups seen: that hold something", |holding, _| {
+        holding.blocks > 0
+    });
+    count("groups seen: that have held more", |holding, _| {
+        holding.held < holding.greatest
+    });
+    count(
+        "groups seen: that hold just their ceiling",
+        |holding, ceiling| holding.blocks > 0 && holding.held == ceiling,
+    );
+    count(
+        "groups seen: that hold more than their ceiling",
+        |holding, ceiling| holding.held > ceiling,
+    );
 }

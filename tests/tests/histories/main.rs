@@ -8,8 +8,9 @@
 //! holdings after every call, and after every tenth the same listing and the same refusal of a list
 //! of another length than twelve. Their words are the same after every fiftieth call, after every
 //! second search where a zone is idle, and at the end; to compare them after every call would take
-//! minutes in the large arenas. At the end both answer the same to a query of every live offset and
-//! of the byte behind it; of a beginning with any number of blocks, to 100 of them.
+//! minutes in the large arenas. At the end the ceilings are those that the answers told, and both
+//! answer the same to a query of every live offset and of the byte behind it; of a beginning with
+//! any number of blocks, to 100 of them.
 //!
 //! The tests print what their histories came upon: among it the second searches, by what they are
 //! for and what they come to, and how many runs the requests looked at, both by the arena's pages.
@@ -83,8 +84,11 @@ fn from_any_state(number: u32, counts: &mut Counts) {
     let live = state.live_blocks().into_iter().map(|block| Granted {
         group: u32::from(block.group),
         offset: block.offset,
+        room: block.room,
     });
-    let history = History::with(profile, u64::from(number)).knowing(live.collect());
+    let history = History::with(profile, u64::from(number))
+        .knowing(live.collect())
+        .under(state.ceilings);
     let mut pair = Pair::over(words).named(name);
     follow(&mut pair, history, &mut random, counts, ASKED);
 }
@@ -125,6 +129,7 @@ fn follow(
             _ => history.next_call(),
         };
         let searched = kinds::count_searches(counts, pair.state(), &call);
+        kinds::count_setting(counts, pair.state(), &call);
         let answer = pair.serve(call);
         counts.count(&kinds::of_answer(&call, &answer), 1);
         history.observe(&call, &answer);
@@ -142,6 +147,12 @@ fn follow(
         }
     }
     counts.count(kinds::CALLS, calls);
+    finish(pair, &history, counts, asked);
+}
+
+/// At the end the history knows the ceilings and the live blocks, and so many of these are asked for.
+fn finish(pair: &mut Pair, history: &History, counts: &mut Counts, asked: usize) {
+    assert_eq!(pair.state().ceilings, *history.ceilings());
     let live = history.live();
     assert_eq!(live.len(), pair.state().live_blocks().len());
     for block in live.iter().take(asked) {

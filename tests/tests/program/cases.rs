@@ -1,5 +1,6 @@
 //! Document 01's cases and those of document 02's requests, as far as they need no more words than
-//! the program has. It writes no count of runs, and no line asks it for the holdings.
+//! the program has and set no ceiling. It writes no count of runs, no line asks it for the holdings, and
+//! none sets a ceiling.
 
 use crate::check_bytes;
 use reference::cases::{all, Case};

@@ -54,7 +54,7 @@ const SCRIPTS: u32 = 4_500;
 const GIVEN: &str = "scripts";
 
 /// What the answers to all scripts have to have.
-const ANSWERS: [&str; 15] = [
+const ANSWERS: [&str; 16] = [
     "at",
     "ok",
     "ok with a count",
@@ -67,6 +67,7 @@ const ANSWERS: [&str; 15] = [
     "no 6",
     "no 7",
     "no 8",
+    "no 10",
     "runs",
     "direct",
     "zones",

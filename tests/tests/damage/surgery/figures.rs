@@ -1,8 +1,9 @@
-//! Operations on the groups' figures: what their sums would not show.
+//! Operations on the groups' figures and ceilings: what their sums would not show.
 
 use crate::subject::Subject;
+use reference::ceilings::MAX_CEILING;
 use reference::histories::Xorshift;
-use tests::layout::{BLOCKS, GREATEST, HELD};
+use tests::layout::{BLOCKS, CEILINGS, GREATEST, HELD};
 
 /// Bytes of rooms.
 const ROOMS: [u32; 6] = [8, 104, 320, 4_096, 8_192, 12_288];
@@ -32,13 +33,14 @@ pub fn move_block(subject: &mut Subject, random: &mut Xorshift) {
     }
 }
 
-/// Two groups with each other's figures, all of them or one kind: legal where both hold the same, or
-/// where it is the greatest ones and both are enough.
+/// Two groups with each other's figures and ceilings, all of them or one kind: legal where both hold
+/// the same, or where it is the greatest ones and both are enough, or where it is the ceilings.
 pub fn swap_groups(subject: &mut Subject, random: &mut Xorshift) {
     let (one, other) = (any_group(random), any_group(random));
-    let only = random.below(4) as usize;
-    for (kind, places) in [BLOCKS, HELD, GREATEST].into_iter().enumerate() {
-        if only == kind || only == 3 {
+    let kinds = [BLOCKS, HELD, GREATEST, CEILINGS];
+    let only = random.below(kinds.len() as u32 + 1) as usize;
+    for (kind, places) in kinds.iter().enumerate() {
+        if only == kind || only == kinds.len() {
             let (a, b) = (places.start + one, places.start + other);
             let (first, second) = (subject.get(a), subject.get(b));
             subject.set(a, second);
@@ -60,6 +62,23 @@ pub fn set_greatest(subject: &mut Subject, random: &mut Xorshift) {
         _ => between.min(arena),
     };
     subject.set(GREATEST.start + group, value);
+}
+
+/// A ceiling at or beside the largest, about what its group holds, or anything.
+pub fn set_ceiling(subject: &mut Subject, random: &mut Xorshift) {
+    let group = any_group(random);
+    let held = subject.get(HELD.start + group);
+    let value = match random.below(8) {
+        0 => 0,
+        1 => held,
+        2 => held.wrapping_sub(1),
+        3 => MAX_CEILING,
+        4 => MAX_CEILING + 1,
+        5 => MAX_CEILING | 1 << random.below(32),
+        6 => random.below(MAX_CEILING),
+        _ => random.draw() as u32,
+    };
+    subject.set(CEILINGS.start + group, value);
 }
 
 /// A group's held bytes without a few that rounding adds, or with some more; its blocks stay.
