@@ -1,5 +1,5 @@
-// The figures of one group, stepped: a block more, a block less, none left, another ceiling. Each function is lent the words of the figures and no others,
-// and stores into those of the group at the index alone.
+// The figures of one group, stepped: a block more, a block less, none left, another ceiling. Each function is lent the words of the
+// figures and no others, and stores into those of the group at the index alone.
 ghost use mathlib.Core.Path.{_≡_};
 ghost use Prim.Native.Nat.{_+_, _≤_, _<_, max};
 ghost use lib.ListN.{length};

@@ -3,7 +3,7 @@
 use Prim.Native.Nat.{ℕ, suc, _-_, _<_}
 use mathlib.Core.Path.{_≡_, refl, sym, _∙_}
 use mathlib.Core.Logic.{_⊎_, inl, inr}
-use mathlib.Core.List.{List, [], _∷_}
+use mathlib.Core.List.{[], _∷_}
 use mathlib.Core.Bool.{true, cond}
 use native.Mathlib.Omega.{arith}
 use lib.Dec.{leb, eqb}
@@ -18,8 +18,8 @@ use Rattle.model.specs.Perform.{Metadata, serve}
 use Rattle.model.proofs.Allocated.{group-least, group-most}
 use Rattle.model.proofs.Ceilings.{limited-at}
 use Rattle.history.specs.Ledger.{begins, unlessRefused, ceilingBy}
-use Rattle.history.specs.Demand.{History, after, afterAll, NoStart, SameCeilings}
-use Rattle.history.specs.Ceilings.{Idle, NoneChanged, StretchCovered}
+use Rattle.history.specs.Demand.{History, after}
+use Rattle.history.specs.Ceilings.{Idle, StretchCovered}
 
 -- The group of an index.
 index-group : (i g : ℕ) → 0 < g → eqb i (g - 1) ≡ eqb (suc i) g

@@ -17,7 +17,6 @@ use Rattle.model.specs.declared.Operation.{Operation}
 use Rattle.model.specs.declared.Operation.the-variants.{Allocate, Free, Reset}
 use Rattle.model.specs.declared.Answer.{Answer}
 use Rattle.model.specs.Arena.{total, Each}
-use Rattle.model.specs.State.{State}
 use Rattle.model.specs.PageMap.{pageMap, blockAt}
 use Rattle.model.specs.Holdings.{blocksOf, heldOf, Account, raised, accounted, freshAccount, ceilingAt, ceilingOf}
 use Rattle.model.specs.Valid.{Valid, ValidAccount}
@@ -314,7 +313,7 @@ module _ (B : Type 0) (view : B → Metadata) (next : B → Command → B) (says
         ceilings = λ i l. rw h (getD-replicate {A = ℕ} mostGroup i mostBytes 0 l);
       }
 
-  split-starts : (a l : List Command) (w : History B view next says) → NoStart B view next says w (a ++ l) → NoStart B view next says w a × NoStart B view next says (afterAll B view next says w a) l
+  pub split-starts : (a l : List Command) (w : History B view next says) → NoStart B view next says w (a ++ l) → NoStart B view next says w a × NoStart B view next says (afterAll B view next says w a) l
   split-starts [] l w h = (tt, h)
   split-starts (c ∷ a) l w h = let k = split-starts a l _ (h .1) in ((h .0, k .0), k .1)
 

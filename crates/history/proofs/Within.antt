@@ -1,7 +1,7 @@
--- Ceilings over whole lists of calls: the words have those that the calls tell, and a group never holds more than its ceiling, if that is
--- not lowered below what it holds. Assumes nothing.
+-- Ceilings over whole lists of calls: the words have those that the calls tell; a group never holds more than its ceiling, if that is not
+-- lowered below what it holds; and demand 3, where no ceiling changed. Assumes nothing.
 use Prim.Native.Nat.{ℕ, suc, _+_, _-_, _≤_, _<_}
-use mathlib.Core.Path.{_≡_, refl, sym, _∙_, ap, subst}
+use mathlib.Core.Path.{_≡_, refl, sym, _∙_, ap}
 use mathlib.Core.List.{List, [], _∷_}
 use mathlib.Core.Option.{Option, none, some}
 use mathlib.Core.Bool.{Bool, cond}
@@ -10,25 +10,25 @@ use lib.ListN.{getD}
 use borrow.Author.Tests.{leb-true}
 use Rattle.lemmas.specs.Keep.{keep}
 use Rattle.lemmas.proofs.Cases.{bool, by-lt, by-eqb, none-some}
-use Rattle.model.specs.Numbers.{mostGroup, mostBytes}
+use Rattle.model.specs.Numbers.{mostGroup}
 use Rattle.model.specs.declared.Operation.{Operation}
 use Rattle.model.specs.declared.Operation.the-variants.{Allocate, Free, Reset}
 use Rattle.model.specs.declared.Answer.{Answer}
 use Rattle.model.specs.Sizes.{roomFor}
 use Rattle.model.specs.State.{State}
 use Rattle.model.specs.PageMap.{pageMap}
-use Rattle.model.specs.Holdings.{heldOf, Account, ceilingAt, ceilingOf}
+use Rattle.model.specs.Holdings.{heldOf, Account, ceilingOf}
 use Rattle.model.specs.Ceilings.{within}
 use Rattle.model.specs.Calls.{Action, group, trim, query, listing, holdings, ceiling, Command, init, act, isRefused, grantOf, groupOk, sizeOk}
 use Rattle.model.specs.Allocate.{allocate}
 use Rattle.model.specs.Perform.{Metadata, perform}
 use Rattle.history.specs.Ledger.{Held, begins, ofGrant, effect, applied}
-use Rattle.history.specs.Demand.{History, after, afterAll, begun, NoStart}
+use Rattle.history.specs.Demand.{History, after, afterAll, begun, NoStart, Demand3}
 use Rattle.history.specs.Holdings.{bytesHeld}
-use Rattle.history.specs.Ceilings.{CeilingsTold, NotBelow, EverWithin, CeilingKept}
+use Rattle.history.specs.Ceilings.{CeilingsTold, NotBelow, EverWithin, CeilingKept, Demand3Asked, StretchCovered}
 use Rattle.history.proofs.Ledger.{Entry}
-use Rattle.history.proofs.Ceilings.{no-start}
-use Rattle.history.proofs.Theorem.{Reached, keeps-says, held-are, reach, reach-all, first-reached}
+use Rattle.history.proofs.Ceilings.{no-start, stretch-covered}
+use Rattle.history.proofs.Theorem.{Reached, keeps-says, held-are, reach, reach-all, first-reached, split-starts, demand-3}
 
 -- What a request's answer that grants tells of the ceiling.
 granted-within : (s : State) (c g n o : ℕ) → grantOf ((allocate c g n s) .answer) ≡ some o → heldOf g (pageMap s) + roomFor n ≤ c
@@ -108,6 +108,19 @@ module _ (B : Type 0) (view : B → Metadata) (next : B → Command → B) (says
   unfolding CeilingKept
   ceiling-kept b n calls i l h starts below =
       fits-all n 0 [] _ calls _ (first-reached B view next says does tells b n h) i l starts below (rw h (omega arith))
+
+  -- Demand 3 with document 02's hypothesis.
+  pub demand-3-asked : Demand3Asked B view next says
+  unfolding Demand3Asked Demand3 StretchCovered
+  demand-3-asked b n first stretch h starts early all =
+      let start : Past = begun B view next says b n in
+      let split : Past = afterAll B view next says start first in
+      let d = demand-3 B view next says does tells b n first stretch h starts early all in record {
+        map = d .map;
+        answers = λ c. d .answers (stretch-covered B view next says split stretch (split-starts B view next says does tells first stretch start starts .1) c);
+        exact-split = d .exact-split;
+        exact-end = d .exact-end;
+      }
 
   pub ceilings-told : CeilingsTold B view next says
   unfolding CeilingsTold

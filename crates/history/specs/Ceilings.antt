@@ -1,6 +1,6 @@
 -- What is claimed of ceilings over whole lists of calls (document 02, e), told from the calls and their answers: that the words have those
--- ceilings; that no group ever holds more than its ceiling, if that is not lowered below what it holds; and which lists leave every
--- ceiling as it was, as demand 3 supposes. Assumes nothing.
+-- ceilings; that no group ever holds more than its ceiling, if that is not lowered below what it holds; and demand 3 with document 02's
+-- own hypothesis, which is more than it needs. Assumes nothing.
 use Prim.Native.Nat.{ℕ, suc, _≤_, _<_}
 use mathlib.Core.Path.{_≡_}
 use mathlib.Core.Logic.{_⊎_}
@@ -12,7 +12,7 @@ use Rattle.model.specs.declared.Answer.{Answer}
 use Rattle.model.specs.Holdings.{Account, ceilingAt}
 use Rattle.model.specs.Calls.{Action, group, trim, query, listing, holdings, ceiling, Command, init, act, isRefused}
 use Rattle.model.specs.Perform.{Metadata}
-use Rattle.history.specs.Demand.{History, after, afterAll, begun, NoStart, SameCeilings}
+use Rattle.history.specs.Demand.{History, after, afterAll, begun, NoStart, SameCeilings, Claim}
 use Rattle.history.specs.Holdings.{bytesHeld}
 
 module _ (B : Type 0) (view : B → Metadata) (next : B → Command → B) (says : B → Command → Answer) where
@@ -65,7 +65,12 @@ module _ (B : Type 0) (view : B → Metadata) (next : B → Command → B) (says
   NoneChanged w (init n ∷ l) = NoneChanged (after B view next says w (init n)) l
   NoneChanged w (act a ∷ l) = Idle w a × NoneChanged (after B view next says w (act a)) l
 
-  -- Document 02's words, "no ceiling changed in the stretch", are met by such calls, and are more than demand 3 needs.
+  -- Demand 3 in document 02's own words: what is supposed is that no ceiling changed in the stretch. (Nor in the sequence after it; but of
+  -- that one nothing need be supposed.)
+  unfoldable pub Demand3Asked : Type 0
+  Demand3Asked = Claim B view next says NoneChanged
+
+  -- That is more than `Demand3` supposes: such calls leave every ceiling as it was.
   unfoldable pub StretchCovered : Type 0
   StretchCovered = (w : Past) (stretch : List Command) →
       NoStart B view next says w stretch → NoneChanged w stretch → SameCeilings B view next says w (afterAll B view next says w stretch)

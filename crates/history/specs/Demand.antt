@@ -117,7 +117,7 @@ module _ (B : Type 0) (view : B → Metadata) (next : B → Command → B) (says
   Exact b (a ∷ l) = ((x : Account) × (view b .account ≡ some x) × ExactCall b x a) × Exact (next b (act a)) l
 
   -- What is claimed of the words trimmed at the split point, m, and of those trimmed at the end, e: the same page map; in every such
-  -- sequence refusals exactly as said; and, if the ceilings are the same in both, for every such sequence the same list of answers.
+  -- sequence refusals exactly as said; and, if `same` is so, for every such sequence the same list of answers.
   -- (Equal answers are of one kind, and have the same offset, number and count where they have one.)
   pub record Alike (same : Type 0) (m e : B) : Type 0 where
     pub map : (x : PageMap) × (mapAt m ≡ some x) × (mapAt e ≡ some x)
@@ -128,9 +128,9 @@ module _ (B : Type 0) (view : B → Metadata) (next : B → Command → B) (says
   -- The claim ---------------------------------------------------------------------------------------------------------------
 
   -- Words b, whatever they hold; a start of n pages that is not refused; the calls up to the split point (the letter: the moment);
-  -- and the calls from there to the end, the stretch.
-  unfoldable pub Demand3 : Type 0
-  Demand3 = (b : B) (n : ℕ) (first stretch : List Command) →
+  -- and the calls from there to the end, the stretch. Where answers are compared, `supposed` is supposed of the stretch.
+  abbrev pub Claim : (History → List Command → Type 0) → Type 0
+  Claim supposed = (b : B) (n : ℕ) (first stretch : List Command) →
       let start : History = begun b n in
       let split : History = afterAll start first in
       let end : History = afterAll split stretch in
@@ -140,9 +140,12 @@ module _ (B : Type 0) (view : B → Metadata) (next : B → Command → B) (says
       ((h : Held) → List·Memᴰ h (end .live) → h .serial < split .calls) →
       -- no block live at its beginning did
       ((h : Held) → List·Memᴰ h (split .live) → List·Memᴰ h (end .live)) →
-      -- trimming at the end leaves what trimming at the split point, on a copy of the words, would have left; and answers alike, if the
-      -- stretch has left every ceiling as it was
-      Alike (SameCeilings split end) (next (split .lent) (act trim)) (next (end .lent) (act trim))
+      -- trimming at the end leaves what trimming at the split point, on a copy of the words, would have left
+      Alike (supposed split stretch) (next (split .lent) (act trim)) (next (end .lent) (act trim))
+
+  -- DEMAND 3. What is supposed is that the stretch leaves every ceiling as it was.
+  unfoldable pub Demand3 : Type 0
+  Demand3 = Claim (λ split stretch. SameCeilings split (afterAll split stretch))
 
   -- Demand 3 speaks of demand 2's live blocks: after a start that is not refused, and any calls without a further start that is not
   -- refused, the words have a page map, and the blocks that calls and answers tell are its live blocks. As this is so of every list, it

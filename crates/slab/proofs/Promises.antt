@@ -41,12 +41,12 @@ use Rattle.model.proofs.BoundMet as met
 use Rattle.model.proofs.NoRoom.{Short}
 use Rattle.history.specs.Demand.{Demand3, LedgerAgrees}
 use Rattle.history.specs.Holdings.{HoldingsTold}
-use Rattle.history.specs.Ceilings.{CeilingsTold, CeilingKept, StretchCovered}
+use Rattle.history.specs.Ceilings.{CeilingsTold, CeilingKept, Demand3Asked, StretchCovered}
 use Rattle.history.specs.Rows.{Row}
 use Rattle.model.proofs.Answers.{refused-number, refusal-refused, refusal-told, grant-told}
 use Rattle.history.proofs.Theorem.{demand-3, ledger-agrees, holdings-told}
 use Rattle.history.proofs.Ceilings.{stretch-covered}
-use Rattle.history.proofs.Within.{ceilings-told, ceiling-kept}
+use Rattle.history.proofs.Within.{ceilings-told, ceiling-kept, demand-3-asked}
 use Rattle.history.proofs.Second as second
 use Rattle.account.specs.Encoding.{accountEncoding, BeginsWith}
 use Rattle.account.specs.Decoding.{accountOf}
@@ -136,6 +136,11 @@ state-served w x v b a = (served-answer w x v b a, served-words w x v b a ∙ ap
 pub words-demand-3 : Demand3 (List ℕ) viewOf metaAfter answerOf
 unfolding answerOf
 words-demand-3 = demand-3 (List ℕ) viewOf metaAfter answerOf view-after (λ w c. refl)
+
+-- With document 02's own hypothesis, that no ceiling changed in the stretch: settings are refused, or set what the ceiling is.
+pub words-demand-3-asked : Demand3Asked (List ℕ) viewOf metaAfter answerOf
+unfolding answerOf
+words-demand-3-asked = demand-3-asked (List ℕ) viewOf metaAfter answerOf view-after (λ w c. refl)
 
 -- The live blocks that it speaks of, told from calls and answers alone, are those of the page map that the words encode.
 pub words-ledger-agrees : LedgerAgrees (List ℕ) viewOf metaAfter answerOf

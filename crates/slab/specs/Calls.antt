@@ -1,4 +1,4 @@
--- What a public call answers, and what it leaves in the lent words (document 01, "Calls" and "Numbers for no"; document 02, c): the rules
+-- What a public call answers, and what it leaves in the lent words (document 01, "Calls" and "Numbers for no"; document 02, c and e): the rules
 -- of the model, performed on what the words hold. Assumes nothing.
 use Prim.Native.Nat.{ℕ}
 use mathlib.Core.List.{List, _++_}
