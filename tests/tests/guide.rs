@@ -169,41 +169,35 @@ fn the_example_in_c_prints_the_holdings_of_the_guide() {
     assert!(told >= 3, "{told} tables");
 }
 
-/// What the guide shows of ceilings, which the bench program has no line for, is what the example prints.
-#[test]
-fn the_example_in_c_prints_the_ceilings_of_the_guide() {
-    let shown = blocks(GUIDE)
-        .into_iter()
-        .filter(|block| block.kind == "ceilings")
-        .map(|block| block.lines.join("\n") + "\n");
-    let shown: Vec<String> = shown.collect();
-    assert!(shown.len() >= 2, "{} blocks", shown.len());
-    for part in shown {
-        assert!(CEILINGS.contains(&part), "not printed:\n{part}");
-    }
+/// The guide's blocks of a kind, each as whole lines.
+fn shown(kind: &str) -> Vec<String> {
+    let of_kind = blocks(GUIDE).into_iter().filter(|block| block.kind == kind);
+    of_kind.map(|block| block.lines.join("\n") + "\n").collect()
 }
 
-/// The examples in C, each whole.
-fn examples_in_c() -> Vec<String> {
-    let folder = concat!(env!("CARGO_MANIFEST_DIR"), "/../examples");
-    let entries = fs::read_dir(folder).expect("the examples' folder");
-    let paths = entries.map(|entry| entry.expect("an entry").path());
-    let in_c = paths.filter(|path| path.extension().map_or(false, |kind| kind == "c"));
-    in_c.map(|path| fs::read_to_string(path).expect("UTF-8"))
-        .collect()
+/// The bench program has no line that sets a ceiling: what the guide shows of them is what the example prints.
+#[test]
+fn the_example_in_c_prints_the_ceilings_of_the_guide() {
+    let parts = shown("ceilings");
+    assert!(parts.len() >= 2, "{} blocks", parts.len());
+    for part in parts {
+        assert!(CEILINGS.contains(&part), "not printed:\n{part}");
+    }
 }
 
 /// What the guide shows of C stands in one of the examples, line by line.
 #[test]
 fn an_example_in_c_has_what_the_guide_shows() {
-    let examples = examples_in_c();
-    let shown = blocks(GUIDE)
-        .into_iter()
-        .filter(|block| block.kind == "c")
-        .map(|block| block.lines.join("\n"));
-    let shown: Vec<String> = shown.collect();
-    assert!(!shown.is_empty());
-    for part in shown {
+    let folder = concat!(env!("CARGO_MANIFEST_DIR"), "/../examples");
+    let entries = fs::read_dir(folder).expect("the examples' folder");
+    let paths = entries.map(|entry| entry.expect("an entry").path());
+    let in_c = paths.filter(|path| path.extension().map_or(false, |kind| kind == "c"));
+    let examples: Vec<String> = in_c
+        .map(|path| fs::read_to_string(path).expect("UTF-8"))
+        .collect();
+    let parts = shown("c");
+    assert!(parts.len() >= 2, "{} blocks", parts.len());
+    for part in parts {
         let found = examples.iter().any(|example| example.contains(&part));
         assert!(found, "in no example:\n{part}");
     }
