@@ -1,5 +1,6 @@
 // The bench program (document 01): calls from standard input, a line each, and their replies to standard output. The words of its
 // arena are enough for 24 pages, and all zero when it begins. Every line is desk's to serve; here are the reads and the writes.
+#![tactic(auto)]
 ghost use Rattle.std.specs.Prelude.{◌≡◌, false, ◌≤◌, length};
 ghost use Rattle.lemmas.specs.Zeros.{zeros};
 ghost use Rattle.account.specs.Decoding.{is_account};
@@ -16,7 +17,7 @@ const WORDS: usize = 13568;
 const REPLY: usize = 207;
 
 // What serving leaves: the reader, and whether to go on. There is no going on where the input ends or a stream fails.
-#[derive(Drop)]
+#[derive(Clone, Copy)]
 struct Served {
     reader: Reader,
     on: bool,

@@ -1,4 +1,5 @@
 // Live blocks: where the block that begins at a byte stands, and the answer to a query.
+#![tactic(auto)]
 ghost use Rattle.std.specs.Prelude.{◌≡◌, ◌+◌, ◌*◌, ◌<◌};
 ghost use Rattle.model.specs.Numbers.{page_bytes, zone_bytes};
 ghost use Rattle.model.specs.Arena.{zone};
@@ -16,7 +17,7 @@ use zone::layout::{KIND_DIRECT, KIND_ZONE};
 
 // The live block that begins at a byte: a direct block, or a chunk; where its segment begins, and the pages of the run that ends
 // there (0: none).
-#[derive(Drop)]
+#[derive(Clone, Copy)]
 pub enum Place {
     Whole {
         at: usize,

@@ -169,9 +169,9 @@ module _ {w : List ℕ} {n : ℕ} (h : Arena w n) where
         put_is : put_mid figure_words (e - figure_words) w v ≡ figures_of x ++ (v ++ drop e w)
         put_is = ap (λ l. put_mid figure_words (e - figure_words) l v) whole ∙ put-at (figures_of x) (encode x.state) (drop e w) v figure_words (e - figure_words) F-long part-long
 
-        all_words : (g : List ℕ) → g ≡ figures_of (following x a) → g ++ (v ++ drop e w) ≡ meta_after w (act a)
+        all_words_lem : (g : List ℕ) → g ≡ figures_of (following x a) → g ++ (v ++ drop e w) ≡ meta_after w (act a)
         unfolding account_encoding
-        all_words g k =
+        all_words_lem g k =
             (λ i. k i ++ (left i ++ drop e w))
             ∙ sym (append_assoc (figures_of (following x a)) (encode (following x a).state) (drop e w))
             ∙ ap (λ k. account_encoding (following x a) ++ drop k w) (at ∙ sym arena-long ∙ sym (served-long x arena-valid a))
@@ -190,15 +190,15 @@ module _ {w : List ℕ} {n : ℕ} (h : Arena w n) where
 
         -- .. and come back as those of the account that follows; or they stay.
         pub arena-stepped : (g : List ℕ) → g ≡ figures_of (accounted (account_in w) (f (account_in w).state).after) → g ++ drop figure_words (put_mid figure_words (e - figure_words) w v) ≡ meta_after w (act a)
-        arena-stepped g k = ap (λ l. g ++ l) (ap (drop figure_words) put_is ∙ drop_at (figures_of x) (v ++ drop e w) figure_words F-long) ∙ all_words g (k ∙ next-figures)
+        arena-stepped g k = ap (λ l. g ++ l) (ap (drop figure_words) put_is ∙ drop_at (figures_of x) (v ++ drop e w) figure_words F-long) ∙ all_words_lem g (k ∙ next-figures)
 
         pub arena-still : figures_of (account_in w) ≡ figures_of (accounted (account_in w) (f (account_in w).state).after) → put_mid figure_words (e - figure_words) w v ≡ meta_after w (act a)
-        arena-still k = put_is ∙ all_words (figures_of x) (k ∙ next-figures)
+        arena-still k = put_is ∙ all_words_lem (figures_of x) (k ∙ next-figures)
 
         -- A refusal leaves the figures.
         pub arena-refused : is_refused (f (account_in w).state).answer ≡ true → put_mid figure_words (e - figure_words) w v ≡ meta_after w (act a)
         arena-refused t =
-            put_is ∙ all_words (figures_of x) (ap (λ y. figures_of y) (sym (serve-same x arena-valid a (ap (λ o. is_refused o.answer) is ∙ t))))
+            put_is ∙ all_words_lem (figures_of x) (ap (λ y. figures_of y) (sym (serve-same x arena-valid a (ap (λ o. is_refused o.answer) is ∙ t))))
 
     -- The pages' words, for the listing.
     abbrev fixed : ℕ

@@ -1,5 +1,6 @@
 // The library for C. Each function answers 0 or the papers' number of the refusal, and writes the answer's values, if it has any,
 // through the pointers lent for them. include/nostrimel.h says what a caller must keep.
+#![tactic(auto)]
 ghost use Rattle.std.specs.Prelude.{◌≡◌, true, false, cond, length};
 ghost use Rattle.std.proofs.Math.Option.{some};
 ghost use Rattle.model.specs.Calls as rules;
@@ -11,7 +12,7 @@ ghost use Rattle.capi.specs.Values.{first_or, second_or, told_of};
 use model::{Answer, Call, Holding, Operation};
 
 // An answer as C is told it: the refusal's number, 0 for none, and the first and the second value, where there are such.
-#[derive(Drop)]
+#[derive(Clone, Copy)]
 struct Told {
     refusal: u32,
     some: bool,

@@ -30,7 +30,7 @@ line-long w (some c) = length-unchanged w c
 pub words_long : (w : List ℕ) (ls : List Line) → length (words_after_all w ls) ≡ length w
 unfolding words_after_all words_after
 words_long w [] = refl
-words_long w (l ∷ ls) = words_long _ ls ∙ line-long w (command_of 0 l)
+words_long w (l ∷ ls) = words_long (words_after w l) ls ∙ line-long w (command_of 0 l)
 
 -- ---- fragments
 

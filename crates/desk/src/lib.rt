@@ -1,6 +1,7 @@
 // Lines served on lent words: a line's call is performed, and its reply goes to the front of a lent buffer. Nothing here reads or
 // writes a file. specs/Replies.antt says what each line is answered with and what it leaves; specs/Session.antt the same of all
 // lines of an input.
+#![tactic(auto)]
 ghost use Rattle.std.specs.Prelude.{◌≡◌, length};
 ghost use Rattle.uplink.specs.declared.Line.TheVariants as lines;
 ghost use Rattle.uplink.specs.Fragments.{Sound, held, last_line};
@@ -11,7 +12,7 @@ use uplink::{Got, Line, Reader};
 
 // A turn: what the reader holds afterwards, the position after the bytes that it took, and the length of the reply, 0 if there is
 // none.
-#[derive(Drop)]
+#[derive(Clone, Copy)]
 pub struct Turn {
     pub reader: Reader,
     pub next: usize,

@@ -72,14 +72,15 @@ rising-from [] h r = tt
 rising-from (q ∷ l) h r = let a = r.0 in (omega arith, r.1)
 
 pub rising-least : {c : ℕ} (l : List ℕ) → Rising c l → {q : ℕ} → Memᴰ q l → c ≤ class_in q
-rising-least (x ∷ l) r {q} (Memᴰ.head e) = let a = r.0 in omega arith
-rising-least (x ∷ l) r (Memᴰ.tail m) = let a = r.0 in let b = rising-least l r.1 m in omega arith
+rising-least {c = c} (x ∷ l) r {q} (Memᴰ.head e) = let a = r.0 in omega arith
+rising-least {c = c} (x ∷ l) r {q = q} (Memᴰ.tail m) = let a = r.0 in let b = rising-least {c = class_in x} l r.1 m in omega arith
+rising-least {c = c} [] r {q = q} x'' = elim x'' [ ]
 
 rising-own : {b c : ℕ} (l ks : List ℕ) → b ≤ c → Below most_pages l → Rising c ks → Rising b (map (key c) l ++ ks)
 rising-own [] ks h g r = rising-from ks h r
 rising-own {b} {c} (p ∷ l) ks h g r =
     let e = key-class c p (g p (Memᴰ.head refl)) in
-    (omega arith, rising-own l ks (omega arith) (λ x m. g x (Memᴰ.tail m)) r)
+    (omega arith, rising-own {b = class_in (key c p)} {c = c} l ks (omega arith) (λ x m. g x (Memᴰ.tail m)) r)
 
 rising-keys : (c : ℕ) (ls : List (List ℕ)) → Pages ls → Rising c (keys_from c ls)
 unfolding keys_from

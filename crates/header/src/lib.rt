@@ -1,6 +1,7 @@
 // The header, the first 1,024 metadata words: the number of pages, the empty list and the class lists. Each function is lent
 // these words and no others. Where words are read or stepped they are a header (`Header`), which is what the check accepts
 // (`check-header`, `header-iff`), and what each step leaves (the `fits-` laws).
+#![tactic(auto)]
 ghost use Rattle.std.specs.Prelude.{◌≡◌, [], ◌∷◌, ◌≤◌, ◌<◌, length, get_or, set, drop, replicate};
 ghost use Rattle.lemmas.specs.Times.{remove};
 ghost use Rattle.header.specs.Keys.{key, keys_of};
@@ -15,7 +16,7 @@ use layout::{AT_LISTS, AT_MAGIC, AT_PAGES, AT_REST, AT_SPARE, KEY_LIMIT, MAGIC};
 use model::numbers::{HEADER_WORDS, MOST_PAGES};
 
 // What stands at the front of a list: a zone's start page, or nothing.
-#[derive(Drop)]
+#[derive(Clone, Copy)]
 pub enum Front {
     Page(u32),
     Nothing,

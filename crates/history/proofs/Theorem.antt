@@ -201,7 +201,7 @@ module _ (B : Type 0) (view : B → Metadata) (next : B → Command → B) (says
     pub ceilings : (i : ℕ) → i < most_group → ceiling_at account i ≡ w.ceiling (suc i)
 
   -- The greatest figures, one call later.
-  abbrev peaks : (ℕ → ℕ) → History B view next says → ℕ → ℕ
+  abbrev pub peaks : (ℕ → ℕ) → History B view next says → ℕ → ℕ
   peaks f v i = max (f i) (bytes_held (suc i) v.live)
 
   -- What a group holds, by the ledger.
@@ -274,7 +274,7 @@ module _ (B : Type 0) (view : B → Metadata) (next : B → Command → B) (says
   pub reach-all : (N t : ℕ) (M : List Entry) (f : ℕ → ℕ) (l : List Command) (w : History B view next says) → Reached N t M f w → NoStart B view next says w l → Reached N t M (peaks-all f w l) (after_all B view next says w l)
   unfolding peaks-all
   reach-all N t M f [] w r h = r
-  reach-all N t M f (c ∷ l) w r h = reach-all N t M _ l _ (reach N t M f w c r h.0) h.1
+  reach-all N t M f (c ∷ l) w r h = reach-all N t M (peaks f (after B view next says w c)) l (after B view next says w c) (reach N t M f w c r h.0) h.1
 
   -- Count anew from here.
   rebased : (N t : ℕ) (M : List Entry) (f : ℕ → ℕ) (w : History B view next says) (r : Reached N t M f w) → Reached N w.calls r.entries f w

@@ -28,7 +28,7 @@ use Rattle.history.specs.Holdings.{bytes_held}
 use Rattle.history.specs.Ceilings.{CeilingsTold, NotBelow, EverWithin, CeilingKept, Demand3Asked, StretchCovered}
 use Rattle.history.proofs.Ledger.{Entry}
 use Rattle.history.proofs.Ceilings.{no_start, stretch-covered}
-use Rattle.history.proofs.Theorem.{Reached, keeps-says, held-are, reach, reach-all, first-reached, split-starts, demand-3}
+use Rattle.history.proofs.Theorem.{Reached, keeps-says, held-are, reach, reach-all, peaks, first-reached, split-starts, demand-3}
 
 -- What a request's answer that grants tells of the ceiling.
 granted-within : (s : State) (c g n o : ℕ) → grant_of (allocate c g n s).answer ≡ some o → held_of g (page_map s) + room_for n ≤ c
@@ -102,7 +102,7 @@ module _ (B : Type 0) (view : B → Metadata) (next : B → Command → B) (says
       NoStart B view next says w calls → NotBelow B view next says (suc i) w calls → Fits (suc i) w → EverWithin B view next says (suc i) w calls
   fits_all N t M f [] w r i l s b h = h
   fits_all N t M f (c ∷ calls) w r i l s b h =
-      (h, fits_all N t M _ calls _ (reach B view next says does tells N t M f w c r s.0) i l s.1 b.1 (fits_next N t M f w r i l h c s.0 b.0))
+      (h, fits_all N t M (peaks B view next says does tells f (after B view next says w c)) calls (after B view next says w c) (reach B view next says does tells N t M f w c r s.0) i l s.1 b.1 (fits_next N t M f w r i l h c s.0 b.0))
 
   pub ceiling-kept : CeilingKept B view next says
   unfolding CeilingKept

@@ -36,6 +36,7 @@ module _ {ℓ} {A : Type ℓ} where
   pub distinct_apart : (a b : List A) → Distinct (a ++ b) → {x : A} → Memᴰ x a → Memᴰ x b → ⊥
   distinct_apart (y ∷ a) b h (Memᴰ.head e) k = h.0 (Memᴰ.append_right a (Memᴰ.cast (sym e) k))
   distinct_apart (y ∷ a) b h (Memᴰ.tail m) k = distinct_apart a b h.1 m k
+  distinct_apart [] b h x5 k = elim x5 [ ]
 
   pub distinct-keep : (p : A → Bool) (l : List A) → Distinct l → Distinct (keep p l)
   unfolding keep

@@ -47,6 +47,7 @@ module _ {ℓ} {A : Type ℓ} (p : A → Bool) where
       go : (b : Bool) → Memᴰ y (keep p l) → Memᴰ y (cond b (x ∷ []) [] ++ keep p l)
       go true k = Memᴰ.tail k
       go false k = k
+  keep-keeps {y = y} {l = []} e x5 = elim x5 [ ]
 
   -- All pass, or none does.
   pub keep_all : (l : List A) → every p l ≡ true → keep p l ≡ l

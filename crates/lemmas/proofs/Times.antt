@@ -47,6 +47,7 @@ module _ (q : ℕ) where
   pub member-times : {l : List ℕ} → Memᴰ q l → 0 < times q l
   member-times {l = x ∷ l} (Memᴰ.head e) = rw (times-here l e) (omega arith)
   member-times {l = x ∷ l} (Memᴰ.tail m) = let a = member-times m in rw (times-cons x l) (omega arith)
+  member-times {l = []} x'' = elim x'' [ ]
 
   pub times-member : (l : List ℕ) → 0 < times q l → Memᴰ q l
   times-member [] h = absurd (omega (arith, times-nil))
@@ -65,6 +66,7 @@ pub member-above : {q : ℕ} {l : List ℕ} → Memᴰ q l → q < above l
 unfolding above
 member-above {l = x ∷ l} (Memᴰ.head e) = omega arith
 member-above {l = x ∷ l} (Memᴰ.tail m) = let a = member-above m in omega arith
+member-above {q = q} {l = []} x'' = elim x'' [ ]
 
 pub times-past : (n : ℕ) (l : List ℕ) → ((x : ℕ) → Memᴰ x l → x < n) → (q : ℕ) → n ≤ q → times q l ≡ 0
 times-past n l h q k = times-absent q l (λ m. let a = h q m in omega arith)

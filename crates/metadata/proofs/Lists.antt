@@ -23,7 +23,7 @@ use Rattle.model.specs.Valid.{OpenAt, IdleAt}
 use Rattle.model.proofs.Moves.{one-zone}
 use Rattle.header.specs.Keys.{keys_of}
 use Rattle.header.specs.Front.{stands}
-use Rattle.metadata.specs.Lists.{zone_fits, segment_fits, fit_from}
+use Rattle.metadata.specs.Lists.{zone_fits, segment_fits, fit_from, is_open}
 use Rattle.metadata.proofs.Open.{sum_open, length-open, open_pages, open_told, told-open, pages-distinct}
 use Rattle.metadata.proofs.Entries.{entries, length-entries, on_list, list_on, Single, single-entries, entries-single}
 
@@ -43,7 +43,7 @@ unfolding fit_from sum_open
 fit-told spare lists k a p [] t = (omega (arith, eqb-true), λ q z e. none-some e)
 fit-told spare lists k a p (x ∷ r) t =
     let f = and_left _ _ t in
-    let g = fit-told spare lists k _ _ r (and_right (segment_fits spare lists p x) _ t) in (
+    let g = fit-told spare lists k (a + is_open x) (p + pages x) r (and_right (segment_fits spare lists p x) _ t) in (
       omega arith,
       λ q z e. bool (ltb (q * page_bytes) (bytes x))
           (λ u. here q z f (some_inj (rw u at e)))
@@ -59,7 +59,7 @@ told_fit : (spare : List ℕ) (lists : List (List ℕ)) (k a p : ℕ) (m : List 
 unfolding fit_from sum_open
 told_fit spare lists k a p [] c f = eq-eqb a k (omega arith)
 told_fit spare lists k a p (x ∷ r) c f = and_both _ _ (first x f)
-    (told_fit spare lists k _ _ r (omega arith) (λ q z e. rw (let w : p + (pages x + q) ≡ p + pages x + q = omega arith in w) at
+    (told_fit spare lists k (a + is_open x) (p + pages x) r (omega arith) (λ q z e. rw (let w : p + (pages x + q) ≡ p + pages x + q = omega arith in w) at
     (f (pages x + q) z (rw (le-ltb ((pages x + q) * page_bytes) (bytes x) (omega arith)) (ap (λ j. locate j r) (let w : (pages x + q) * page_bytes - bytes x ≡ q * page_bytes = omega arith in w) ∙ e)))))
   where
     first : (x : Segment Zone) → ((q : ℕ) (z : Zone) → locate (q * page_bytes) (x ∷ r) ≡ some (record { away = 0; segment = zone z }) → zone_fits spare lists (p + q) z ≡ true) → segment_fits spare lists p x ≡ true

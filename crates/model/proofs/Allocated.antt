@@ -128,7 +128,7 @@ module _ (s : State) where
         let new : chunk_of c i (get_or (padded (chunks c) z'.owners) i 0) ≡ some (chunk c i g) = ap (chunk_of c i) (padded-in (chunks c) _ i inside ∙ G.is-owned) ∙ live-chunk c i g least in
         gives _ 0 (chunk c i g) refl (chunk-fresh (p * page_bytes) (page_map s) c i _ there (chunk-begins c i inside) (padded-in (chunks c) z.owners i inside ∙ G.was_free)) refl refl
         (rw (edit-retold occupancy (p * page_bytes) (λ _. zone z' ∷ []) (λ _. zone (occupancy z') ∷ []) (λ _. refl) _, ← new)
-        (chunk-only (p * page_bytes) (λ _. zone (occupancy z') ∷ []) (page_map s) 0 c i _ _ there (ap (λ y. zone y ∷ []) (shown-zone c z' (G.same_Class ∙ k))) (chunk-begins c i inside) (padded-other (chunks c) z.owners _ i G.others) (p * page_bytes) (omega arith)))
+        (chunk-only (p * page_bytes) (λ _. zone (occupancy z') ∷ []) (page_map s) 0 c i _ _ there (ap (λ y. zone y ∷ []) (shown-zone c z' (G.same_class ∙ k))) (chunk-begins c i inside) (padded-other (chunks c) z.owners _ i G.others) (p * page_bytes) (omega arith)))
 
     chunk-law : Valid s → g ≤ most_group → (l : List ℕ) → list_of s c ≡ l → Allocated s g (room c) (chunk_from c g s l)
     chunk-law v most [] e = spare-law v s.spare refl

@@ -78,7 +78,7 @@ module _ {Z : Type 0} where
   -- Every place can be split so.
   pub split : (o : ℕ) (m : List (Segment Z)) {pl : Place Z} → locate o m ≡ some pl → Split o m pl
   split o [] e = none-some e
-  split o (x ∷ r) e = bool (ltb o (bytes x)) (λ t. rw (some_inj (rw t at e)) at (split-here o x r t)) (λ t. split-there o x r t (split _ r (rw t at e)))
+  split o (x ∷ r) e = bool (ltb o (bytes x)) (λ t. rw (some_inj (rw t at e)) at (split-here o x r t)) (λ t. split-there o x r t (split (o - bytes x) r (rw t at e)))
 
   pub locate-mid : (a y b : List (Segment Z)) (d : ℕ) → d < total y * page_bytes → locate (total a * page_bytes + d) (a ++ (y ++ b)) ≡ locate d y
   locate-mid a y b d h = locate-right a (y ++ b) d ∙ locate-left y b d h
@@ -152,7 +152,7 @@ module _ {Z : Type 0} where
 
   pub each-edit : (P : Segment Z → Type 0) (o : ℕ) (f : Segment Z → List (Segment Z)) → ((x : Segment Z) → P x → Each P (f x)) → (m : List (Segment Z)) → Each P m → Each P (edit o f m)
   each-edit P o f h [] k = tt
-  each-edit P o f h (x ∷ r) k = bool (ltb o (bytes x)) (λ t. rw t (each_append P (f x) r (h x k.0) k.1)) (λ t. rw t (k.0, each-edit P _ f h r k.1))
+  each-edit P o f h (x ∷ r) k = bool (ltb o (bytes x)) (λ t. rw t (each_append P (f x) r (h x k.0) k.1)) (λ t. rw t (k.0, each-edit P (o - bytes x) f h r k.1))
 
   pub each-locate : (P : Segment Z → Type 0) (m : List (Segment Z)) (o : ℕ) {pl : Place Z} → Each P m → locate o m ≡ some pl → P pl.segment
   each-locate P [] o h e = none-some e
@@ -176,11 +176,11 @@ module _ {A B : Type 0} (f : A → B) where
 
   pub locate-retold : (o : ℕ) (m : List (Segment A)) → locate o (map (retold f) m) ≡ retold_place (locate o m)
   locate-retold o [] = refl
-  locate-retold o (x ∷ r) = rw (pages-retold x) (bool (ltb o (bytes x)) (λ t. rw t) (λ t. rw t (locate-retold _ r)))
+  locate-retold o (x ∷ r) = rw (pages-retold x) (bool (ltb o (bytes x)) (λ t. rw t) (λ t. rw t (locate-retold (o - bytes x) r)))
 
   pub edit-retold : (o : ℕ) (h : Segment A → List (Segment A)) (k : Segment B → List (Segment B)) → ((x : Segment A) → map (retold f) (h x) ≡ k (retold f x)) → (m : List (Segment A)) → map (retold f) (edit o h m) ≡ edit o k (map (retold f) m)
   edit-retold o h k e [] = refl
-  edit-retold o h k e (x ∷ r) = rw (pages-retold x) (bool (ltb o (bytes x)) (λ t. rw t (cc (map-append (retold f) (h x) r, e x))) (λ t. rw t (cc (edit-retold _ h k e r))))
+  edit-retold o h k e (x ∷ r) = rw (pages-retold x) (bool (ltb o (bytes x)) (λ t. rw t (cc (map-append (retold f) (h x) r, e x))) (λ t. rw t (cc (edit-retold (o - bytes x) h k e r))))
 
 -- What stands under a retold place.
 pub record Under {A B : Type 0} (f : A → B) (m : List (Segment A)) (o : ℕ) (pl : Place B) : Type 0 where

@@ -140,11 +140,11 @@ map-in : (g o d : ℕ) (m : PageMap) → 0 < g → is_of g (block_at m d) ≡ tr
 map-in g o d [] p h = clash (cc)
 map-in g o d (x ∷ r) p h = bool (ltb d (bytes x))
     (λ t. among-left (o + d) _ _ (seg_in g o d x p (rw t at h)))
-    (λ t. among-right (o + d) (offsets_in g o x) _ (ap (λ q. among q (offsets_from g (o + bytes x) r)) (let q : o + d ≡ o + bytes x + (d - bytes x) = omega (arith, ltb-false) in q) ∙ map-in g _ _ r p (rw t at h)))
+    (λ t. among-right (o + d) (offsets_in g o x) _ (ap (λ q. among q (offsets_from g (o + bytes x) r)) (let q : o + d ≡ o + bytes x + (d - bytes x) = omega (arith, ltb-false) in q) ∙ map-in g (o + bytes x) (d - bytes x) r p (rw t at h)))
 
 map-out : (g o q : ℕ) (m : PageMap) → 0 < g → Each Sized m → among q (offsets_from g o m) ≡ true → (d : ℕ) × (q ≡ o + d) × (is_of g (block_at m d) ≡ true)
 map-out g o q [] p k h = absurd (not-in-nil q h)
-map-out g o q (x ∷ r) p k h = go (among_cases q _ _ h) (map-out g _ q r p k.1)
+map-out g o q (x ∷ r) p k h = go (among_cases q _ _ h) (map-out g (o + bytes x) q r p k.1)
   where
     go : (among q (offsets_in g o x) ≡ true) ⊎ (among q (offsets_from g (o + bytes x) r) ≡ true) → (among q (offsets_from g (o + bytes x) r) ≡ true → (d : ℕ) × (q ≡ o + bytes x + d) × (is_of g (block_at r d) ≡ true)) → (d : ℕ) × (q ≡ o + d) × (is_of g (block_at (x ∷ r) d) ≡ true)
     go (inl a) _ = let f = seg_out g o q x p k.0 a in (f.0, f.1, rw (lt-ltb f.0 (bytes x) f.2) f.3)

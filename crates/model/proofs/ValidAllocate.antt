@@ -186,7 +186,7 @@ module _ (s : State) (h : Valid s) (g : ℕ) (least : 0 < g) (most : g ≤ most_
           kept = put-kept m p z z' b;
           back = put-back m p z z' b;
           alone = λ n ne j. let w = h.listed n p j in ne (cc (one-zone m (p * page_bytes) w.0 z w.1 b));
-          here-listed = bool (full z') (λ t. rw t (λ j. absurd (nd.0 j))) (λ t _. (z', put-new m p z z' b, G.same_Class ∙ k, t));
+          here-listed = bool (full z') (λ t. rw t (λ j. absurd (nd.0 j))) (λ t _. (z', put-new m p z z' b, G.same_class ∙ k, t));
           here-spared = λ j. absurd (h.not-both c p inn j);
           here-complete = λ y a f. let y-is = put_is m p z z' b y a in
               inl (cc, subst (λ t. Memᴰ p (cond t ps (p ∷ ps))) (sym f ∙ ap full y-is) (mathlib.Core.List.Memᴰ.head refl));

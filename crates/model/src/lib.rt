@@ -1,5 +1,6 @@
 // The public types of which the contracts speak, and the little code that every layer shares: numbers, the group test, a refusal's
 // number, a request's refusal. The rules themselves are definitions, in specs/.
+#![tactic(auto)]
 ghost use Rattle.std.specs.Prelude.{◌≡◌};
 ghost use Rattle.model.specs.declared.Answer.TheVariants.{Denied};
 ghost use Rattle.model.specs.Calls.{group_ok, is_refused, number as number_of};
@@ -9,7 +10,7 @@ pub mod numbers;
 use numbers::MOST_GROUP;
 
 // What a group asks. (Document 01: a request with a size, a return with an offset, or a reset.)
-#[derive(Drop)]
+#[derive(Clone, Copy)]
 pub enum Operation {
     Allocate(u32),
     Free(u32),
@@ -17,14 +18,14 @@ pub enum Operation {
 }
 
 // A group's call: one record holding the group and what it asks.
-#[derive(Drop)]
+#[derive(Clone, Copy)]
 pub struct Call {
     pub group: u32,
     pub operation: Operation,
 }
 
 // Why a call is refused. `number` gives the papers' number of each.
-#[derive(Drop)]
+#[derive(Clone, Copy)]
 pub enum Refusal {
     BadPages,
     FewWords,
@@ -41,7 +42,7 @@ pub enum Refusal {
 
 // What a call answers. A request is granted an offset, or denied; both tell how many free runs were looked at. Any other call is
 // refused, done, done with a count, or tells a live block's group and room.
-#[derive(Drop)]
+#[derive(Clone, Copy)]
 pub enum Answer {
     Granted { offset: u32, looked: u32 },
     Denied { refusal: Refusal, looked: u32 },
@@ -53,7 +54,7 @@ pub enum Answer {
 
 // What a group holds: its live blocks, their rooms' bytes, and the most bytes that it has held since the start.
 #[repr(C)]
-#[derive(Drop)]
+#[derive(Clone, Copy)]
 pub struct Holding {
     pub blocks: u32,
     pub held: u32,

@@ -84,7 +84,7 @@ ended b (x ∷ []) h = one (run_pages x) refl
     one : (k : ℕ) → run_pages x ≡ k → Ended (x ∷ []) (run_pages x)
     one zero e = rw e (record { rest = x ∷ []; is = refl; no_run = ends-cons false x [] ∙ apart-pos b x [] h e })
     one (suc k) e = record { rest = []; is = (ended-one x).1 (omega arith); no_run = refl }
-ended b (x ∷ (y ∷ r)) h = more (ended _ (y ∷ r) (apart-tail b x (y ∷ r) h).1)
+ended b (x ∷ (y ∷ r)) h = more (ended (apart-tail b x (y ∷ r) h).0 (y ∷ r) (apart-tail b x (y ∷ r) h).1)
   where
     more : Ended (y ∷ r) (run_at_end 0 (y ∷ r)) → Ended (x ∷ (y ∷ r)) (run_at_end 0 (x ∷ (y ∷ r)))
     more e = record { rest = x ∷ e.rest; is = cc; no_run = go e.rest refl }

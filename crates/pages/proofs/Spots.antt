@@ -16,7 +16,7 @@ use Rattle.model.proofs.Arena.{locate-right}
 use Rattle.pages.specs.declared.Spot.{Spot}
 use Rattle.pages.specs.declared.Spot.TheVariants.{Segment as At, Nowhere}
 use Rattle.pages.specs.Encoding.{kind_of}
-use Rattle.pages.specs.Places.{Stands, spot_from, Passed}
+use Rattle.pages.specs.Places.{Stands, spot_from, Passed, run_pages}
 use Rattle.pages.proofs.Laws.{group-is}
 use Rattle.pages.proofs.Walk.{Read, passed_none, passed-more, passed-stands, passed-total}
 
@@ -30,7 +30,7 @@ unfolding spot_from
 spotted-from {m} q b p [] h i = omega (arith, passed-total i)
 spotted-from {m} q b p (x ∷ r) h i = bool (ltb q (p + pages x))
     (λ t. rw t (x, passed-stands x r i, refl, refl, h, ltb-true q _ t))
-    (λ t. rw t (spotted-from q _ _ r (ltb-false q _ t) (passed-more x r i)))
+    (λ t. rw t (spotted-from q (run_pages x) (p + pages x) r (ltb-false q _ t) (passed-more x r i)))
 
 pub spotted : (m : List (Segment Zone)) (q : ℕ) → Spotted m q (spot_from q 0 0 m)
 spotted m q = spotted-from q 0 0 m (omega arith) (passed_none m)

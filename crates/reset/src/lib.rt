@@ -1,5 +1,6 @@
 // Reset: every live block of a group comes back, in ascending offset. One walk over the segments, and inside a zone one over its
 // chunks: it goes on from where it is, and behind the run that given back pages have become part of.
+#![tactic(auto)]
 ghost use Rattle.std.specs.Prelude.{◌≡◌, ℕ, ◌+◌, ◌<◌, length};
 ghost use Rattle.model.specs.Arena.{run, direct};
 ghost use Rattle.model.specs.State.{State};
@@ -17,7 +18,7 @@ use model::{Answer, Refusal};
 use zone::layout::{KIND_RUN, KIND_ZONE};
 
 // Where the walk goes on: the next page, the pages of the run that ends there (0: none), and the blocks given back on the way.
-#[derive(Drop)]
+#[derive(Clone, Copy)]
 pub struct Swept {
     pub next: usize,
     pub before: usize,

@@ -55,7 +55,7 @@ length-by p (zone z) ls = bool (idle_zone z) (λ t. rw t (length-set ls z.class 
 
 length-swept : (p : ℕ) (m : List (Segment Zone)) (ls : List (List ℕ)) → length (swept_lists p m ls) ≡ length ls
 length-swept p [] ls = refl
-length-swept p (x ∷ r) ls = length-swept _ r _ ∙ length-by p x ls
+length-swept p (x ∷ r) ls = length-swept (p + pages x) r (swept_by p x ls) ∙ length-by p x ls
 
 remove-is : (p : ℕ) (l : List ℕ) → remove p l ≡ keep (λ q. not (eqb p q)) l
 unfolding remove
@@ -78,7 +78,7 @@ list-by c p (zone z) ls h = go (idle_zone z) _ (eqb-true c z.class) (eqb-false c
 list-swept : (c p : ℕ) (m : List (Segment Zone)) (ls : List (List ℕ)) → c < length ls → get_or (swept_lists p m ls) c [] ≡ keep (stays c p m) (get_or ls c [])
 list-swept c p [] ls h = keep-any (λ _. true) _ (λ _. refl)
 list-swept c p (x ∷ r) ls h =
-    list-swept c _ r _ (omega (arith, length-by p x ls))
+    list-swept c (p + pages x) r (swept_by p x ls) (omega (arith, length-by p x ls))
     ∙ ap (λ l. keep (stays c (p + pages x) r) l) (list-by c p x ls h)
     ∙ keep-keep _ _ _
 
@@ -92,7 +92,7 @@ by-past c p q (zone z) h = rw (ne_eqb p q (h refl)) (rw (cond_same _ true) (cond
 
 stays-past : (c p q : ℕ) (m : List (Segment Zone)) → q < p → stays c p m q ≡ true
 stays-past c p q [] h = refl
-stays-past c p q (x ∷ r) h = and_both _ _ (by-past c p q x (omega arith)) (stays-past c _ q r (omega arith))
+stays-past c p q (x ∷ r) h = and_both _ _ (by-past c p q x (omega arith)) (stays-past c (p + pages x) q r (omega arith))
 
 -- A page at which a zone of the class begins stays just if the zone is not idle.
 stays-zone : (c p q : ℕ) (m : List (Segment Zone)) (z : Zone) → ZoneAt m q z → z.class ≡ c → stays c p m (p + q) ≡ not (idle_zone z)
@@ -101,7 +101,7 @@ stays-zone c p q (x ∷ r) z b e = bool (ltb (q * page_bytes) (bytes x))
     (λ t. let k = some_inj (rw t at b) in here (omega (arith, ap (λ a. a.away) k)) (ap (λ a. a.segment) k))
     (λ t.
     let a = ltb-false (q * page_bytes) (bytes x) t in
-    there a (stays-zone c _ _ r z (ap (λ o. locate o r) (let u : (q - pages x) * page_bytes ≡ q * page_bytes - bytes x = omega arith in u) ∙ (rw t at b)) e))
+    there a (stays-zone c (p + pages x) (q - pages x) r z (ap (λ o. locate o r) (let u : (q - pages x) * page_bytes ≡ q * page_bytes - bytes x = omega arith in u) ∙ (rw t at b)) e))
   where
     here : q ≡ 0 → x ≡ zone z → stays c p (x ∷ r) (p + q) ≡ not (idle_zone z)
     here a k = rw k (rw (eq-eqb c z.class (sym e), eq-eqb p (p + q) (omega arith), stays-past c (p + zone_pages) (p + q) r (omega arith)) (go (idle_zone z)))

@@ -1,5 +1,6 @@
 // Lines of input to calls, answers to lines, and a reader that takes the input in fragments. Nothing here reads or writes a file:
 // bytes come in lent slices, and texts go into lent buffers.
+#![tactic(auto)]
 use model::Call;
 
 pub mod answers;
@@ -11,7 +12,7 @@ pub const MOST_LINE: usize = 64;
 
 // What a line asks: init with a number of pages, a group's call, trim, query of an offset, or the listing; or nothing that is
 // understood.
-#[derive(Drop)]
+#[derive(Clone, Copy)]
 pub enum Line {
     Init(u32),
     Group(Call),
@@ -22,7 +23,7 @@ pub enum Line {
 }
 
 // The numbers after a line's letter.
-#[derive(Drop)]
+#[derive(Clone, Copy)]
 enum Numbers {
     None,
     One(u32),
@@ -31,7 +32,7 @@ enum Numbers {
 }
 
 // An unfinished line: its first bytes, how many they are, and whether there were more than a line has.
-#[derive(Drop)]
+#[derive(Clone, Copy)]
 pub struct Reader {
     line: [u8; MOST_LINE],
     len: usize,
@@ -39,14 +40,14 @@ pub struct Reader {
 }
 
 // What the bytes brought: a whole line, or none yet.
-#[derive(Drop)]
+#[derive(Clone, Copy)]
 pub enum Got {
     Whole(Line),
     More,
 }
 
 // A step of the reader: what it holds afterwards, the position after the bytes that it took, and what these brought.
-#[derive(Drop)]
+#[derive(Clone, Copy)]
 pub struct Fed {
     pub reader: Reader,
     pub next: usize,
@@ -54,7 +55,7 @@ pub struct Fed {
 }
 
 // What the end of the input brings. The reader is as new.
-#[derive(Drop)]
+#[derive(Clone, Copy)]
 pub struct Ended {
     pub reader: Reader,
     pub got: Got,

@@ -11,7 +11,7 @@ use crate::layout::*;
 const FAR: u32 = HALF * SLOTS as u32;
 
 // What a scan of slots finds: how many are those of live chunks, and the or of all.
-#[derive(Drop)]
+#[derive(Clone, Copy)]
 struct Tally {
     live: u32,
     seen: u32,

@@ -1,0 +1,11 @@
+-- `put_rows` meets its contract. The loop's invariant: the rows of the segments passed have been written. Assumes nothing.
+use Rattle.listing.proofs.Walks.{Writing, write-start, write-next, write-length, write-bounded, write-more, write-end}
+use Prim.Native.Nat.{◌-◌}
+use native.Mathlib.Omega.{arith}
+use Rattle.listing.proofs.put_rows.Given as goal
+
+abbrev pub invariant-loop-p : goal.invariant-loop-p
+invariant-loop-p l = Writing l.kind l.words l.n l.initial.out l.at l.next l.out l.p
+
+abbrev pub decreases-loop-p : goal.decreases-loop-p
+decreases-loop-p l = l.n - l.p

@@ -1,0 +1,67 @@
+-- `check` meets its contract. Assumes nothing.
+use Rattle.model.specs.Numbers.{most_pages, header_words}
+use Rattle.header.specs.Encoding.{Header}
+use Rattle.metadata.specs.Decoding.{header_part}
+use Rattle.metadata.proofs.Checked.{too_short, no_header, pages-missing, part-long, no-segments, segments-hold, lists-decide}
+use Rattle.header.proofs.Exact.{check-header}
+use lib.Seq.{length-take-le}
+use native.Mathlib.Omega.{arith}
+use mathlib.Core.Path.{sym, ◌∙◌}
+use Prim.Native.Nat.{◌≤◌}
+use borrow.Author.Tests.{not-true, not-false}
+use Rattle.metadata.proofs.check.Goals as goal
+
+-- The header has passed.
+header : (c : goal.Else-not-check) → Header (header_part c.args.words.now)
+header c = check-header _ (sym c.check.ensures ∙ not-false _ c.if-not-check.false)
+
+pub returns-then-words-lt-HEADER_WORDS : goal.returns-then-words-lt-HEADER_WORDS
+returns-then-words-lt-HEADER_WORDS c = too_short _ c.if-words-lt-HEADER_WORDS.true
+
+pub slice_bounds-check-end : goal.slice_bounds-check-end
+slice_bounds-check-end c = sym (length-take-le header_words c.args.words.now (omega (arith, c.if1.false)))
+
+pub returns-then-not-check : goal.returns-then-not-check
+returns-then-not-check c = no_header _ (sym c.check.ensures ∙ not-true _ c.if-not-check.true)
+
+pub slice_bounds-pages-end : goal.slice_bounds-pages-end
+slice_bounds-pages-end c = sym (length-take-le header_words c.args.words.now (omega (arith, c.if-words-lt-HEADER_WORDS.false)))
+
+pub pages-n-requires : goal.pages-n-requires
+pages-n-requires c = header (goal.at.pages-n-requires c).After-check
+
+pub words_for-e-requires : goal.words_for-e-requires
+words_for-e-requires c = omega (arith, c.pages-n.ensures, (header (goal.at.words_for-e-requires c).Else-not-check).fits.most)
+
+pub returns-then-words-e : goal.returns-then-words-e
+returns-then-words-e c = pages-missing _ _ c.pages-n.ensures _ c.words_for-e.ensures c.if-words-e.true
+
+pub check-requires-2 : goal.check-requires-2
+check-requires-2 c = 
+    (part-long c.args.words.now _ c.pages-n.ensures _ c.words_for-e.ensures c.if-words-e.false, omega (arith, c.pages-n.ensures, (header (goal.at.check-requires-2 c).Else-not-check).fits.most))
+
+pub returns-then-not-check-2 : goal.returns-then-not-check-2
+returns-then-not-check-2 c = 
+    no-segments _ _ c.pages-n.ensures _ c.words_for-e.ensures (sym c.check-2.ensures ∙ not-true _ c.if-not-check-2.true)
+
+pub slice_bounds-lists_fit-end : goal.slice_bounds-lists_fit-end
+slice_bounds-lists_fit-end c = 
+    sym (length-take-le header_words c.args.words.now (omega (arith, c.if-words-lt-HEADER_WORDS.false)))
+
+pub lists_fit-requires : goal.lists_fit-requires
+lists_fit-requires c = 
+    let h = header (goal.at.lists_fit-requires c).Else-not-check in
+    let few : c.pages-n.result ≤ most_pages = omega (arith, c.pages-n.ensures, h.fits.most) in
+    (h, segments-hold c.args.words.now _ c.pages-n.ensures _ c.words_for-e.ensures c.if-words-e.false few (sym c.check2.ensures ∙ not-false _ c.if4.false))
+
+pub returns : goal.returns
+returns c = 
+    c.lists_fit.ensures
+    ∙ lists-decide _ _ c.pages-n.ensures _ c.words_for-e.ensures (sym c.check.ensures ∙ not-false _ c.if-not-check.false) c.if-words-e.false
+    (sym c.check2.ensures ∙ not-false _ c.if4.false)
+
+-- WARN step ['if1', 'false'] at After-shared_slice_known is shared_slice_known
+-- WARN step ['check2', 'ensures'] at After-check-arg is check-arg
+-- WARN step ['if4', 'false'] at After-check2 is check2
+-- WARN step ['check2', 'ensures'] at After-check-arg is check-arg
+-- WARN step ['if4', 'false'] at After-check2 is check2

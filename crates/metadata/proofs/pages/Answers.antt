@@ -1,0 +1,20 @@
+-- `pages` meets its contract. Assumes nothing.
+use Rattle.model.specs.Numbers.{header_words}
+use Rattle.metadata.proofs.States.{state-read, state-pages}
+use lib.Seq.{length-take-le}
+use native.Mathlib.Omega.{arith}
+use mathlib.Core.Path.{sym, ◌∙◌}
+use Rattle.metadata.proofs.pages.Goals as goal
+
+pub slice_bounds-pages-end : goal.slice_bounds-pages-end
+slice_bounds-pages-end c = sym (length-take-le header_words c.args.words.now (omega (arith, (state-read _ c.requires).long)))
+
+pub pages-requires : goal.pages-requires
+pages-requires c = (state-read _ c.requires).header
+
+pub returns : goal.returns
+returns c = c.pages.ensures ∙ sym (state-pages _ c.requires)
+
+-- WARN before start
+-- WARN before start
+-- WARN before start

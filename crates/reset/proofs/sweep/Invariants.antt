@@ -1,0 +1,17 @@
+-- `sweep` meets its contract. Assumes nothing.
+use native.Mathlib.Omega.{arith}
+use Prim.Native.Nat.{◌-◌}
+use lib.ListN.{length}
+use Rattle.metadata.specs.Decoding.{decode}
+use Rattle.model.specs.Free.{offsets_of, freed_all}
+use Rattle.steps.proofs.Kept.{good-long}
+use Rattle.reset.proofs.Sweeps.{sweep-start, sweep-end, few-in-all}
+use Rattle.reset.specs.Sweep.{Sweep}
+use Rattle.reset.proofs.sweep.Given as goal
+
+abbrev pub invariant-loop-p : goal.invariant-loop-p
+invariant-loop-p l =
+    Sweep l.group (freed_all (offsets_of l.group (decode l.initial.words)) (decode l.initial.words)) (length (offsets_of l.group (decode l.initial.words))) l.words l.n l.p l.before l.count
+
+abbrev pub decreases-loop-p : goal.decreases-loop-p
+decreases-loop-p l = l.n - l.p

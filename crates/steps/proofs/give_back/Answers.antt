@@ -1,0 +1,33 @@
+-- `give_back` meets its contract. Assumes nothing.
+use native.Mathlib.Omega.{arith}
+use Rattle.steps.proofs.Body.{has-pages, has-header, body-holds, in_body, body_back, release-total}
+use mathlib.Core.Bool.{false}
+use mathlib.Core.Path.{◌≡◌}
+use Prim.Native.Nat.{◌*◌}
+use Rattle.pages.specs.Places.{Stands, run_pages}
+use Rattle.model.specs.Numbers.{page_bytes}
+use Rattle.model.specs.Valid.{Apart}
+use Rattle.model.specs.Pages.{release}
+use Rattle.model.specs.Zone.{Zone}
+use Rattle.model.specs.Arena.{Segment, pages}
+use Rattle.steps.proofs.give_back.Goals as goal
+
+pub slice_bounds-give_back-count : goal.slice_bounds-give_back-count
+slice_bounds-give_back-count c = has-header c.requires.lent.0
+
+pub slice_bounds-give_back-start : goal.slice_bounds-give_back-start
+slice_bounds-give_back-start c = has-header c.requires.lent.0
+
+pub give_back-requires : goal.give_back-requires
+give_back-requires c = 
+    let h = c.requires in
+    let l = h.0.0 in
+    let there = in_body l (λ m. (x : Segment Zone) × Stands m c.args.at c.args.before x × (pages x ≡ c.args.len) × (run_pages x ≡ 0)) h.1.1 in record {
+        holds = body-holds l _ h.0.1;
+        apart = in_body l (λ m. Apart false m) h.1.0;
+        stands = there;
+    }
+
+pub returns : goal.returns
+returns c = 
+    let h = c.requires in body_back h.0.0 _ (λ m. release (c.args.at * page_bytes) m) (release-total h.1.1.1 (has-pages h.0.0 h.1.1.1)) c.give_back.ensures

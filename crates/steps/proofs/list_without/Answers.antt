@@ -1,0 +1,21 @@
+-- `list_without` meets its contract. Assumes nothing.
+use native.Mathlib.Omega.{arith}
+use Rattle.metadata.specs.Decoding.{decode}
+use mathlib.Core.Path.{refl}
+use Rattle.steps.proofs.Body.{has-header, header-long}
+use Rattle.steps.proofs.Lent.{header-lent, header-put}
+use Rattle.steps.proofs.list_without.Goals as goal
+
+pub slice_bounds-remove-end : goal.slice_bounds-remove-end
+slice_bounds-remove-end c = has-header c.requires.lent
+
+pub slice_bounds-remove-end-2 : goal.slice_bounds-remove-end-2
+slice_bounds-remove-end-2 c = header-long c.requires.lent
+
+pub remove-requires : goal.remove-requires
+unfolding decode
+remove-requires c = let h = c.requires in (header-lent h.0, h.1.0, h.1.1)
+
+pub returns : goal.returns
+unfolding decode
+returns c = header-put c.requires.lent _ _ _ _ refl c.remove.ensures

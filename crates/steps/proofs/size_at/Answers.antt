@@ -1,0 +1,23 @@
+-- `size_at` meets its contract. Assumes nothing.
+use native.Mathlib.Omega.{arith}
+use Rattle.steps.proofs.Body.{has-header, body-holds, in_body}
+use Rattle.pages.specs.Places.{Stands}
+use Rattle.model.specs.Zone.{Zone}
+use Rattle.model.specs.Arena.{Segment}
+use Prim.Native.Nat.{ℕ}
+use Rattle.steps.proofs.size_at.Goals as goal
+
+pub slice_bounds-size-count : goal.slice_bounds-size-count
+slice_bounds-size-count c = has-header c.requires.lent.0
+
+pub slice_bounds-size-start : goal.slice_bounds-size-start
+slice_bounds-size-start c = has-header c.requires.lent.0
+
+pub size-requires : goal.size-requires
+size-requires c = let h = c.requires in record {
+        holds = body-holds h.0.0 _ h.0.1;
+        by_index = in_body h.0.0 (λ m. (b : ℕ) × (x : Segment Zone) × Stands m c.args.p b x) h.1;
+    }
+
+pub returns : goal.returns
+returns c = λ b x s. c.size.ensures b x (in_body c.requires.lent.0 (λ m. Stands m c.args.p b x) s)

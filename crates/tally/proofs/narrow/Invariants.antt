@@ -1,0 +1,16 @@
+-- `narrow` meets its contract. The loop's invariant: i bytes are those of i states, the others as they were. Assumes nothing.
+use Prim.Native.Nat.{ℕ, ◌≤◌, ◌-◌}
+use mathlib.Core.List.{List, ◌++◌, map}
+use mathlib.Core.Path.{◌≡◌, refl}
+use native.Mathlib.Omega.{arith}
+use borrow.Author.Rules.{rules}
+use lib.ListN.{length, take, drop, length-set}
+use Rattle.tally.specs.Figures.{owner_byte}
+use Rattle.tally.proofs.Squeezed.{squeezed-more, squeezed-done}
+use Rattle.tally.proofs.narrow.Given as goal
+
+abbrev pub invariant-loop-i : goal.invariant-loop-i
+invariant-loop-i l = (l.i ≤ length l.states) × (length l.bytes ≡ length l.initial.bytes) × (l.bytes ≡ map owner_byte (take l.i l.states) ++ drop l.i l.initial.bytes)
+
+abbrev pub decreases-loop-i : goal.decreases-loop-i
+decreases-loop-i l = length l.states - l.i

@@ -1,0 +1,15 @@
+-- `take_states` meets its contract. The loop's invariant: i states are those in i slots, the others as they were. Assumes nothing.
+use Prim.Native.Nat.{ℕ, ◌≤◌, ◌-◌}
+use mathlib.Core.List.{List, ◌++◌, map}
+use mathlib.Core.Path.{◌≡◌, refl}
+use native.Mathlib.Omega.{arith}
+use lib.ListN.{length, take, drop, length-set}
+use Rattle.zone.specs.Decoding.{state_in}
+use Rattle.tally.proofs.Squeezed.{squeezed-more, squeezed-done}
+use Rattle.tally.proofs.take_states.Given as goal
+
+abbrev pub invariant-loop-i : goal.invariant-loop-i
+invariant-loop-i l = (l.i ≤ length l.slots) × (length l.states ≡ length l.initial.states) × (l.states ≡ map state_in (take l.i l.slots) ++ drop l.i l.initial.states)
+
+abbrev pub decreases-loop-i : goal.decreases-loop-i
+decreases-loop-i l = length l.slots - l.i

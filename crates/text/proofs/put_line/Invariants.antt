@@ -1,0 +1,17 @@
+-- `text::put_line` meets its contract. The loop's invariant: the fields of the numbers from i on are left to be written, at k.
+-- Assumes nothing.
+use Prim.Native.Nat.{◌-◌, ◌≤◌}
+use mathlib.Core.List.{[], ◌∷◌}
+use mathlib.Core.Path.{◌≡◌, refl, sym, ap, ◌∙◌}
+use native.Mathlib.Omega.{arith}
+use lib.ListN.{length, drop}
+use Rattle.model.specs.Text.{line}
+use Rattle.text.proofs.Lines.{fields, line-none, left-line, left-number, left_end}
+use Rattle.text.proofs.Left.{Left, left_step, left-bounded, left-done, wrote_as}
+use Rattle.text.proofs.put_line.Given as goal
+
+abbrev pub invariant-loop-i : goal.invariant-loop-i
+invariant-loop-i l = (l.i ≤ length l.numbers) × (length l.out ≡ length l.initial.out) × Left l.initial.out l.at (line l.numbers) l.k l.out (fields (drop l.i l.numbers) ∷ [])
+
+abbrev pub decreases-loop-i : goal.decreases-loop-i
+decreases-loop-i l = length l.numbers - l.i

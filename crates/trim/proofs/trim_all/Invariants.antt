@@ -1,0 +1,12 @@
+-- `trim_all` meets its contract. Assumes nothing.
+use Rattle.trim.proofs.Trimming.{Trimming, trim_start, stands, trim-inside, between, trim-bound, trim-given, trim-past, trim_end, trim-long}
+use mathlib.Core.Path.{sym, ◌∙◌}
+use Prim.Native.Nat.{◌-◌}
+use native.Mathlib.Omega.{arith}
+use Rattle.trim.proofs.trim_all.Given as goal
+
+abbrev pub invariant-loop-p : goal.invariant-loop-p
+invariant-loop-p l = Trimming l.initial.words l.words l.n l.p l.before l.count
+
+abbrev pub decreases-loop-p : goal.decreases-loop-p
+decreases-loop-p l = l.n - l.p

@@ -1,0 +1,60 @@
+-- `uplink::put_answer` meets its contract: each kind of answer has its text. Assumes nothing.
+use native.Mathlib.Omega.{arith}
+use Rattle.model.specs.Ascii.{ascii}
+use Rattle.text.proofs.Left.{wrote_as}
+use Rattle.uplink.proofs.Says.{named-bounded, named-short, says-granted, says-denied, says-refused, says-done, says-counted, says-block}
+use Rattle.uplink.proofs.answers.put_answer.Goals as goal
+
+pub put_named-requires : goal.put_named-requires
+put_named-requires c = 
+    named-bounded _ _ _ c.requires (omega arith) (omega arith)
+
+pub put_named-requires-in-Counted : goal.put_named-requires-in-Counted
+put_named-requires-in-Counted c = 
+    named-bounded _ _ _ c.requires (omega arith) (omega arith)
+
+pub returns-in-Granted : goal.returns-in-Granted
+unfolding ascii
+returns-in-Granted c = record {
+        wrote = wrote_as (says-granted c.answer.given.1 c.long.ensures) c.put_named.ensures;
+        upper_bound = named-short _ _ c.put_named.ensures (omega arith) (omega arith);
+    }
+
+pub returns-in-Denied : goal.returns-in-Denied
+returns-in-Denied c = 
+    let p = c.put_refusal.ensures in record {
+        wrote = wrote_as (says-denied c.in-Denied.is) p.0;
+        upper_bound = p.1;
+    }
+
+pub returns-in-Refused : goal.returns-in-Refused
+returns-in-Refused c = 
+    let p = c.put_refusal-in-Refused.ensures in record {
+        wrote = wrote_as (says-refused c.in-Refused.is) p.0;
+        upper_bound = p.1;
+    }
+
+pub returns-in-Done : goal.returns-in-Done
+unfolding ascii
+returns-in-Done c = record {
+        wrote = wrote_as (says-done c.enum_told.given.1) c.put_bytes.ensures;
+        upper_bound = omega (arith, c.put_bytes.ensures.next);
+    }
+
+pub returns-in-Counted : goal.returns-in-Counted
+unfolding ascii
+returns-in-Counted c = record {
+        wrote = wrote_as (says-counted c.answer4.given.1 c.long-in-Counted.ensures) c.put_named-in-Counted.ensures;
+        upper_bound = named-short _ _ c.put_named-in-Counted.ensures (omega arith) (omega arith);
+    }
+
+pub returns-in-Block : goal.returns-in-Block
+returns-in-Block c = 
+    let p = c.put_block.ensures in record {
+        wrote = wrote_as (says-block c.in-Block.is) p.0;
+        upper_bound = p.1;
+    }
+
+-- WARN step ['answer', 'given', '1'] at After-known_told is known_told
+-- WARN step ['enum_told', 'given', '1'] at After-put_bytes-arg is put_bytes-arg
+-- WARN step ['answer4', 'given', '1'] at After-known_told4 is known_told4
