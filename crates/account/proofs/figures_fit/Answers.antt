@@ -27,13 +27,13 @@ overflow_mul-n c = omega (arith, c.pages-n.ensures, state-most _ c.requires.1)
 pub returns-then-not-records_fit : goal.returns-then-not-records_fit
 returns-then-not-records_fit c = 
     no-figures c.args.state.now c.requires.1 _ c.pages-n.ensures _ c.words_for-e.ensures c.args.figures.now _ c.tally.ensures _ refl
-    (sym c.records_fit.ensures ∙ not-true _ c.if-not-records_fit.true)
+    (sym c.records_fit.ensures ∙ c.if-not-records_fit.true)
 
 pub returns : goal.returns
 returns c = 
     c.is_zero.ensures
     ∙ rest-decides c.args.state.now c.requires.1 _ c.pages-n.ensures _ c.words_for-e.ensures c.args.figures.now _ c.tally.ensures _ refl
-    (sym c.records_fit.ensures ∙ not-false _ c.if-not-records_fit.false)
+    (sym c.records_fit.ensures ∙ c.if-not-records_fit.false)
 
 -- inline: λ c κs. search rules
 -- inline: λ c. search rules

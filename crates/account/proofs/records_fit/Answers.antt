@@ -17,12 +17,12 @@ loop-i-init c = let a = c.args in (omega arith, none-tested a.figures.now a.tall
 pub returns-then-not-record_fits : goal.returns-then-not-record_fits
 returns-then-not-record_fits c = 
     let a = c.args in
-    one-fails a.figures.now a.tally.now a.most c.loop-i.i c.loop-i-test.true (sym c.record_fits.ensures ∙ not-true _ c.if-not-record_fits.true)
+    one-fails a.figures.now a.tally.now a.most c.loop-i.i c.loop-i-test.true (sym c.record_fits.ensures ∙ c.if-not-record_fits.true)
 
 pub loop-i-preserved : goal.loop-i-preserved
 loop-i-preserved c = 
     let a = c.args in
-    (omega (arith, c.loop-i-test.true), one_more a.figures.now a.tally.now a.most c.loop-i.i c.loop-i.invariant.1 (sym c.record_fits.ensures ∙ not-false _ c.if-not-record_fits.false))
+    (omega (arith, c.loop-i-test.true), one_more a.figures.now a.tally.now a.most c.loop-i.i c.loop-i.invariant.1 (sym c.record_fits.ensures ∙ c.if-not-record_fits.false))
 
 pub returns : goal.returns
 returns c = 

@@ -25,10 +25,10 @@ account s = account_in s.args.meta.now
 
 -- What the tests before the room found.
 legal-group : (c : goal.After-size_ok) → group_ok c.args.group ≡ true
-legal-group c = sym c.group_ok.ensures ∙ not-false _ c.if-not-group_ok.false
+legal-group c = sym c.group_ok.ensures ∙ c.if-not-group_ok.false
 
 legal-size : (c : goal.After-class_for-class) → size_ok c.args.size ≡ true
-legal-size c = sym c.Size-ok.ensures ∙ not-false _ c.if-not-size_ok.false
+legal-size c = sym c.Size-ok.ensures ∙ c.if-not-size_ok.false
 
 -- The figures, as they are lent for the test of the ceiling.
 lent : (c : goal.Start) → take figure_words c.args.meta.now ≡ figures_of (account c)
@@ -38,13 +38,13 @@ lent c = figures-are c.args.meta.now c.requires.account
 pub returns-then-not-group_ok : goal.returns-then-not-group_ok
 returns-then-not-group_ok c = 
     arena-denied c.requires (call (account (goal.at.returns-then-not-group_ok c).Start) c.args.group c.args.size) _
-    (c.denied_by.ensures ∙ bad-group (account (goal.at.returns-then-not-group_ok c).Start) c.args.group c.args.size (sym c.group_ok.ensures ∙ not-true _ c.if-not-group_ok.true)) (ap is_refused c.denied_by.ensures)
+    (c.denied_by.ensures ∙ bad-group (account (goal.at.returns-then-not-group_ok c).Start) c.args.group c.args.size (sym c.group_ok.ensures ∙ c.if-not-group_ok.true)) (ap is_refused c.denied_by.ensures)
 
 -- FIELDS: value meta_after
 pub returns-then-not-size_ok : goal.returns-then-not-size_ok
 returns-then-not-size_ok c = 
     arena-denied c.requires (call (account (goal.at.returns-then-not-size_ok c).Start) c.args.group c.args.size) _
-    (c.denied_by-then-not-size_ok.ensures ∙ bad-size (account (goal.at.returns-then-not-size_ok c).Start) c.args.group c.args.size (legal-group (goal.at.returns-then-not-size_ok c).After-size_ok) (sym c.Size-ok.ensures ∙ not-true _ c.if-not-size_ok.true)) (ap is_refused c.denied_by-then-not-size_ok.ensures)
+    (c.denied_by-then-not-size_ok.ensures ∙ bad-size (account (goal.at.returns-then-not-size_ok c).Start) c.args.group c.args.size (legal-group (goal.at.returns-then-not-size_ok c).After-size_ok) (sym c.Size-ok.ensures ∙ c.if-not-size_ok.true)) (ap is_refused c.denied_by-then-not-size_ok.ensures)
 
 pub room_for-room-requires : goal.room_for-room-requires
 room_for-room-requires c = let u = legal-size c in (size-least _ u, size-most _ u, c.class_for-class.ensures)
@@ -73,11 +73,11 @@ within-told c =
 pub returns-then-not-within : goal.returns-then-not-within
 returns-then-not-within c = 
     arena-denied c.requires (call (account (goal.at.returns-then-not-within c).Start) c.args.group c.args.size) _
-    (c.denied_by-then-not-within.ensures ∙ over-ceiling (account (goal.at.returns-then-not-within c).Start) c.args.group c.args.size (legal-group (goal.at.returns-then-not-within c).After-size_ok) (legal-size (goal.at.returns-then-not-within c).After-class_for-class) (sym (within-told (goal.at.returns-then-not-within c).After-within) ∙ not-true _ c.if-not-within.true)) (ap is_refused c.denied_by-then-not-within.ensures)
+    (c.denied_by-then-not-within.ensures ∙ over-ceiling (account (goal.at.returns-then-not-within c).Start) c.args.group c.args.size (legal-group (goal.at.returns-then-not-within c).After-size_ok) (legal-size (goal.at.returns-then-not-within c).After-class_for-class) (sym (within-told (goal.at.returns-then-not-within c).After-within) ∙ c.if-not-within.true)) (ap is_refused c.denied_by-then-not-within.ensures)
 
 pub grant_in-requires : goal.grant_in-requires
 grant_in-requires c = record {
-        arena = (c.requires, record { group = legal-group (goal.at.grant_in-requires c).After-size_ok; size = legal-size (goal.at.grant_in-requires c).After-class_for-class; ceiling = sym (within-told (goal.at.grant_in-requires c).After-within) ∙ not-false _ c.if-not-within.false });
+        arena = (c.requires, record { group = legal-group (goal.at.grant_in-requires c).After-size_ok; size = legal-size (goal.at.grant_in-requires c).After-class_for-class; ceiling = sym (within-told (goal.at.grant_in-requires c).After-within) ∙ c.if-not-within.false });
         class_value = (c.class_for-class.ensures, c.room_for-room.ensures);
     }
 

@@ -11,18 +11,18 @@ use Rattle.calls.proofs.arena_pages.Goals as goal
 -- refused where it fails, and not here, where it never comes.)
 pub pages-requires : goal.pages-requires
 pages-requires c = 
-    let t = sym c.check.ensures ∙ not-false _ c.if-not-check.false in
+    let t = sym c.check.ensures ∙ c.if-not-check.false in
     let passes : is_account c.args.meta.now ≡ true = search never_true in
     passes
 
 pub returns-then-not-check : goal.returns-then-not-check
 returns-then-not-check c = 
-    let t = sym c.check.ensures ∙ not-true _ c.if-not-check.true in
+    let t = sym c.check.ensures ∙ c.if-not-check.true in
     let fails : is_account c.args.meta.now ≡ false = search never-false in
     pages-none _ fails
 
 pub returns : goal.returns
 returns c = 
-    let t = sym c.check.ensures ∙ not-false _ c.if-not-check.false in
+    let t = sym c.check.ensures ∙ c.if-not-check.false in
     let passes : is_account c.args.meta.now ≡ true = search never_true in
     pages-some _ passes _ c.pages.ensures

@@ -20,7 +20,7 @@ good : (c : goal.After-group_ok) → is_account c.args.meta.now ≡ true
 good c = (arena-of _ _ c.arena_pages-n.ensures c.if-n-eq0.false).account
 
 legal : (c : goal.Else-not-group_ok) → group_ok c.args.group ≡ true
-legal c = sym c.group_ok.ensures ∙ not-false _ c.if-not-group_ok.false
+legal c = sym c.group_ok.ensures ∙ c.if-not-group_ok.false
 
 pub returns-then-n-eq0 : goal.returns-then-n-eq0
 returns-then-n-eq0 c = 
@@ -31,7 +31,7 @@ returns-then-n-eq0 c =
 
 -- FIELDS: value meta_after
 pub returns-then-not-group_ok : goal.returns-then-not-group_ok
-returns-then-not-group_ok c = set-bad-group _ _ _ (good (goal.at.returns-then-not-group_ok c).After-group_ok) (sym c.group_ok.ensures ∙ not-true _ c.if-not-group_ok.true)
+returns-then-not-group_ok c = set-bad-group _ _ _ (good (goal.at.returns-then-not-group_ok c).After-group_ok) (sym c.group_ok.ensures ∙ c.if-not-group_ok.true)
 
 pub overflow_sub-index : goal.overflow_sub-index
 overflow_sub-index c = omega (arith, c.wide-index.ensures, group-least c.args.group (legal (goal.at.overflow_sub-index c).Else-not-group_ok))

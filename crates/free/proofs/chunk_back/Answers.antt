@@ -16,7 +16,7 @@ zone_idle-requires c =
 -- FIELDS: words_after remains
 pub returns-then-not-zone_idle : goal.returns-then-not-zone_idle
 returns-then-not-zone_idle c = 
-    let h = c.requires in back-busy h.0 h.1 c.chain_back.ensures _ c.zone_idle.ensures (not-true _ c.if-not-zone_idle.true)
+    let h = c.requires in back-busy h.0 h.1 c.chain_back.ensures _ c.zone_idle.ensures (c.if-not-zone_idle.true)
 
 pub list_count-requires : goal.list_count-requires
 list_count-requires c = 
@@ -35,7 +35,7 @@ retire-requires c =
 pub returns : goal.returns
 returns c = 
     let h = c.requires in
-    back-gone h.0 h.1 c.chain_back.ensures _ c.zone_idle.ensures (not-false _ c.if-not-zone_idle.false) _ c.zone_class-class.ensures _ c.list_count.ensures c.if-list_count-lt2.false _ _
+    back-gone h.0 h.1 c.chain_back.ensures _ c.zone_idle.ensures (c.if-not-zone_idle.false) _ c.zone_class-class.ensures _ c.list_count.ensures c.if-list_count-lt2.false _ _
     c.retire.ensures
 
 -- inline: λ c κs. search rules

@@ -15,11 +15,11 @@ use Rattle.free.proofs.free.Goals as goal
 
 -- The group is one, and so not 0.
 good : (c : goal.Else-not-group_ok) → group_ok c.args.group ≡ true
-good c = sym c.group_ok.ensures ∙ not-false _ c.if-not-group_ok.false
+good c = sym c.group_ok.ensures ∙ c.if-not-group_ok.false
 
 pub returns-then-not-group_ok : goal.returns-then-not-group_ok
 returns-then-not-group_ok c = 
-    by-rule _ _ _ (free-bad (decode c.args.words.now) c.args.group c.args.offset (sym c.group_ok.ensures ∙ not-true _ c.if-not-group_ok.true)) c.requires.lent.words
+    by-rule _ _ _ (free-bad (decode c.args.words.now) c.args.group c.args.offset (sym c.group_ok.ensures ∙ c.if-not-group_ok.true)) c.requires.lent.words
 
 pub returns-then-owner-group : goal.returns-then-owner-group
 returns-then-owner-group c = 

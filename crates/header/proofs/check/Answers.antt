@@ -19,13 +19,13 @@ pub returns-then-pages-gt-MOST_PAGES : goal.returns-then-pages-gt-MOST_PAGES
 returns-then-pages-gt-MOST_PAGES c = no_header _ (λ h. let a = h.most in omega arith)
 
 pub returns-then-not-are_legal : goal.returns-then-not-are_legal
-returns-then-not-are_legal c = no_header _ (λ h. true-false h.spare (sym c.are_legal.ensures ∙ not-true _ c.if-not-are_legal.true))
+returns-then-not-are_legal c = no_header _ (λ h. true-false h.spare (sym c.are_legal.ensures ∙ c.if-not-are_legal.true))
 
 pub returns-then-not-are_legal-2 : goal.returns-then-not-are_legal-2
-returns-then-not-are_legal-2 c = no_header _ (λ h. true-false h.lists (sym c.are_legal-2.ensures ∙ not-true _ c.if-not-are_legal-2.true))
+returns-then-not-are_legal-2 c = no_header _ (λ h. true-false h.lists (sym c.are_legal-2.ensures ∙ c.if-not-are_legal-2.true))
 
 pub returns : goal.returns
 returns c = 
-    let spare = sym c.are_legal.ensures ∙ not-false _ c.if-not-are_legal.false in
-    let lists = sym c.are_legal-2.ensures ∙ not-false _ c.if-not-are_legal-2.false in
+    let spare = sym c.are_legal.ensures ∙ c.if-not-are_legal.false in
+    let lists = sym c.are_legal-2.ensures ∙ c.if-not-are_legal-2.false in
     c.is_zero.ensures ∙ header-last _ (omega arith) (omega arith) (omega arith) (omega arith) spare lists

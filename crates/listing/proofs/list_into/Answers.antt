@@ -9,7 +9,7 @@ use Rattle.listing.proofs.list_into.Goals as goal
 
 -- FIELDS: value out_after
 pub returns-then-not-has_room : goal.returns-then-not-has_room
-returns-then-not-has_room c = not_listed _ c.put_listing-len.ensures (sym c.has_room.ensures ∙ not-true _ c.if-not-has_room.true)
+returns-then-not-has_room c = not_listed _ c.put_listing-len.ensures (sym c.has_room.ensures ∙ c.if-not-has_room.true)
 
 pub overflow_cast-bytes : goal.overflow_cast-bytes
 overflow_cast-bytes c = 
@@ -18,7 +18,7 @@ overflow_cast-bytes c =
 -- FIELDS: value out_after
 pub returns : goal.returns
 returns c = 
-    listed _ c.put_listing-len.ensures c.put_listing.ensures (sym c.has_room.ensures ∙ not-false _ c.if-not-has_room.false)
+    listed _ c.put_listing-len.ensures c.put_listing.ensures (sym c.has_room.ensures ∙ c.if-not-has_room.false)
 
 -- inline: λ c κs. search rules
 -- inline: λ c κs. search rules

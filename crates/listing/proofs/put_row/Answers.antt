@@ -23,8 +23,8 @@ returns-then-kind c = λ b x s. wrote_as (text-none _ _ _ (λ e. c.if-kind.true 
 pub zone_part-part-requires : goal.zone_part-part-requires
 zone_part-part-requires c = 
     let h = c.requires in
-    let i = stands-zone h.1.2 (of-kind (goal.at.zone_part-part-requires c).Else-kind h.1.2 ∙ c.if-kind-eq-KIND_ZONE.true) in record {
-        holds = h.0;
+    let i = stands-zone h.by_index.2 (of-kind (goal.at.zone_part-part-requires c).Else-kind h.by_index.2 ∙ c.if-kind-eq-KIND_ZONE.true) in record {
+        holds = h.holds;
         by_index = (_, i.0, i.2);
     }
 

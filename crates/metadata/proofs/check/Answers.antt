@@ -13,7 +13,7 @@ use Rattle.metadata.proofs.check.Goals as goal
 
 -- The header has passed.
 header : (c : goal.Else-not-check) → Header (header_part c.args.words.now)
-header c = check-header _ (sym c.check.ensures ∙ not-false _ c.if-not-check.false)
+header c = check-header _ (sym c.check.ensures ∙ c.if-not-check.false)
 
 pub returns-then-words-lt-HEADER_WORDS : goal.returns-then-words-lt-HEADER_WORDS
 returns-then-words-lt-HEADER_WORDS c = too_short _ c.if-words-lt-HEADER_WORDS.true
@@ -22,7 +22,7 @@ pub slice_bounds-check-end : goal.slice_bounds-check-end
 slice_bounds-check-end c = sym (length-take-le header_words c.args.words.now (omega (arith, c.if1.false)))
 
 pub returns-then-not-check : goal.returns-then-not-check
-returns-then-not-check c = no_header _ (sym c.check.ensures ∙ not-true _ c.if-not-check.true)
+returns-then-not-check c = no_header _ (sym c.check.ensures ∙ c.if-not-check.true)
 
 pub slice_bounds-pages-end : goal.slice_bounds-pages-end
 slice_bounds-pages-end c = sym (length-take-le header_words c.args.words.now (omega (arith, c.if-words-lt-HEADER_WORDS.false)))
@@ -42,7 +42,7 @@ check-requires-2 c =
 
 pub returns-then-not-check-2 : goal.returns-then-not-check-2
 returns-then-not-check-2 c = 
-    no-segments _ _ c.pages-n.ensures _ c.words_for-e.ensures (sym c.check-2.ensures ∙ not-true _ c.if-not-check-2.true)
+    no-segments _ _ c.pages-n.ensures _ c.words_for-e.ensures (sym c.check-2.ensures ∙ c.if-not-check-2.true)
 
 pub slice_bounds-lists_fit-end : goal.slice_bounds-lists_fit-end
 slice_bounds-lists_fit-end c = 
@@ -52,13 +52,13 @@ pub lists_fit-requires : goal.lists_fit-requires
 lists_fit-requires c = 
     let h = header (goal.at.lists_fit-requires c).Else-not-check in
     let few : c.pages-n.result ≤ most_pages = omega (arith, c.pages-n.ensures, h.fits.most) in
-    (h, segments-hold c.args.words.now _ c.pages-n.ensures _ c.words_for-e.ensures c.if-words-e.false few (sym c.check2.ensures ∙ not-false _ c.if4.false))
+    (h, segments-hold c.args.words.now _ c.pages-n.ensures _ c.words_for-e.ensures c.if-words-e.false few (sym c.check2.ensures ∙ c.if4.false))
 
 pub returns : goal.returns
 returns c = 
     c.lists_fit.ensures
-    ∙ lists-decide _ _ c.pages-n.ensures _ c.words_for-e.ensures (sym c.check.ensures ∙ not-false _ c.if-not-check.false) c.if-words-e.false
-    (sym c.check2.ensures ∙ not-false _ c.if4.false)
+    ∙ lists-decide _ _ c.pages-n.ensures _ c.words_for-e.ensures (sym c.check.ensures ∙ c.if-not-check.false) c.if-words-e.false
+    (sym c.check2.ensures ∙ c.if4.false)
 
 -- WARN step ['if1', 'false'] at After-shared_slice_known is shared_slice_known
 -- WARN step ['check2', 'ensures'] at After-check-arg is check-arg

@@ -25,7 +25,7 @@ fits_at-requires c =
 pub returns-then-not-fits_at : goal.returns-then-not-fits_at
 returns-then-not-fits_at c = 
     let k = fit_next c.loop-p.invariant c.loop-p-test.true in
-    fit-no c.loop-p.invariant c.loop-p-test.true (sym (c.fits_at.ensures _ _ k.stands) ∙ not-true _ c.if-not-fits_at.true) ∙ ap
+    fit-no c.loop-p.invariant c.loop-p-test.true (sym (c.fits_at.ensures _ _ k.stands) ∙ c.if-not-fits_at.true) ∙ ap
     (λ y. fit_from (spare_in c.args.head.now) (lists_in c.args.head.now) y 0 0 (segments_of c.args.words.now)) (λ i. c.listed.ensures i + c.spare_count.ensures i)
 
 pub open_at-open-requires : goal.open_at-open-requires
@@ -58,7 +58,7 @@ pub loop-p-preserved : goal.loop-p-preserved
 loop-p-preserved c = 
     let i = c.loop-p.invariant in
     let k = fit_next i c.loop-p-test.true in
-    fit-more i c.loop-p-test.true (sym (c.fits_at.ensures _ _ k.stands) ∙ not-false _ c.if-not-fits_at.false) _ _ (c.open_at-open.ensures _ _ k.stands)
+    fit-more i c.loop-p-test.true (sym (c.fits_at.ensures _ _ k.stands) ∙ c.if-not-fits_at.false) _ _ (c.open_at-open.ensures _ _ k.stands)
     (c.size-p.ensures _ _ k.stands)
 
 pub returns : goal.returns

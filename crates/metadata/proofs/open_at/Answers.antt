@@ -11,8 +11,8 @@ returns-then-kind-ne-KIND_ZONE c = λ b x s. open-other x (λ k. c.if-kind-ne-KI
 pub zone_part-requires : goal.zone_part-requires
 zone_part-requires c = 
     let h = c.requires in
-    let i = stands-zone h.1.2 (sym (c.kind.ensures _ _ h.1.2) ∙ c.if-kind-ne-KIND_ZONE.false) in record {
-        holds = h.0;
+    let i = stands-zone h.by_index.2 (sym (c.kind.ensures _ _ h.by_index.2) ∙ c.if-kind-ne-KIND_ZONE.false) in record {
+        holds = h.holds;
         by_index = (_, i.0, i.2);
     }
 

@@ -7,7 +7,7 @@ use borrow.Author.Rules.{rules}
 use Rattle.reset.proofs.behind_run.Goals as goal
 
 pub overflow_add-next : goal.overflow_add-next
-overflow_add-next c = let h = c.requires in let r = here-inside h.0.lent h.1.2 in omega (arith, c.size_at-len.ensures _ _ h.1.2)
+overflow_add-next c = let h = c.requires in let r = here-inside h.good.lent h.by_index.2 in omega (arith, c.size_at-len.ensures _ _ h.by_index.2)
 
 pub returns : goal.returns
 returns c = λ b k s. let e = c.size_at-len.ensures b _ s in (ap (λ y. c.args.start + y) e, e, refl)

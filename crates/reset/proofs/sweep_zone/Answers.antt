@@ -42,12 +42,12 @@ loop-i-preserved c =
     let a = c.loop-i.invariant in
     let e = c.zone_owner.ensures in
     let d = c.chunk_back.ensures in
-    walk-stays h.1.3 a _ e c.loop-i-test.true h.0 c.if-zone_owner-group.false d.0 c.chunk_back.result (not-false _ c.if-not-chunk_back.false) d.1
+    walk-stays h.1.3 a _ e c.loop-i-test.true h.0 c.if-zone_owner-group.false d.0 c.chunk_back.result (c.if-not-chunk_back.false) d.1
 
 pub overflow_sub-p : goal.overflow_sub-p
 overflow_sub-p c = 
     let h = c.requires in
-    walk-low h.1.3 c.loop-i.invariant _ c.zone_owner.ensures c.loop-i-test.true h.0 c.if-zone_owner-group.false c.chunk_back.ensures.0 c.chunk_back.result (not-true _ c.if2.true)
+    walk-low h.1.3 c.loop-i.invariant _ c.zone_owner.ensures c.loop-i-test.true h.0 c.if-zone_owner-group.false c.chunk_back.ensures.0 c.chunk_back.result (c.if2.true)
     c.chunk_back.ensures.1
 
 pub behind_run-requires : goal.behind_run-requires
@@ -56,9 +56,9 @@ behind_run-requires c =
     let a = c.loop-i.invariant in
     let e = c.zone_owner.ensures in
     let d = c.chunk_back.ensures in record {
-        good = walk-gone-good h.1.3 a _ e c.loop-i-test.true h.0 c.if-zone_owner-group.false d.0 c.chunk_back.result (not-true _ c.if2.true) d.1;
+        good = walk-gone-good h.1.3 a _ e c.loop-i-test.true h.0 c.if-zone_owner-group.false d.0 c.chunk_back.result (c.if2.true) d.1;
         by_index = walk-run
-          h.1.3 a _ e c.loop-i-test.true h.0 c.if-zone_owner-group.false d.0 c.chunk_back.result (not-true _ c.if2.true) d.1;
+          h.1.3 a _ e c.loop-i-test.true h.0 c.if-zone_owner-group.false d.0 c.chunk_back.result (c.if2.true) d.1;
     }
 
 pub returns-then-not-chunk_back : goal.returns-then-not-chunk_back
@@ -67,7 +67,7 @@ returns-then-not-chunk_back c =
     let a = c.loop-i.invariant in
     let e = c.zone_owner.ensures in
     let d = c.chunk_back.ensures in
-    walk-gone h.1.3 a _ e c.loop-i-test.true h.0 c.if-zone_owner-group.false d.0 c.chunk_back.result (not-true _ c.if2.true) d.1 _ _ _ c.behind_run.ensures
+    walk-gone h.1.3 a _ e c.loop-i-test.true h.0 c.if-zone_owner-group.false d.0 c.chunk_back.result (c.if2.true) d.1 _ _ _ c.behind_run.ensures
 
 pub overflow_add-next : goal.overflow_add-next
 overflow_add-next c = 
@@ -87,10 +87,10 @@ returns c =
 --     let l = loop t in
 --     let s = start l in
 --     let h = s.pre in
---     let a = l.loop.inv in
+--     let a = l.loop.invariant in
 --     let e = z.zone-owner.ensures in
 --     let d = c₁.chunk_back.ensures in
---     walk-gone-long h.1.3 a _ e t.loop-test.taken h.0 e₁.if1.left d.0 c₁.chunk_back.result (not-true _ c.before.before.if2.true) d.1
+--     walk-gone-long h.1.3 a _ e t.loop-test.taken h.0 e₁.if1.left d.0 c₁.chunk_back.result (c.before.before.if2.true) d.1
 
 -- no goal of today for tie.Need-same-length-2 invariant-loop decreases-loop
 -- same-length-2 : tie.Need-same-length-2 invariant-loop decreases-loop

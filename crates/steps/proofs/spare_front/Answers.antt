@@ -14,7 +14,7 @@ slice_bounds-spare_push-end-2 c = header-long c.requires.lent
 
 pub spare_push-requires : goal.spare_push-requires
 unfolding decode
-spare_push-requires c = let h = c.requires in (header-lent h.0, h.1.0, h.1.1)
+spare_push-requires c = let h = c.requires in (header-lent h.lent, h.page_lt_most_pages.0, h.page_lt_most_pages.1)
 
 pub returns : goal.returns
 unfolding decode

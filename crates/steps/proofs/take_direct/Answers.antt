@@ -17,12 +17,12 @@ slice_bounds-take_direct-start c = has-header c.requires.lent.0
 pub take_direct-requires : goal.take_direct-requires
 take_direct-requires c = 
     let h = c.requires in record {
-        holds = body-holds h.0.0 _ h.0.1;
-        by_index = in_body h.0.0 (λ m. (b : ℕ) × Stands m c.args.at b (run c.args.len) × (0 < c.args.need) × (c.args.need ≤ c.args.len)) h.1;
+        holds = body-holds h.lent.0 _ h.lent.1;
+        by_index = in_body h.lent.0 (λ m. (b : ℕ) × Stands m c.args.at b (run c.args.len) × (0 < c.args.need) × (c.args.need ≤ c.args.len)) h.by_index;
     }
 
 pub returns : goal.returns
 returns c = 
     let h = c.requires in
-    body_back h.0.0 _ (λ m. carve (record { page = c.args.at; size = c.args.len }) c.args.need (direct c.args.need c.args.group) m)
-    (carve-total h.1.1 c.args.need (direct c.args.need c.args.group) refl h.1.2 h.1.3) c.take_direct.ensures
+    body_back h.lent.0 _ (λ m. carve (record { page = c.args.at; size = c.args.len }) c.args.need (direct c.args.need c.args.group) m)
+    (carve-total h.by_index.1 c.args.need (direct c.args.need c.args.group) refl h.by_index.2 h.by_index.3) c.take_direct.ensures

@@ -19,12 +19,12 @@ slice_bounds-take_zone-start c = has-header c.requires.lent.0
 pub take_zone-requires : goal.take_zone-requires
 take_zone-requires c = 
     let h = c.requires in record {
-        holds = body-holds h.0.0 _ h.0.1;
-        by_index = in_body h.0.0 (λ m. (b : ℕ) × Stands m c.args.at b (run c.args.len) × (zone_pages ≤ c.args.len) × (0 < c.args.group)) h.1;
+        holds = body-holds h.lent.0 _ h.lent.1;
+        by_index = in_body h.lent.0 (λ m. (b : ℕ) × Stands m c.args.at b (run c.args.len) × (zone_pages ≤ c.args.len) × (0 < c.args.group)) h.by_index;
     }
 
 pub returns : goal.returns
 returns c = 
     let h = c.requires in
-    body_back h.0.0 _ (λ m. carve (record { page = c.args.at; size = c.args.len }) zone_pages (zone (new_zone c.args.class c.args.group)) m)
-    (carve-total h.1.1 zone_pages (zone (new_zone c.args.class c.args.group)) refl (omega arith) h.1.2) c.take_zone.ensures
+    body_back h.lent.0 _ (λ m. carve (record { page = c.args.at; size = c.args.len }) zone_pages (zone (new_zone c.args.class c.args.group)) m)
+    (carve-total h.by_index.1 zone_pages (zone (new_zone c.args.class c.args.group)) refl (omega arith) h.by_index.2) c.take_zone.ensures

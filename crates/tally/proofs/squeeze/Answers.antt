@@ -39,12 +39,12 @@ module _ (l : tie.At-loop invariant-loop decreases-loop) (k : ℕ) where
   asked : i + k ≤ length slots → k ≤ piece → (length (mid i k slots) ≡ length (mid i k l.loop.bytes)) × (length (mid i k slots) ≤ piece)
   asked h q =
       let a = length-mid i k slots h in
-      let b = length-mid i k l.loop.bytes (omega (arith, l.loop.inv.1, (start l).pre)) in
+      let b = length-mid i k l.loop.bytes (omega (arith, l.loop.invariant.1, (start l).pre)) in
       (a ∙ sym b, omega arith)
   left : (e : ℕ) (p : List ℕ) → i + k ≡ e → e ≤ length slots → p ≡ map slot_byte (mid i k slots)
       → (length (put_mid i k l.loop.bytes p) ≡ length (start l).args.bytes.now) × (put_mid i k l.loop.bytes p ≡ map slot_byte (take e slots) ++ drop e (start l).args.bytes.now)
   left e p sum h part =
-      let eq = squeezed-part slot_byte slots (start l).args.bytes.now l.loop.bytes p i k e sum h l.loop.inv.2 part in
+      let eq = squeezed-part slot_byte slots (start l).args.bytes.now l.loop.bytes p i k e sum h l.loop.invariant.2 part in
       (squeezed-length slot_byte slots _ _ e h (start l).pre eq, eq)
 
 -- no goal of today for tie.Need-same-length invariant-loop decreases-loop

@@ -5,28 +5,28 @@ use Rattle.trim.proofs.Words.{given-here, given-listed, given-after, give-asks, 
 use Rattle.trim.proofs.give_zone.Goals as goal
 
 pub unlist-requires : goal.unlist-requires
-unlist-requires c = let h = c.requires in (h.0.0, given-here h.0.0 h.1.0 h.1.1.2)
+unlist-requires c = let h = c.requires in (h.lent.0, given-here h.lent.0 h.apart h.by_index.2)
 
 -- FIELDS: lent apart stands
 pub give_back-requires : goal.give_back-requires
 give_back-requires c = 
     let h = c.requires in
-    give-asks h.0.0 h.1.0 h.1.1.2 _ h.0.1 (given-listed h.0.0 h.1.0 h.1.1.2 c.unlist.ensures)
+    give-asks h.lent.0 h.apart h.by_index.2 _ h.lent.1 (given-listed h.lent.0 h.apart h.by_index.2 c.unlist.ensures)
 
 -- FIELDS: lent by_index
 pub size_at-requires : goal.size_at-requires
 size_at-requires c = 
     let h = c.requires in
-    size-asks h.0.0 h.1.0 h.1.1.2 _ h.0.1
-    (given-after h.0.0 h.1.0 h.1.1.2 (given-listed h.0.0 h.1.0 h.1.1.2 c.unlist.ensures)
+    size-asks h.lent.0 h.apart h.by_index.2 _ h.lent.1
+    (given-after h.lent.0 h.apart h.by_index.2 (given-listed h.lent.0 h.apart h.by_index.2 c.unlist.ensures)
     c.give-back.ensures)
 
 pub returns : goal.returns
 returns c = 
     λ a z t. let h = c.requires in
-    let k = given-after h.0.0 h.1.0 t (given-listed h.0.0 h.1.0 t c.unlist.ensures)
+    let k = given-after h.lent.0 h.apart t (given-listed h.lent.0 h.apart t c.unlist.ensures)
     c.give-back.ensures in
-    (c.size_at.ensures 0 (run _) (run-there h.0.0 h.1.0 t k), k.words)
+    (c.size_at.ensures 0 (run _) (run-there h.lent.0 h.apart t k), k.words)
 
 -- WARN before start
 -- WARN step ['unlist', 'ensures'] at After-unlist-arg is unlist-arg

@@ -15,26 +15,26 @@ returns-then-slot-eq0 c =
     let turn = c.loop-i in
     c.is_zero.ensures
     ∙ legal-zero _ _ _ turn.i c.loop-i-test.true c.if-slot-eq0.true
-    ∙ turn.inv.1
+    ∙ turn.invariant.1
 
 pub returns-then-limit-slot : goal.returns-then-limit-slot
 returns-then-limit-slot c = 
     let turn = c.loop-i in
     legal-large _ _ _ turn.i c.loop-i-test.true c.if-slot-eq0.false c.if-limit-slot.true
-    ∙ turn.inv.1
+    ∙ turn.invariant.1
 
 pub returns-then-next-class : goal.returns-then-next-class
 returns-then-next-class c = 
     let turn = c.loop-i in
     legal-falls _ _ _ turn.i c.loop-i-test.true c.if-slot-eq0.false c.if-limit-slot.false c.if-next-class.true
-    ∙ turn.inv.1
+    ∙ turn.invariant.1
 
 pub loop-i-preserved : goal.loop-i-preserved
 loop-i-preserved c = 
     let turn = c.loop-i in (
       omega arith,
       legal-next _ _ _ turn.i c.loop-i-test.true c.if-slot-eq0.false c.if-limit-slot.false c.if-next-class.false
-          ∙ turn.inv.1,
+          ∙ turn.invariant.1,
     )
 
 pub returns : goal.returns

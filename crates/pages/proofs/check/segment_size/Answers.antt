@@ -26,9 +26,9 @@ returns-then-kind-ne-KIND_DIRECT c =
 
 pub returns-then-not-group_ok : goal.returns-then-not-group_ok
 returns-then-not-group_ok c = 
-    size-group _ _ (λ e. c.if-len-eq0.false (c.wide-len.ensures ∙ e)) (omega (arith, c.if-left-len.false, c.wide-len.ensures)) c.if-kind-ne-KIND_DIRECT.false (sym c.group_ok.ensures ∙ not-true _ c.if-not-group_ok.true)
+    size-group _ _ (λ e. c.if-len-eq0.false (c.wide-len.ensures ∙ e)) (omega (arith, c.if-left-len.false, c.wide-len.ensures)) c.if-kind-ne-KIND_DIRECT.false (sym c.group_ok.ensures ∙ c.if-not-group_ok.true)
 
 pub returns : goal.returns
 returns c = 
     tested 3 c.args.words.now _ _ _ c.pages_if-2.ensures c.wide-len.ensures c.is_zero-2.ensures ∙ size-direct _ _ (λ e. c.if-len-eq0.false (c.wide-len.ensures ∙ e))
-    (omega (arith, c.if-left-len.false, c.wide-len.ensures)) c.if-kind-ne-KIND_DIRECT.false (sym c.group_ok.ensures ∙ not-false _ c.if-not-group_ok.false)
+    (omega (arith, c.if-left-len.false, c.wide-len.ensures)) c.if-kind-ne-KIND_DIRECT.false (sym c.group_ok.ensures ∙ c.if-not-group_ok.false)
