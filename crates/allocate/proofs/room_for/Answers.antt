@@ -7,12 +7,13 @@ use Rattle.model.proofs.Sizes.{classed}
 use Rattle.allocate.proofs.Requests.{small-room, large-room}
 use borrow.Author.Rules.{rules}
 use Rattle.allocate.proofs.room_for.Goals as goal
+use Rattle.allocate.proofs.room_for.Goals.{Else-size-ge-LARGE_SIZE}
 
 pub returns-then-size-ge-LARGE_SIZE : goal.returns-then-size-ge-LARGE_SIZE
 returns-then-size-ge-LARGE_SIZE c = large-room c.args.size _ c.if-size-ge-LARGE_SIZE.true c.pages_for.ensures
 
 -- The class is that of the size, where a chunk is taken.
-of-class : (c : goal.Else-size-ge-LARGE_SIZE) → c.args.class ≡ class_of c.args.size
+of-class : (c : Else-size-ge-LARGE_SIZE) → c.args.class ≡ class_of c.args.size
 of-class c = let h = c.requires in h.2 ∙ class_for-chunk _ h.0 c.if-size-ge-LARGE_SIZE.false
 
 pub room-requires : goal.room-requires

@@ -8,9 +8,10 @@ use Rattle.model.proofs.Sizes.{classed}
 use native.Mathlib.Omega.{arith}
 use borrow.Author.Rules.{rules}
 use Rattle.allocate.proofs.supply.Goals as goal
+use Rattle.allocate.proofs.supply.Goals.{Then-size-lt-LARGE_SIZE}
 
 -- The class is that of the size, where a chunk is taken.
-of-class : (c : goal.Then-size-lt-LARGE_SIZE) → c.args.class ≡ class_of c.args.size
+of-class : (c : Then-size-lt-LARGE_SIZE) → c.args.class ≡ class_of c.args.size
 of-class c = let h = c.requires in h.group_nonzero.4 ∙ class_for-chunk _ h.group_nonzero.2 c.if-size-lt-LARGE_SIZE.true
 
 pub supply_chunk-requires : goal.supply_chunk-requires

@@ -9,6 +9,7 @@ use Rattle.blocks.proofs.Spots.{whole-few, class-few}
 use Rattle.metadata.specs.Decoding.{decode}
 use borrow.Author.Rules.{rules}
 use Rattle.blocks.proofs.describe.Goals as goal
+use Rattle.blocks.proofs.describe.Goals.{After-find_block}
 
 -- What the search tells of its answer.
 told : (c : tie.After-find-block) (r : Place) → c.find-block.result ≡ r → Tells (decode (start c).args.words.now) (start c).args.offset r

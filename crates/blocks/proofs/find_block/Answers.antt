@@ -4,9 +4,10 @@ use Rattle.metadata.specs.Decoding.{decode}
 use Rattle.blocks.proofs.Spots.{Held, held, nowhere, held-zone, held-run, held-direct, held-inside, held_whole, held-chunk}
 use borrow.Author.Rules.{rules}
 use Rattle.blocks.proofs.find_block.Goals as goal
+use Rattle.blocks.proofs.find_block.Goals.{In-Segment-2}
 
 -- The segment that was found holds the byte.
-here : (c : goal.In-Segment-2) → let f = c.at-1.given.0 in Held (decode c.args.words.now) c.args.offset f.0 f.1.0 f.1.1.0 f.1.1.1.0
+here : (c : In-Segment-2) → let f = c.at-1.given.0 in Held (decode c.args.words.now) c.args.offset f.0 f.1.0 f.1.1.0 f.1.1.1.0
 here c = held c.requires _ _ c.find_segment.ensures _ _ _ _ c.in-Segment.is
 
 pub returns-in_default : goal.returns-in_default

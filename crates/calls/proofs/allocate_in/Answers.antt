@@ -19,19 +19,20 @@ use Rattle.calls.proofs.Acting.{arena-valid, arena-denied}
 use Rattle.calls.proofs.Granting.{call, bad-group, bad-size, over-ceiling, within-needs, within-is}
 use borrow.Author.Rules.{rules}
 use Rattle.calls.proofs.allocate_in.Goals as goal
+use Rattle.calls.proofs.allocate_in.Goals.{After-class_for-class, After-size_ok, After-within, Start}
 
 abbrev account : tie.Start → Account
 account s = account_in s.args.meta.now
 
 -- What the tests before the room found.
-legal-group : (c : goal.After-size_ok) → group_ok c.args.group ≡ true
+legal-group : (c : After-size_ok) → group_ok c.args.group ≡ true
 legal-group c = sym c.group_ok.ensures ∙ c.if-not-group_ok.false
 
-legal-size : (c : goal.After-class_for-class) → size_ok c.args.size ≡ true
+legal-size : (c : After-class_for-class) → size_ok c.args.size ≡ true
 legal-size c = sym c.Size-ok.ensures ∙ c.if-not-size_ok.false
 
 -- The figures, as they are lent for the test of the ceiling.
-lent : (c : goal.Start) → take figure_words c.args.meta.now ≡ figures_of (account c)
+lent : (c : Start) → take figure_words c.args.meta.now ≡ figures_of (account c)
 lent c = figures-are c.args.meta.now c.requires.account
 
 -- FIELDS: value meta_after
@@ -64,7 +65,7 @@ pub within-requires : goal.within-requires
 within-requires c = 
     within-needs (account (goal.at.within-requires c).Start) (arena-valid c.requires) c.args.group c.args.size (legal-group (goal.at.within-requires c).After-size_ok) (legal-size (goal.at.within-requires c).After-class_for-class) _ (lent (goal.at.within-requires c).Start) _ (ap (λ g. g - 1) c.wide.ensures) _ c.room_for-room.ensures
 
-within-told : (c : goal.After-within) → c.within.result ≡ within (ceiling_of (account (c AT Start)) c.args.group) c.args.group c.args.size (page_map (account (c AT Start)).state)
+within-told : (c : After-within) → c.within.result ≡ within (ceiling_of (account (c AT Start)) c.args.group) c.args.group c.args.size (page_map (account (c AT Start)).state)
 within-told c = 
     c.within.ensures
     ∙ within-is (account (c AT Start)) (arena-valid c.requires) c.args.group c.args.size (legal-group (c AT After-size_ok)) (legal-size (c AT After-class_for-class)) _ (lent (c AT Start)) _ (ap (λ g. g - 1) c.wide-index.ensures) _ c.room_for-room.ensures

@@ -22,6 +22,7 @@ use Rattle.calls.proofs.Caller.{caller}
 use Rattle.calls.proofs.Returning.{return-needs, return-done}
 use borrow.Author.Rules.{rules}
 use Rattle.calls.proofs.free_in.Goals as goal
+use Rattle.calls.proofs.free_in.Goals.{After-wide-index, Start}
 
 -- What is asked.
 abbrev call : tie.Start → Action
@@ -31,16 +32,16 @@ abbrev asks : tie.Start → State → Outcome State
 asks s = free s.args.group s.args.offset
 
 -- The figures, as they are lent for their step.
-lent : (c : goal.After-wide-index) → take figure_words (put_mid figure_words (c.words_for-e.result - figure_words) c.args.meta.now c.free-answer.new.0) ≡ figures_of (account_in c.args.meta.now)
+lent : (c : After-wide-index) → take figure_words (put_mid figure_words (c.words_for-e.result - figure_words) c.args.meta.now c.free-answer.new.0) ≡ figures_of (account_in c.args.meta.now)
 lent c = figures-there c.requires _ c.words_for-e.ensures (call (c AT Start)) (asks (c AT Start)) refl _ c.free-answer.ensures.1
 
 -- It was not refused.
-done : (c : goal.After-wide-index) → is_refused (asks (c AT Start) (account_in c.args.meta.now).state).answer ≡ false
+done : (c : After-wide-index) → is_refused (asks (c AT Start) (account_in c.args.meta.now).state).answer ≡ false
 done c = 
     arena-done c.requires _ c.words_for-e.ensures (call (c AT Start)) (asks (c AT Start)) refl _ c.free-answer.ensures.0 _ c.is_refused.ensures c.if-is_refused.false
 
 -- The room that was told before the block came back.
-told : (c : goal.After-wide-index) → c.room_told-room.result ≡ room_told (described (block_at (page_map (account_in c.args.meta.now).state) c.args.offset))
+told : (c : After-wide-index) → c.room_told-room.result ≡ room_told (described (block_at (page_map (account_in c.args.meta.now).state) c.args.offset))
 told c = 
     c.room_told-room.ensures ∙ told-room c.requires _ c.words_for-e.ensures _ _ c.describe.ensures
 

@@ -20,6 +20,7 @@ use Rattle.calls.proofs.Acting.{arena-few, arena-valid, arena-inside, arena-good
 use Rattle.calls.proofs.Granting.{supply-is, grant-needs, grant-done}
 use borrow.Author.Rules.{rules}
 use Rattle.calls.proofs.grant_in.Goals as goal
+use Rattle.calls.proofs.grant_in.Goals.{After-wide-index, Start}
 
 -- What is asked.
 abbrev call : tie.Start → Action
@@ -32,15 +33,15 @@ asks s = supplied s.args.group s.args.size
 abbrev account : tie.Start → Account
 account s = account_in s.args.meta.now
 
-accepted : (c : goal.Start) → serve (account c) (call c) ≡ of_state (account c) (asks c (account c).state)
+accepted : (c : Start) → serve (account c) (call c) ≡ of_state (account c) (asks c (account c).state)
 accepted c = supply-is (account c) c.args.group c.args.size c.requires.arena.1
 
 -- The figures, as they are lent for their step.
-lent : (c : goal.After-wide-index) → take figure_words (put_mid figure_words (c.words_for-e.result - figure_words) c.args.meta.now c.supply-answer.new.0) ≡ figures_of (account (c AT Start))
+lent : (c : After-wide-index) → take figure_words (put_mid figure_words (c.words_for-e.result - figure_words) c.args.meta.now c.supply-answer.new.0) ≡ figures_of (account (c AT Start))
 lent c = figures-there c.requires.arena.0 _ c.words_for-e.ensures (call (c AT Start)) (asks (c AT Start)) (accepted (c AT Start)) _ c.supply-answer.ensures.1
 
 -- It was not refused.
-done : (c : goal.After-wide-index) → is_refused (asks (c AT Start) (account (c AT Start)).state).answer ≡ false
+done : (c : After-wide-index) → is_refused (asks (c AT Start) (account (c AT Start)).state).answer ≡ false
 done c = 
     arena-done c.requires.arena.0 _ c.words_for-e.ensures (call (c AT Start)) (asks (c AT Start)) (accepted (c AT Start)) _ c.supply-answer.ensures.0 _ c.is_refused.ensures c.if-is_refused.false
 

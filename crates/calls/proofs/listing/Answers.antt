@@ -7,9 +7,10 @@ use Rattle.calls.specs.Arena.{Arena}
 use Rattle.calls.proofs.Words.{listing-same}
 use Rattle.calls.proofs.Acting.{refused-answer, refused-words, refused-text, arena-of, arena-few, arena-inside, arena-holds, arena-listing, arena-text}
 use Rattle.calls.proofs.listing.Goals as goal
+use Rattle.calls.proofs.listing.Goals.{After-arena_pages-n, Else-n-eq0}
 
 -- The places: the words are an arena's, behind the check; and the listing written.
-arena : (c : goal.Else-n-eq0) → Arena c.args.meta.now c.arena_pages-n.result
+arena : (c : Else-n-eq0) → Arena c.args.meta.now c.arena_pages-n.result
 arena c = arena-of _ _ c.arena_pages-n.ensures c.if-n-eq0.false
 
 pub returns-then-n-eq0 : goal.returns-then-n-eq0

@@ -7,9 +7,10 @@ use Rattle.calls.proofs.Words.{query-same}
 use Rattle.calls.proofs.Acting.{refused-answer, refused-words, arena-of, arena-few, arena-inside, arena-good, arena-answer}
 use borrow.Author.Rules.{rules}
 use Rattle.calls.proofs.query.Goals as goal
+use Rattle.calls.proofs.query.Goals.{After-arena_pages-n, Else-n-eq0}
 
 -- The place behind the check: the words are an arena's.
-arena : (c : goal.Else-n-eq0) → Arena c.args.meta.now c.arena_pages-n.result
+arena : (c : Else-n-eq0) → Arena c.args.meta.now c.arena_pages-n.result
 arena c = arena-of _ _ c.arena_pages-n.ensures c.if-n-eq0.false
 
 pub returns-then-n-eq0 : goal.returns-then-n-eq0

@@ -19,6 +19,7 @@ use Rattle.calls.proofs.Caller.{caller}
 use Rattle.calls.proofs.Resetting.{reset-needs, reset-done}
 use borrow.Author.Rules.{rules}
 use Rattle.calls.proofs.reset_in.Goals as goal
+use Rattle.calls.proofs.reset_in.Goals.{After-wide-index, Start}
 
 -- What is asked.
 abbrev call : tie.Start → Action
@@ -28,11 +29,11 @@ abbrev asks : tie.Start → State → Outcome State
 asks s = reset s.args.group
 
 -- The figures, as they are lent for their step.
-lent : (c : goal.After-wide-index) → take figure_words (put_mid figure_words (c.words_for-e.result - figure_words) c.args.meta.now c.reset-answer.new.0) ≡ figures_of (account_in c.args.meta.now)
+lent : (c : After-wide-index) → take figure_words (put_mid figure_words (c.words_for-e.result - figure_words) c.args.meta.now c.reset-answer.new.0) ≡ figures_of (account_in c.args.meta.now)
 lent c = figures-there c.requires _ c.words_for-e.ensures (call (c AT Start)) (asks (c AT Start)) refl _ c.reset-answer.ensures.1
 
 -- It was not refused.
-done : (c : goal.After-wide-index) → is_refused (asks (c AT Start) (account_in c.args.meta.now).state).answer ≡ false
+done : (c : After-wide-index) → is_refused (asks (c AT Start) (account_in c.args.meta.now).state).answer ≡ false
 done c = 
     arena-done c.requires _ c.words_for-e.ensures (call (c AT Start)) (asks (c AT Start)) refl _ c.reset-answer.ensures.0 _ c.is_refused.ensures c.if-is_refused.false
 

@@ -14,12 +14,13 @@ use Rattle.calls.proofs.Acting.{refused-answer, refused-words, arena-of}
 use Rattle.calls.proofs.Capping.{set-bad-group, set-too-large, set_long, set-needs, set-done}
 use borrow.Author.Rules.{rules}
 use Rattle.calls.proofs.set_ceiling.Goals as goal
+use Rattle.calls.proofs.set_ceiling.Goals.{After-group_ok, After-wide-index, Else-not-group_ok}
 
 -- What the tests found.
-good : (c : goal.After-group_ok) → is_account c.args.meta.now ≡ true
+good : (c : After-group_ok) → is_account c.args.meta.now ≡ true
 good c = (arena-of _ _ c.arena_pages-n.ensures c.if-n-eq0.false).account
 
-legal : (c : goal.Else-not-group_ok) → group_ok c.args.group ≡ true
+legal : (c : Else-not-group_ok) → group_ok c.args.group ≡ true
 legal c = sym c.group_ok.ensures ∙ c.if-not-group_ok.false
 
 pub returns-then-n-eq0 : goal.returns-then-n-eq0
@@ -37,7 +38,7 @@ pub overflow_sub-index : goal.overflow_sub-index
 overflow_sub-index c = omega (arith, c.wide-index.ensures, group-least c.args.group (legal (goal.at.overflow_sub-index c).Else-not-group_ok))
 
 -- The figures are there to be lent.
-long : (c : goal.After-wide-index) → figure_words ≤ length c.args.meta.now
+long : (c : After-wide-index) → figure_words ≤ length c.args.meta.now
 long c = set_long c.args.meta.now c.args.group c.args.ceiling (good (c AT After-group_ok)) (legal (c AT Else-not-group_ok))
 
 pub slice_bounds-cap-end : goal.slice_bounds-cap-end

@@ -4,6 +4,7 @@ use mathlib.Core.Path.{◌∙◌, ap}
 use mathlib.Core.Bool.{cond}
 use Rattle.capi.proofs.Values.{refusal-told, first-told}
 use Rattle.capi.proofs.tell_length.Goals as goal
+use Rattle.capi.proofs.tell_length.Goals.{After-take_apart-told}
 
 pub returns : goal.returns
 returns c = 

@@ -12,9 +12,10 @@ use Rattle.steps.proofs.Outcomes.{by-rule}
 use Rattle.free.proofs.Answers.{free-bad, free-none, free_other, free-done, whole-freed, whole-stands, chunk-freed, chunk-lives}
 use borrow.Author.Rules.{rules}
 use Rattle.free.proofs.free.Goals as goal
+use Rattle.free.proofs.free.Goals.{Else-not-group_ok}
 
 -- The group is one, and so not 0.
-good : (c : goal.Else-not-group_ok) → group_ok c.args.group ≡ true
+good : (c : Else-not-group_ok) → group_ok c.args.group ≡ true
 good c = sym c.group_ok.ensures ∙ c.if-not-group_ok.false
 
 pub returns-then-not-group_ok : goal.returns-then-not-group_ok

@@ -12,6 +12,7 @@ use Rattle.pages.specs.Decoding.{segments_of}
 use Rattle.pages.specs.Places.{Stands}
 use borrow.Author.Rules.{rules}
 use Rattle.listing.proofs.put_row.Goals as goal
+use Rattle.listing.proofs.put_row.Goals.{Else-kind}
 
 -- The segment that stands at the page is of the kind.
 of-kind : (c : tie.Else1) {b : ℕ} {x : Segment Zone} → Stands (segments_of (start c).args.words.now) (start c).args.p b x → kind_of x ≡ (start c).args.kind

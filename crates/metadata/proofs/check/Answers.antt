@@ -10,9 +10,10 @@ use mathlib.Core.Path.{sym, ◌∙◌}
 use Prim.Native.Nat.{◌≤◌}
 use borrow.Author.Tests.{not-true, not-false}
 use Rattle.metadata.proofs.check.Goals as goal
+use Rattle.metadata.proofs.check.Goals.{After-check, Else-not-check}
 
 -- The header has passed.
-header : (c : goal.Else-not-check) → Header (header_part c.args.words.now)
+header : (c : Else-not-check) → Header (header_part c.args.words.now)
 header c = check-header _ (sym c.check.ensures ∙ c.if-not-check.false)
 
 pub returns-then-words-lt-HEADER_WORDS : goal.returns-then-words-lt-HEADER_WORDS

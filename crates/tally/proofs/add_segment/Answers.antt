@@ -15,6 +15,7 @@ use Rattle.pages.proofs.Inverse.{stands-zone, stands-direct}
 use Rattle.tally.proofs.Adding.{within_more}
 use Rattle.tally.proofs.Segments.{run-adds, direct-adds, zone-adds}
 use Rattle.tally.proofs.add_segment.Goals as goal
+use Rattle.tally.proofs.add_segment.Goals.{After-kind-kind}
 
 -- The segment at page p, in the terms of the code.
 abbrev At : tie.After-kind → ℕ → Segment Zone → Type 0

@@ -10,6 +10,7 @@ use Rattle.zone.specs.Decoding.{owner_in}
 use Rattle.tally.specs.Figures.{stretch, Added, Within}
 use Rattle.tally.proofs.Adding.{chunks_in, slots-none, slots-more, slots-done, slots-within}
 use Rattle.tally.proofs.add_slots.Goals as goal
+use Rattle.tally.proofs.add_slots.Goals.{At-loop-i}
 
 -- What a call of `add_stretch` on k slots from i on asks.
 asked : (l : tie.At-loop invariant-loop decreases-loop) (k : ℕ) → l.loop.i + k ≤ length (start l).args.slots.now → k ≤ stretch

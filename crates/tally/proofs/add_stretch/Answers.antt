@@ -12,6 +12,7 @@ use Rattle.tally.specs.Figures.{stretch, Added}
 use Rattle.tally.proofs.Adding.{up_to, up_none, up_more, up-all, count_most, stretch-within}
 use Rattle.tally.proofs.Squeezed.{times-squeezed}
 use Rattle.tally.proofs.add_stretch.Goals as goal
+use Rattle.tally.proofs.add_stretch.Goals.{At-loop-group}
 
 -- The count is that of the chunks: nothing else in the bytes is a group.
 counted : (l : tie.At-loop invariant-loop decreases-loop) (g : ℕ) → 0 < g → g ≤ most_group → times g l.before.before.squeeze.new.1.0 ≡ times g (map owner_in (start l).args.slots.now)

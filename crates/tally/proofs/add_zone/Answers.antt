@@ -8,9 +8,10 @@ use Rattle.zone.specs.Decoding.{zone_of}
 use Rattle.zone.proofs.Encoded.{zone-valid}
 use Rattle.tally.proofs.Handed.{handed-inside, handed-asks, handed-added, idle-added}
 use Rattle.tally.proofs.add_zone.Goals as goal
+use Rattle.tally.proofs.add_zone.Goals.{After-wide-end}
 
 -- The number of slots that are lent.
-count : (c : goal.After-wide-end) → c.wide-end.result ≡ touched (zone_of c.args.part.now)
+count : (c : After-wide-end) → c.wide-end.result ≡ touched (zone_of c.args.part.now)
 count c = c.wide-end.ensures ∙ c.touched.ensures
 
 pub returns-then-is_idle : goal.returns-then-is_idle

@@ -9,6 +9,7 @@ use Rattle.lemmas.proofs.Parts.{length-mid}
 use Rattle.tally.specs.Figures.{piece, slot_byte}
 use Rattle.tally.proofs.Squeezed.{squeezed-part, squeezed-length, squeezed-done}
 use Rattle.tally.proofs.squeeze.Goals as goal
+use Rattle.tally.proofs.squeeze.Goals.{At-loop-i}
 
 pub loop-i-init : goal.loop-i-init
 loop-i-init c = (omega arith, refl, refl)

@@ -4,9 +4,10 @@ use mathlib.Core.Path.{sym, ◌∙◌}
 use native.Mathlib.Omega.{arith}
 use Rattle.tally.proofs.Segments.{Tallying, Here, tally-start, tally-within, tally-here, tally-end}
 use Rattle.tally.proofs.tally.Goals as goal
+use Rattle.tally.proofs.tally.Goals.{In-loop-p}
 
 -- The segment at the loop's page.
-here : (c : goal.In-loop-p) → Here c.args.words.now c.args.n c.loop-p.figures c.loop-p.p c.loop-p.invariant.b
+here : (c : In-loop-p) → Here c.args.words.now c.args.n c.loop-p.figures c.loop-p.p c.loop-p.invariant.b
 here c = tally-here c.loop-p.invariant c.loop-p-test.true
 
 pub loop-p-init : goal.loop-p-init

@@ -9,12 +9,13 @@ use Rattle.zone.specs.Decoding.{class_in, touched_in}
 use Rattle.zone.proofs.Figures.{zone-size, class-small, touched-few, hand-out-words, taken}
 use Rattle.zone.proofs.Words.{words-encoding}
 use Rattle.zone.proofs.grant.Goals as goal
+use Rattle.zone.proofs.grant.Goals.{After-has_chunk}
 
 -- Whether a chunk is untouched, by what was asked.
-left : (c : goal.After-has_chunk) → c.has_chunk.result ≡ true → touched_in c.args.part.now < chunks (class_in c.args.part.now)
+left : (c : After-has_chunk) → c.has_chunk.result ≡ true → touched_in c.args.part.now < chunks (class_in c.args.part.now)
 left c t = ltb-true _ _ (sym c.has_chunk.ensures ∙ t)
 
-gone : (c : goal.After-has_chunk) → c.has_chunk.result ≡ false → chunks (class_in c.args.part.now) ≤ touched_in c.args.part.now
+gone : (c : After-has_chunk) → c.has_chunk.result ≡ false → chunks (class_in c.args.part.now) ≤ touched_in c.args.part.now
 gone c t = ltb-false _ _ (sym c.has_chunk.ensures ∙ t)
 
 pub bounds-part-1 : goal.bounds-part-1

@@ -3,9 +3,10 @@ use Rattle.std.proofs.Common.{sym, arith}
 use Rattle.classes.proofs.Rule.{Rows, rows}
 use Rattle.model.specs.Sizes.{class_of}
 use Rattle.measure.proofs.rows.class_of_size.Goals as goal
+use Rattle.measure.proofs.rows.class_of_size.Goals.{Start}
 
 -- The class in each row, of the size at hand.
-by_rows : (c : goal.Start) → Rows c.args.size (class_of c.args.size)
+by_rows : (c : Start) → Rows c.args.size (class_of c.args.size)
 by_rows c = rows c.args.size c.requires.0 (omega arith)
 
 pub returns-then-size-lt128 : goal.returns-then-size-lt128

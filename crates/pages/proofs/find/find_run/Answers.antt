@@ -5,8 +5,9 @@ use native.Mathlib.Omega.{arith}
 use Rattle.pages.specs.Places.{found, first_run}
 use Rattle.pages.proofs.Search.{Searching, search-start, search-none, run_inside, search-hit, search-past}
 use Rattle.pages.proofs.find.find_run.Goals as goal
+use Rattle.pages.proofs.find.find_run.Goals.{After-next_run}
 
-next-is : (c : goal.After-next_run) → c.next_run.result ≡ found (first_run c.loop-at.p c.loop-at.invariant.walk.left)
+next-is : (c : After-next_run) → c.next_run.result ≡ found (first_run c.loop-at.p c.loop-at.invariant.walk.left)
 next-is c = c.next_run.ensures _ _ c.loop-at.invariant.walk.passed
 
 pub loop-at-init : goal.loop-at-init

@@ -10,15 +10,16 @@ use Rattle.pages.specs.Places.{choice, is_clear}
 use Rattle.pages.proofs.Walk.{Next}
 use Rattle.pages.proofs.Clear.{Trimming, trim_start, here, trim-clear, trim-hit, trim-past, trim-inside, trim_end}
 use Rattle.pages.proofs.find.find_trimmed.Goals as goal
+use Rattle.pages.proofs.find.find_trimmed.Goals.{After-clear}
 
 -- The segment at the page, its pages, and whether they would be free.
-segment : (c : goal.After-clear) → Next c.loop-p.invariant.walk
+segment : (c : After-clear) → Next c.loop-p.invariant.walk
 segment c = here c.loop-p.invariant c.loop-p-test.true
 
-size_is : (c : goal.After-clear) → c.size-len.result ≡ pages (segment c).x
+size_is : (c : After-clear) → c.size-len.result ≡ pages (segment c).x
 size_is c = c.size-len.ensures _ _ (segment c).stands
 
-clear-is : (c : goal.After-clear) → c.clear.result ≡ is_clear (segment c).x
+clear-is : (c : After-clear) → c.clear.result ≡ is_clear (segment c).x
 clear-is c = c.clear.ensures _ _ (segment c).stands
 
 pub loop-p-init : goal.loop-p-init

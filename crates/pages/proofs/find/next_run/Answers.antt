@@ -10,11 +10,12 @@ use Rattle.pages.specs.Places.{found, Passed, first_run}
 use Rattle.pages.proofs.Walk.{Next, next, walk_end}
 use Rattle.pages.proofs.Search.{Seeking, seek-from, seek-past, seek_hit}
 use Rattle.pages.proofs.find.next_run.Goals as goal
+use Rattle.pages.proofs.find.next_run.Goals.{In-loop-p}
 
-walk : (c : goal.In-loop-p) → Seeking c.args.words.now c.args.n (found (first_run c.args.page c.requires.by_index.1)) c.loop-p.p
+walk : (c : In-loop-p) → Seeking c.args.words.now c.args.n (found (first_run c.args.page c.requires.by_index.1)) c.loop-p.p
 walk c = let q = c.requires.by_index in c.loop-p.invariant q.0 q.1 q.2
 
-segment : (c : goal.In-loop-p) → Next (walk c).1
+segment : (c : In-loop-p) → Next (walk c).1
 segment c = next (walk c).1 c.loop-p-test.true
 
 pub loop-p-init : goal.loop-p-init

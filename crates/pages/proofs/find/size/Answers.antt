@@ -5,9 +5,10 @@ use mathlib.Core.Path.{sym, ◌∙◌}
 use native.Mathlib.Omega.{arith}
 use borrow.Author.Rules.{rules}
 use Rattle.pages.proofs.find.size.Goals as goal
+use Rattle.pages.proofs.find.size.Goals.{After-kind}
 
 -- What the words say of the segment, from where its kind has been told.
-told : (c : goal.After-kind) → Read c.args.words.now c.args.n c.args.p c.requires.by_index.1
+told : (c : After-kind) → Read c.args.words.now c.args.n c.args.p c.requires.by_index.1
 told c = let h = c.requires in read_at h.holds h.by_index.2
 
 pub returns-then-kind-eq-KIND_ZONE : goal.returns-then-kind-eq-KIND_ZONE

@@ -11,9 +11,10 @@ use Rattle.zone.specs.Encoding.{slot_count}
 use Rattle.zone.specs.Decoding.{in_place}
 use Rattle.zone.proofs.Scans.{chunk-near, place-next}
 use Rattle.zone.proofs.slots.are_in_place.Goals as goal
+use Rattle.zone.proofs.slots.are_in_place.Goals.{After-wide-chunk}
 
 -- The chunk that a turn reads has a slot.
-chunk_small : (c : goal.After-wide-chunk) → c.wide-chunk.result < slot_count
+chunk_small : (c : After-wide-chunk) → c.wide-chunk.result < slot_count
 chunk_small c = 
     chunk-near _ c.wide.ensures c.wide-chunk.ensures c.args.chained c.requires.2 (omega arith) (omega arith)
 

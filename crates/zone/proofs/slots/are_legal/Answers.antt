@@ -9,6 +9,7 @@ use Rattle.zone.specs.Encoding.{half}
 use Rattle.zone.specs.Decoding.{is_near}
 use Rattle.zone.proofs.Scans.{front, slots-full, slots-far, slots-uncounted, slots-placed}
 use Rattle.zone.proofs.slots.are_legal.Goals as goal
+use Rattle.zone.proofs.slots.are_legal.Goals.{After-survey-upper}
 
 -- The arguments.
 abbrev S : tie.After-survey → List ℕ

@@ -8,9 +8,10 @@ use Rattle.zone.specs.Encoding.{head_words}
 use Rattle.zone.specs.Decoding.{chained_in, entry_in}
 use Rattle.zone.specs.Stores.{with_state, with_entry, last_chunk}
 use Rattle.zone.proofs.stores.take_last.Goals as goal
+use Rattle.zone.proofs.stores.take_last.Goals.{After-wide}
 
 -- The chunk that the code reads is the last one of the chain.
-chunk-is : (c : goal.After-wide) → entry_in (get_or c.args.part.now (head_words + c.wide.result) 0) ≡ last_chunk c.args.part.now
+chunk-is : (c : After-wide) → entry_in (get_or c.args.part.now (head_words + c.wide.result) 0) ≡ last_chunk c.args.part.now
 chunk-is c = let w : List ℕ = c.args.part.now in ap (λ n. entry_in (get_or w (head_words + n) 0)) c.wide.ensures
 
 pub set_state-requires : goal.set_state-requires
