@@ -1,5 +1,6 @@
 // Live blocks: where the block that begins at a byte stands, and the answer to a query.
 #![tactic(auto)]
+
 ghost use Rattle.std.specs.Prelude.{◌≡◌, ◌+◌, ◌*◌, ◌<◌};
 ghost use Rattle.model.specs.Numbers.{page_bytes, zone_bytes};
 ghost use Rattle.model.specs.Arena.{zone};

@@ -8,7 +8,7 @@ use lib.ListN.{length, get_or, set}
 use lib.Seq.{set-get_or}
 use Rattle.model.specs.Numbers.{page_bytes, class_count, most_pages}
 use Rattle.model.specs.Sizes.{room}
-use Rattle.model.specs.Arena.{zone, pages, total}
+use Rattle.model.specs.Arena.{zone, total}
 use Rattle.model.specs.Zone.{Zone, full, put_back}
 use Rattle.model.specs.State.{State, list_of, arranged, zone_at, put_zone}
 use Rattle.model.specs.Valid.{ValidZone, Valid}

@@ -1,5 +1,6 @@
 // Freeing: a chunk comes back to its zone, a direct block's pages to the runs.
 #![tactic(auto)]
+
 ghost use Rattle.std.specs.Prelude.{◌≡◌, true, ◌<◌, length, ltb};
 ghost use Rattle.model.specs.Numbers.{most_spare};
 ghost use Rattle.model.specs.Arena.{zone};

@@ -2,6 +2,7 @@
 // these words and no others. Where words are read or stepped they are a header (`Header`), which is what the check accepts
 // (`check-header`, `header-iff`), and what each step leaves (the `fits-` laws).
 #![tactic(auto)]
+
 ghost use Rattle.std.specs.Prelude.{◌≡◌, [], ◌∷◌, ◌≤◌, ◌<◌, length, get_or, set, drop, replicate};
 ghost use Rattle.lemmas.specs.Times.{remove};
 ghost use Rattle.header.specs.Keys.{key, keys_of};

@@ -1,5 +1,6 @@
 // The metadata words as a whole: whether they begin with the words of a valid state (`state-iff`). Any words may be lent.
 #![tactic(auto)]
+
 ghost use Rattle.std.specs.Prelude.{◌≡◌, true, cond, ℕ, ◌+◌, ◌≤◌, ◌<◌, length};
 ghost use Rattle.model.specs.Arena.{Segment, total};
 ghost use Rattle.model.specs.Zone.{Zone, full};

@@ -12,7 +12,7 @@ use Rattle.model.specs.Sizes.{room, chunks}
 use Rattle.model.specs.Arena.{Segment, direct, zone, pages, total}
 use Rattle.model.specs.Zone.{Zone, touched, put_back}
 use Rattle.model.specs.State.{State, zone_at, put_zone}
-use Rattle.model.specs.PageMap.{page_map, whole, chunk_of, block_at}
+use Rattle.model.specs.PageMap.{page_map, chunk_of, block_at}
 use Rattle.model.specs.Valid.{ValidZone, Valid}
 use Rattle.model.specs.Pages.{release}
 use Rattle.model.specs.Free.{chunk_back, freed_if, freed_all, offsets_of}

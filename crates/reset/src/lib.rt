@@ -1,6 +1,7 @@
 // Reset: every live block of a group comes back, in ascending offset. One walk over the segments, and inside a zone one over its
 // chunks: it goes on from where it is, and behind the run that given back pages have become part of.
 #![tactic(auto)]
+
 ghost use Rattle.std.specs.Prelude.{◌≡◌, ℕ, ◌+◌, ◌<◌, length};
 ghost use Rattle.model.specs.Arena.{run, direct};
 ghost use Rattle.model.specs.State.{State};

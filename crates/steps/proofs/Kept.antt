@@ -5,7 +5,7 @@ use mathlib.Core.List.{List, [], ◌∷◌}
 use native.Mathlib.Omega.{arith}
 use lib.ListN.{length, set}
 use Rattle.model.specs.Numbers.{page_bytes, class_count}
-use Rattle.model.specs.Arena.{Segment, zone, pages, total}
+use Rattle.model.specs.Arena.{Segment, zone, total}
 use Rattle.model.specs.Zone.{Zone}
 use Rattle.model.specs.State.{State, list_of, arranged, ZoneAt, zone_in, zone_at, put_zone}
 use Rattle.model.specs.Valid.{ValidZone, Valid}

@@ -1,6 +1,7 @@
 // The steps of which calls are made. Each is lent all the words of a state and no others (`Lent`) and passes on the part that it reads or
 // changes; one that changes words leaves those of the state that it makes. The state need not be valid between two steps.
 #![tactic(auto)]
+
 ghost use Rattle.std.specs.Prelude.{◌≡◌, true, false, [], ◌∷◌, ℕ, ◌≤◌, ◌<◌, length, get_or, drop};
 ghost use Rattle.model.specs.Arena.{Segment, run, direct, zone, pages, total};
 ghost use Rattle.model.specs.Zone.{Zone, touched, full, new_zone, next_chunk, granted, put_back};

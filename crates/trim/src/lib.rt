@@ -1,5 +1,6 @@
 // Trim: every zone without a live chunk is given back. Each function is lent all the words of a state and no others (`Lent`).
 #![tactic(auto)]
+
 ghost use Rattle.std.specs.Prelude.{◌≡◌, false, ℕ, ◌+◌};
 ghost use Rattle.model.specs.Arena.{Segment, total};
 ghost use Rattle.model.specs.Zone.{Zone};

@@ -1,6 +1,7 @@
 // The 4,160 words of one zone: their check, the steps inside a zone, and what is asked of it. Each function is lent the words of that
 // zone and no others. Where words are read or stepped they have passed the check; `zone-iff` says what it accepts.
 #![tactic(auto)]
+
 ghost use Rattle.std.specs.Prelude.{true, false, ◌≡◌, ◌≤◌, ◌<◌, length, get_or};
 ghost use Rattle.model.specs.Zone.{touched, full, new_zone, next_chunk, granted, put_back};
 ghost use Rattle.model.specs.PageMap.{idle_zone};

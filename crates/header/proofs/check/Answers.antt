@@ -1,7 +1,6 @@
 -- `header::check` meets its contract. Each `return false` is a fact of a header that fails. Assumes nothing.
 use mathlib.Core.Path.{sym, ◌∙◌}
 use native.Mathlib.Omega.{arith}
-use borrow.Author.Tests.{not-true, not-false}
 use Rattle.lemmas.proofs.Cases.{true-false}
 use Rattle.header.proofs.Facts.{no_header, header-last}
 use Rattle.header.proofs.check.Goals as goal
@@ -25,7 +24,7 @@ pub returns-then-not-are_legal-2 : goal.returns-then-not-are_legal-2
 returns-then-not-are_legal-2 c = no_header _ (λ h. true-false h.lists (sym c.are_legal-2.ensures ∙ c.if-not-are_legal-2.true))
 
 pub returns : goal.returns
-returns c = 
+returns c =
     let spare = sym c.are_legal.ensures ∙ c.if-not-are_legal.false in
     let lists = sym c.are_legal-2.ensures ∙ c.if-not-are_legal-2.false in
     c.is_zero.ensures ∙ header-last _ (omega arith) (omega arith) (omega arith) (omega arith) spare lists

@@ -9,6 +9,6 @@ pub slice_bounds-count_between-end : goal.slice_bounds-count_between-end
 slice_bounds-count_between-end c = omega (arith, header-length c.requires.0)
 
 pub returns : goal.returns
-returns c = 
+returns c =
     let pre = c.requires in
     ap (ltb 0) (c.count_between-n.ensures ∙ class-times pre.0 _ pre.1 _ _ pre.2 c.key-low.ensures)

@@ -11,6 +11,6 @@ pub overflow_cast-result : goal.overflow_cast-result
 overflow_cast-result c = omega (arith, lists-most c.requires.0 _ _ c.count_between-n.ensures)
 
 pub returns : goal.returns
-returns c = 
+returns c =
     let pre = c.requires in
     c.count_between-n.ensures ∙ class-length pre.0 _ pre.1 _ _ c.key.ensures c.key-2.ensures

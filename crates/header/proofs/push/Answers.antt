@@ -8,17 +8,15 @@ pub slice_bounds-count_between-end : goal.slice_bounds-count_between-end
 slice_bounds-count_between-end c = omega (arith, header-length c.requires.0)
 
 pub slice_bounds-shift_in-end : goal.slice_bounds-shift_in-end
-slice_bounds-shift_in-end c = 
+slice_bounds-shift_in-end c =
     omega (arith, header-length c.requires.0)
 
 pub shift_in-requires : goal.shift_in-requires
-shift_in-requires c = 
+shift_in-requires c =
     let pre = c.requires in
     omega (arith, lists-size c.args.words.now (header-length pre.0), lists-most pre.0 _ _ c.count_between-at.ensures)
 
 pub returns : goal.returns
-returns c = 
+returns c =
     let pre = c.requires in
     step_push pre.0 _ _ pre.1 _ _ _ _ c.key.ensures c.key-2.ensures c.count_between-at.ensures c.shift_in.ensures
-
--- WARN before start

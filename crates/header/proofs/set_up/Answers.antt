@@ -1,5 +1,4 @@
 -- `header::set_up` meets its contract. Assumes nothing.
-use native.Mathlib.Omega.{arith}
 use lib.ListN.{length-set}
 use borrow.Author.Rules.{rules}
 use Rattle.header.proofs.Steps.{step-fresh}
@@ -9,7 +8,5 @@ pub bounds-words-1 : goal.bounds-words-1
 bounds-words-1 c = simp length-set (search rules)
 
 pub returns : goal.returns
-returns c = 
+returns c =
     step-fresh c.args.words.now _ _ c.requires c.clear.ensures
-
--- inline: λ c. search rules

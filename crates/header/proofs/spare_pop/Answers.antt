@@ -1,7 +1,6 @@
 -- `header::spare_pop` meets its contract. Assumes nothing.
 use native.Mathlib.Omega.{arith}
 use lib.ListN.{length-set}
-use borrow.Author.Rules.{rules}
 use Rattle.header.proofs.Steps.{header-length, step-spare-pop}
 use Rattle.header.proofs.spare_pop.Goals as goal
 
@@ -16,5 +15,3 @@ bounds-words-3 c = simp length-set (omega (arith, header-length c.requires))
 
 pub returns : goal.returns
 returns c = step-spare-pop c.requires
-
--- inline: λ c. search rules

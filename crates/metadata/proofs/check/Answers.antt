@@ -8,9 +8,8 @@ use lib.Seq.{length-take-le}
 use native.Mathlib.Omega.{arith}
 use mathlib.Core.Path.{sym, ◌∙◌}
 use Prim.Native.Nat.{◌≤◌}
-use borrow.Author.Tests.{not-true, not-false}
 use Rattle.metadata.proofs.check.Goals as goal
-use Rattle.metadata.proofs.check.Goals.{After-check, Else-not-check}
+use Rattle.metadata.proofs.check.Goals.{Else-not-check}
 
 -- The header has passed.
 header : (c : Else-not-check) → Header (header_part c.args.words.now)
@@ -20,7 +19,7 @@ pub returns-then-words-lt-HEADER_WORDS : goal.returns-then-words-lt-HEADER_WORDS
 returns-then-words-lt-HEADER_WORDS c = too_short _ c.if-words-lt-HEADER_WORDS.true
 
 pub slice_bounds-check-end : goal.slice_bounds-check-end
-slice_bounds-check-end c = sym (length-take-le header_words c.args.words.now (omega (arith, c.if1.false)))
+slice_bounds-check-end c = sym (length-take-le header_words c.args.words.now (omega (arith, c.if-words-lt-HEADER_WORDS.false)))
 
 pub returns-then-not-check : goal.returns-then-not-check
 returns-then-not-check c = no_header _ (sym c.check.ensures ∙ c.if-not-check.true)
@@ -29,7 +28,7 @@ pub slice_bounds-pages-end : goal.slice_bounds-pages-end
 slice_bounds-pages-end c = sym (length-take-le header_words c.args.words.now (omega (arith, c.if-words-lt-HEADER_WORDS.false)))
 
 pub pages-n-requires : goal.pages-n-requires
-pages-n-requires c = header (goal.at.pages-n-requires c).After-check
+pages-n-requires c = header (goal.at.pages-n-requires c).Else-not-check
 
 pub words_for-e-requires : goal.words_for-e-requires
 words_for-e-requires c = omega (arith, c.pages-n.ensures, (header (goal.at.words_for-e-requires c).Else-not-check).fits.most)
@@ -38,31 +37,25 @@ pub returns-then-words-e : goal.returns-then-words-e
 returns-then-words-e c = pages-missing _ _ c.pages-n.ensures _ c.words_for-e.ensures c.if-words-e.true
 
 pub check-requires-2 : goal.check-requires-2
-check-requires-2 c = 
+check-requires-2 c =
     (part-long c.args.words.now _ c.pages-n.ensures _ c.words_for-e.ensures c.if-words-e.false, omega (arith, c.pages-n.ensures, (header (goal.at.check-requires-2 c).Else-not-check).fits.most))
 
 pub returns-then-not-check-2 : goal.returns-then-not-check-2
-returns-then-not-check-2 c = 
+returns-then-not-check-2 c =
     no-segments _ _ c.pages-n.ensures _ c.words_for-e.ensures (sym c.check-2.ensures ∙ c.if-not-check-2.true)
 
 pub slice_bounds-lists_fit-end : goal.slice_bounds-lists_fit-end
-slice_bounds-lists_fit-end c = 
+slice_bounds-lists_fit-end c =
     sym (length-take-le header_words c.args.words.now (omega (arith, c.if-words-lt-HEADER_WORDS.false)))
 
 pub lists_fit-requires : goal.lists_fit-requires
-lists_fit-requires c = 
+lists_fit-requires c =
     let h = header (goal.at.lists_fit-requires c).Else-not-check in
     let few : c.pages-n.result ≤ most_pages = omega (arith, c.pages-n.ensures, h.fits.most) in
-    (h, segments-hold c.args.words.now _ c.pages-n.ensures _ c.words_for-e.ensures c.if-words-e.false few (sym c.check2.ensures ∙ c.if4.false))
+    (h, segments-hold c.args.words.now _ c.pages-n.ensures _ c.words_for-e.ensures c.if-words-e.false few (sym c.check-2.ensures ∙ c.if-not-check-2.false))
 
 pub returns : goal.returns
-returns c = 
+returns c =
     c.lists_fit.ensures
     ∙ lists-decide _ _ c.pages-n.ensures _ c.words_for-e.ensures (sym c.check.ensures ∙ c.if-not-check.false) c.if-words-e.false
-    (sym c.check2.ensures ∙ c.if4.false)
-
--- WARN step ['if1', 'false'] at After-shared_slice_known is shared_slice_known
--- WARN step ['check2', 'ensures'] at After-check-arg is check-arg
--- WARN step ['if4', 'false'] at After-check2 is check2
--- WARN step ['check2', 'ensures'] at After-check-arg is check-arg
--- WARN step ['if4', 'false'] at After-check2 is check2
+    (sym c.check-2.ensures ∙ c.if-not-check-2.false)

@@ -1,14 +1,7 @@
 -- `lists_fit` meets its contract. Assumes nothing.
-use borrow.Author.Tests.{not-true, not-false}
-use Rattle.metadata.proofs.Here.{open-most}
-use Rattle.metadata.specs.Lists.{fit_from}
-use Rattle.pages.specs.Decoding.{segments_of}
-use native.Mathlib.Omega.{arith}
-use mathlib.Core.Path.{sym, ap, ◌∙◌}
-use Prim.Native.Nat.{◌-◌, ◌+◌}
+use Prim.Native.Nat.{◌-◌}
 use Rattle.header.specs.Encoding.{spare_in, lists_in}
-use Rattle.metadata.proofs.Fitting.{Fitting, fit-start, fit_next, fit-no, fit-more, fit-end}
-use borrow.Author.Rules.{rules}
+use Rattle.metadata.proofs.Fitting.{Fitting}
 use Rattle.metadata.proofs.lists_fit.Given as goal
 
 abbrev pub invariant-loop-p : goal.invariant-loop-p

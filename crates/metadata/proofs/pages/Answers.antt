@@ -14,7 +14,3 @@ pages-requires c = (state-read _ c.requires).header
 
 pub returns : goal.returns
 returns c = c.pages.ensures ∙ sym (state-pages _ c.requires)
-
--- WARN before start
--- WARN before start
--- WARN before start

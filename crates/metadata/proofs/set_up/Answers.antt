@@ -13,5 +13,5 @@ pub set_up-requires : goal.set_up-requires
 set_up-requires c = length-take-le header_words c.args.words.now (omega arith)
 
 pub returns : goal.returns
-returns c = 
+returns c =
     fresh-set-up c.args.pages c.args.words.now _ _ c.set_up.ensures c.set_up-2.ensures

@@ -8,29 +8,23 @@ use lib.ListN.{get_or}
 use mathlib.Core.List.{[]}
 use Prim.Native.Nat.{◌<◌}
 use mathlib.Core.Path.{sym, ap, ◌∙◌, subst}
-use borrow.Author.Rules.{rules}
 use Rattle.metadata.proofs.zone_fits.Goals as goal
 
 pub returns-then-is_full : goal.returns-then-is_full
-returns-then-is_full c = 
+returns-then-is_full c =
     fits-full (spare_in c.args.head.now) (lists_in c.args.head.now) c.args.page (zone_of c.args.part.now) (sym c.is_full.ensures ∙ c.if-is_full.true)
 
 pub returns-then-spare_contains : goal.returns-then-spare_contains
-returns-then-spare_contains c = 
+returns-then-spare_contains c =
     c.is_idle.ensures ∙ fits-spare (spare_in c.args.head.now) (lists_in c.args.head.now) c.args.page (zone_of c.args.part.now) (sym c.is_full.ensures ∙ c.if-is_full.false)
     (sym c.spare_contains.ensures ∙ c.if-spare_contains.true)
 
 pub contains-requires : goal.contains-requires
-contains-requires c = 
+contains-requires c =
     (c.requires.0, subst (λ k. k < class_count) (sym c.class_of.ensures) (class_low _ c.requires.1), c.requires.2)
 
 pub returns : goal.returns
-returns c = 
+returns c =
     c.contains.ensures ∙ ap (λ k. stands c.args.page (get_or (lists_in c.args.head.now) k [])) c.class_of.ensures ∙ fits-listed (spare_in c.args.head.now)
     (lists_in c.args.head.now) c.args.page (zone_of c.args.part.now) (sym c.is_full.ensures ∙ c.if-is_full.false)
     (sym c.spare_contains.ensures ∙ c.if-spare_contains.false)
-
--- inline: λ c κs. search rules
--- inline: λ c κs. search rules
--- inline: λ c κs. search rules
--- inline: λ c κs. search rules

@@ -2,7 +2,6 @@
 use Rattle.zone.specs.Decoding.{zone_of}
 use Rattle.metadata.proofs.Here.{closed-zone, opened-zone}
 use mathlib.Core.Path.{sym, ◌∙◌}
-use borrow.Author.Rules.{rules}
 use Rattle.metadata.proofs.zone_open.Goals as goal
 
 pub returns-then-is_full : goal.returns-then-is_full
@@ -10,5 +9,3 @@ returns-then-is_full c = closed-zone (zone_of c.args.part.now) (sym c.is_full.en
 
 pub returns : goal.returns
 returns c = opened-zone (zone_of c.args.part.now) (sym c.is_full.ensures ∙ c.if-is_full.false)
-
--- inline: λ c κs. search rules

@@ -3,7 +3,6 @@ use native.Mathlib.Omega.{arith}
 use Prim.Native.Nat.{◌+◌}
 use mathlib.Core.Path.{refl, ap}
 use Rattle.steps.proofs.Segments.{here-inside}
-use borrow.Author.Rules.{rules}
 use Rattle.reset.proofs.behind_run.Goals as goal
 
 pub overflow_add-next : goal.overflow_add-next
@@ -11,5 +10,3 @@ overflow_add-next c = let h = c.requires in let r = here-inside h.good.lent h.by
 
 pub returns : goal.returns
 returns c = λ b k s. let e = c.size_at-len.ensures b _ s in (ap (λ y. c.args.start + y) e, e, refl)
-
--- inline: λ c κs. search rules

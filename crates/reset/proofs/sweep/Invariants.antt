@@ -1,11 +1,8 @@
 -- `sweep` meets its contract. Assumes nothing.
-use native.Mathlib.Omega.{arith}
 use Prim.Native.Nat.{◌-◌}
 use lib.ListN.{length}
 use Rattle.metadata.specs.Decoding.{decode}
 use Rattle.model.specs.Free.{offsets_of, freed_all}
-use Rattle.steps.proofs.Kept.{good-long}
-use Rattle.reset.proofs.Sweeps.{sweep-start, sweep-end, few-in-all}
 use Rattle.reset.specs.Sweep.{Sweep}
 use Rattle.reset.proofs.sweep.Given as goal
 

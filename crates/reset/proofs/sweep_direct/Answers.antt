@@ -1,25 +1,18 @@
 -- `sweep_direct` meets its contract. Assumes nothing.
-use native.Mathlib.Omega.{arith}
 use Rattle.reset.proofs.Steps.{direct_good, direct-low, direct-run, direct-gone}
-use borrow.Author.Rules.{rules}
 use Rattle.reset.proofs.sweep_direct.Goals as goal
 
 pub overflow_sub-p : goal.overflow_sub-p
-overflow_sub-p c = 
-    let h = c.requires in direct-low h.0 h.1 c.give-back.ensures
+overflow_sub-p c =
+    let h = c.requires in direct-low h.0 h.1 c.give_back.ensures
 
 pub behind_run-requires : goal.behind_run-requires
-behind_run-requires c = 
-    let h = c.requires in let e = c.give-back.ensures in record {
-        good = direct_good h.0 h.1 e;
-        by_index = direct-run h.0 h.1 e;
+behind_run-requires c =
+    let h = c.requires in let e = c.give_back.ensures in record {
+      good = direct_good h.0 h.1 e;
+      by_index = direct-run h.0 h.1 e;
     }
 
 pub returns : goal.returns
-returns c = 
-    let h = c.requires in direct-gone h.0 h.1 c.give-back.ensures _ _ _ c.behind_run.ensures
-
--- inline: λ c κs. search rules
--- WARN step ['give-back', 'ensures'] at After-give_back-arg is give_back-arg
--- WARN step ['give-back', 'ensures'] at After-give_back-arg is give_back-arg
--- WARN step ['give-back', 'ensures'] at After-give_back-arg is give_back-arg
+returns c =
+    let h = c.requires in direct-gone h.0 h.1 c.give_back.ensures _ _ _ c.behind_run.ensures

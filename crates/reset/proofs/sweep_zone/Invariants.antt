@@ -1,10 +1,6 @@
 -- `sweep_zone` meets its contract. Assumes nothing.
-use mathlib.Core.Path.{refl}
-use Rattle.reset.proofs.Steps.{walk-long, walk-gone-long, ZoneWalk, zone-begun, walk_start, walk_here, walk-good, walk-few, walk-done, walk-skip}
-use Rattle.reset.proofs.Steps.{walk-live, walk-stays, walk-low, walk-gone-good, walk-run, walk-gone}
-use native.Mathlib.Omega.{arith}
+use Rattle.reset.proofs.Steps.{ZoneWalk}
 use Prim.Native.Nat.{◌-◌}
-use borrow.Author.Tests.{not-true, not-false}
 use Rattle.reset.proofs.sweep_zone.Given as goal
 
 abbrev pub invariant-loop-i : goal.invariant-loop-i

@@ -1,5 +1,4 @@
 -- `find_run` meets its contract. Assumes nothing.
-use native.Mathlib.Omega.{arith}
 use mathlib.Core.Path.{◌≡◌}
 use Rattle.steps.proofs.Body.{has-header, body-holds, of-body}
 use Rattle.pages.specs.Places.{choice}

@@ -1,5 +1,4 @@
 -- `group_at` meets its contract. Assumes nothing.
-use native.Mathlib.Omega.{arith}
 use Rattle.steps.proofs.Body.{has-header, body-holds, in_body}
 use Rattle.pages.specs.Places.{Stands}
 use Rattle.model.specs.Arena.{direct}
@@ -14,9 +13,9 @@ slice_bounds-group-start c = has-header c.requires.lent.0
 
 pub group-requires : goal.group-requires
 group-requires c = let h = c.requires in record {
-        holds = body-holds h.lent.0 _ h.lent.1;
-        by_index = in_body h.lent.0 (λ m. (b : ℕ) × (k g : ℕ) × Stands m c.args.p b (direct k g)) h.by_index;
-    }
+  holds = body-holds h.lent.0 _ h.lent.1;
+  by_index = in_body h.lent.0 (λ m. (b : ℕ) × (k g : ℕ) × Stands m c.args.p b (direct k g)) h.by_index;
+}
 
 pub returns : goal.returns
 returns c = λ b k g s. c.group.ensures b k g (in_body c.requires.lent.0 (λ m. Stands m c.args.p b (direct k g)) s)

@@ -13,7 +13,3 @@ count-requires c = (header-lent c.requires.0, c.requires.1)
 pub returns : goal.returns
 unfolding decode
 returns c = c.count.ensures
-
--- WARN before start
--- WARN before start
--- WARN before start

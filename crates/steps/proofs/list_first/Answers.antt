@@ -13,7 +13,3 @@ first-requires c = (header-lent c.requires.0, c.requires.1)
 pub returns : goal.returns
 unfolding decode
 returns c = c.first.ensures
-
--- WARN before start
--- WARN before start
--- WARN before start

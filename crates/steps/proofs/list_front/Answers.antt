@@ -1,5 +1,4 @@
 -- `list_front` meets its contract. Assumes nothing.
-use native.Mathlib.Omega.{arith}
 use Rattle.metadata.specs.Decoding.{decode}
 use mathlib.Core.Path.{refl}
 use Rattle.steps.proofs.Body.{has-header, header-long}

@@ -1,5 +1,4 @@
 -- `size_at` meets its contract. Assumes nothing.
-use native.Mathlib.Omega.{arith}
 use Rattle.steps.proofs.Body.{has-header, body-holds, in_body}
 use Rattle.pages.specs.Places.{Stands}
 use Rattle.model.specs.Zone.{Zone}
@@ -15,9 +14,9 @@ slice_bounds-size-start c = has-header c.requires.lent.0
 
 pub size-requires : goal.size-requires
 size-requires c = let h = c.requires in record {
-        holds = body-holds h.lent.0 _ h.lent.1;
-        by_index = in_body h.lent.0 (λ m. (b : ℕ) × (x : Segment Zone) × Stands m c.args.p b x) h.by_index;
-    }
+  holds = body-holds h.lent.0 _ h.lent.1;
+  by_index = in_body h.lent.0 (λ m. (b : ℕ) × (x : Segment Zone) × Stands m c.args.p b x) h.by_index;
+}
 
 pub returns : goal.returns
 returns c = λ b x s. c.size.ensures b x (in_body c.requires.lent.0 (λ m. Stands m c.args.p b x) s)

@@ -13,6 +13,3 @@ spare_count-requires c = header-lent c.requires
 pub returns : goal.returns
 unfolding decode
 returns c = c.spare_count.ensures
-
--- WARN before start
--- WARN before start

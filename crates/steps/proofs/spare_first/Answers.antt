@@ -13,6 +13,3 @@ spare_first-requires c = header-lent c.requires
 pub returns : goal.returns
 unfolding decode
 returns c = c.spare_first.ensures
-
--- WARN before start
--- WARN before start

@@ -1,11 +1,7 @@
 -- `zone_full` meets its contract. Assumes nothing.
 use mathlib.Core.Path.{◌∙◌, ap}
 use Rattle.model.specs.Zone.{full}
-use borrow.Author.Rules.{rules}
 use Rattle.steps.proofs.zone_full.Goals as goal
 
 pub returns : goal.returns
 returns c = c.is_full.ensures ∙ ap (λ z. full z) c.zone_part.ensures.1
-
--- inline: λ c κs. search rules
--- inline: λ c κs. search rules

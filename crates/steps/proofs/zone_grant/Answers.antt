@@ -18,13 +18,13 @@ pub slice_bounds-grant-end : goal.slice_bounds-grant-end
 slice_bounds-grant-end c = let h = c.requires in let r = part_end h.0 _ h.1 _ c.words_for-a.ensures in omega arith
 
 pub grant-requires : goal.grant-requires
-grant-requires c = 
+grant-requires c =
     let h = c.requires in
     let a = c.words_for-a.ensures in
     (part-zone h.0 _ h.1 _ a, ap (λ z. full z) (part-is h.0 _ h.1 _ a) ∙ h.2, h.3, h.4)
 
 pub returns : goal.returns
-returns c = 
+returns c =
     let h = c.requires in
     let a = c.words_for-a.ensures in
     let e = c.grant.ensures in

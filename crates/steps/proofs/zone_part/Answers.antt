@@ -16,7 +16,7 @@ pub slice_bounds-result-end : goal.slice_bounds-result-end
 slice_bounds-result-end c = let h = c.requires in let r = part_end h.0 _ h.1 _ c.words_for-a.ensures in omega arith
 
 pub returns : goal.returns
-returns c = 
+returns c =
     let h = c.requires in
     let a = c.words_for-a.ensures in
     (part-zone h.0 _ h.1 _ a, part-is h.0 _ h.1 _ a)

@@ -20,11 +20,11 @@ pub slice_bounds-put_back-end : goal.slice_bounds-put_back-end
 slice_bounds-put_back-end c = let h = c.requires in let r = part_end h.0 _ h.1 _ c.words_for-a.ensures in omega arith
 
 pub put_back-requires : goal.put_back-requires
-put_back-requires c = 
+put_back-requires c =
     let h = c.requires in
     let a = c.words_for-a.ensures in
     (part-zone h.0 _ h.1 _ a, subst (λ z. 0 < get_or z.owners c.args.chunk 0) (sym (part-is h.0 _ h.1 _ a)) h.2)
 
 pub returns : goal.returns
-returns c = 
+returns c =
     let h = c.requires in let a = c.words_for-a.ensures in part-put h.0 _ h.1 _ a (λ z. put_back c.args.chunk z) _ c.put_back.ensures

@@ -17,5 +17,5 @@ pub slice_bounds-set_up-end : goal.slice_bounds-set_up-end
 slice_bounds-set_up-end c = let h = c.requires in let r = part_end h.0 _ h.1 _ c.words_for-a.ensures in omega arith
 
 pub returns : goal.returns
-returns c = 
+returns c =
     let h = c.requires in let a = c.words_for-a.ensures in part-put h.0 _ h.1 _ a (λ _. new_zone c.args.class c.args.group) _ c.set_up.ensures

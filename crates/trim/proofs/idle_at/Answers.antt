@@ -2,7 +2,6 @@
 use native.Mathlib.Omega.{arith}
 use Rattle.trim.proofs.Words.{no-zone, kind-here, kind-idle}
 use mathlib.Core.Path.{sym, ◌∙◌}
-use borrow.Author.Rules.{rules}
 use Rattle.trim.proofs.idle_at.Goals as goal
 
 pub returns-then-kind_at-ne-KIND_ZONE : goal.returns-then-kind_at-ne-KIND_ZONE
@@ -13,5 +12,3 @@ zone_idle-requires c = let h = c.requires in (h.lent, kind-here h.by_index.2 (sy
 
 pub returns : goal.returns
 returns c = λ b x s. c.zone_idle.ensures ∙ kind-idle s (sym (c.kind_at.ensures b x s) ∙ omega arith)
-
--- inline: λ c κs. search rules

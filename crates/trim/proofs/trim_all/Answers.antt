@@ -1,7 +1,6 @@
 -- `trim_all` meets its contract. Assumes nothing.
-use Rattle.trim.proofs.Trimming.{Trimming, trim_start, stands, trim-inside, between, trim-bound, trim-given, trim-past, trim_end, trim-long}
+use Rattle.trim.proofs.Trimming.{trim_start, stands, trim-inside, between, trim-bound, trim-given, trim-past, trim_end}
 use mathlib.Core.Path.{sym, ◌∙◌}
-use Prim.Native.Nat.{◌-◌}
 use native.Mathlib.Omega.{arith}
 use Rattle.trim.proofs.trim_all.Goals as goal
 
@@ -12,69 +11,69 @@ pub loop-p-init : goal.loop-p-init
 loop-p-init c = trim_start c.requires c.spare_none.ensures
 
 pub idle_at-requires : goal.idle_at-requires
-idle_at-requires c = let i = c.loop.invariant in record {
-        lent = i.lent;
-        by_index = (_, _, stands i c.loop-test.true);
-    }
+idle_at-requires c = let i = c.loop-p.invariant in record {
+  lent = i.lent;
+  by_index = (_, _, stands i c.loop-p-test.true);
+}
 
 pub give_zone-len-requires : goal.give_zone-len-requires
-give_zone-len-requires c = 
+give_zone-len-requires c =
     let i = c.loop-p.invariant in
     let h = c.loop-p-test.true in record {
-        lent = (i.lent, i.sweep.size);
-        apart = i.sweep.apart;
-        by_index = (_, _, between i h (sym (c.idle_at.ensures _ _ (stands i h)) ∙ c.if-idle_at.true));
+      lent = (i.lent, i.sweep.size);
+      apart = i.sweep.apart;
+      by_index = (_, _, between i h (sym (c.idle_at.ensures _ _ (stands i h)) ∙ c.if-idle_at.true));
     }
 
 pub overflow_add-p : goal.overflow_add-p
-overflow_add-p c = 
+overflow_add-p c =
     let i = c.loop-p.invariant in
     let h = c.loop-p-test.true in
     let f = sym (c.idle_at.ensures _ _ (stands i h)) ∙ c.if-idle_at.true in
     omega (arith, trim-bound i h f, c.give_zone-len.ensures _ _ (between i h f))
 
 pub loop-p-smaller-then-idle_at : goal.loop-p-smaller-then-idle_at
-loop-p-smaller-then-idle_at c = 
+loop-p-smaller-then-idle_at c =
     let i = c.loop-p.invariant in
     let h = c.loop-p-test.true in
     let f = sym (c.idle_at.ensures _ _ (stands i h)) ∙ c.if-idle_at.true in
     omega (arith, trim-bound i h f, c.give_zone-len.ensures _ _ (between i h f))
 
 pub loop-p-preserved-then-idle_at : goal.loop-p-preserved-then-idle_at
-loop-p-preserved-then-idle_at c = 
+loop-p-preserved-then-idle_at c =
     let i = c.loop-p.invariant in
     let h = c.loop-p-test.true in
     let f = sym (c.idle_at.ensures _ _ (stands i h)) ∙ c.if-idle_at.true in
     trim-given i h f _ _ (c.give_zone-len.ensures _ _ (between i h f))
 
 pub size_at-len-requires : goal.size_at-len-requires
-size_at-len-requires c = 
+size_at-len-requires c =
     let i = c.loop-p.invariant in record {
-        lent = (i.lent, i.sweep.size);
-        by_index = (_, _, stands i c.loop-p-test.true);
+      lent = (i.lent, i.sweep.size);
+      by_index = (_, _, stands i c.loop-p-test.true);
     }
 
 pub run_at-before-requires : goal.run_at-before-requires
-run_at-before-requires c = 
+run_at-before-requires c =
     let i = c.loop-p.invariant in record {
-        lent = (i.lent, i.sweep.size);
-        by_index = (_, _, stands i c.loop-p-test.true);
+      lent = (i.lent, i.sweep.size);
+      by_index = (_, _, stands i c.loop-p-test.true);
     }
 
 pub overflow_add-p-in-loop-p : goal.overflow_add-p-in-loop-p
-overflow_add-p-in-loop-p c = 
+overflow_add-p-in-loop-p c =
     let i = c.loop-p.invariant in
     let h = c.loop-p-test.true in
     omega (arith, trim-inside i h, c.size_at-len.ensures _ _ (stands i h), i.most)
 
 pub loop-p-smaller : goal.loop-p-smaller
-loop-p-smaller c = 
+loop-p-smaller c =
     let i = c.loop-p.invariant in
     let h = c.loop-p-test.true in
     omega (arith, trim-inside i h, c.size_at-len.ensures _ _ (stands i h))
 
 pub loop-p-preserved : goal.loop-p-preserved
-loop-p-preserved c = 
+loop-p-preserved c =
     let i = c.loop-p.invariant in
     let h = c.loop-p-test.true in
     let s = stands i h in
@@ -82,10 +81,3 @@ loop-p-preserved c =
 
 pub returns : goal.returns
 returns c = trim_end c.requires c.spare_none.ensures c.loop-p.invariant c.loop-p-test.false
-
--- no goal of today for tie.Need-same-length invariant-loop decreases-loop
--- same_length : tie.Need-same-length invariant-loop decreases-loop
--- same_length c = let e = emptied c.before in trim-long (start e).pre e.spare-none.ensures c.before.loop.invariant
-
--- WARN step ['loop', 'invariant'] at After-slice_known2 is slice_known2
--- WARN step ['loop-test', 'true'] at At-loop is loop

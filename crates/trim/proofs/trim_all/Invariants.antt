@@ -1,8 +1,6 @@
 -- `trim_all` meets its contract. Assumes nothing.
-use Rattle.trim.proofs.Trimming.{Trimming, trim_start, stands, trim-inside, between, trim-bound, trim-given, trim-past, trim_end, trim-long}
-use mathlib.Core.Path.{sym, ◌∙◌}
+use Rattle.trim.proofs.Trimming.{Trimming}
 use Prim.Native.Nat.{◌-◌}
-use native.Mathlib.Omega.{arith}
 use Rattle.trim.proofs.trim_all.Given as goal
 
 abbrev pub invariant-loop-p : goal.invariant-loop-p

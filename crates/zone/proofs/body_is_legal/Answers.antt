@@ -1,7 +1,5 @@
 -- `body_is_legal` meets its contract, part by part. Assumes nothing.
-use native.Mathlib.Omega.{arith}
 use mathlib.Core.Path.{sym, ◌∙◌}
-use borrow.Author.Tests.{not-true, not-false}
 use Rattle.zone.proofs.Scans.{body-rest, body-slots, body-untouched}
 use Rattle.zone.proofs.body_is_legal.Goals as goal
 
@@ -12,7 +10,7 @@ pub returns-then-not-are_legal : goal.returns-then-not-are_legal
 returns-then-not-are_legal c = body-slots _ (sym c.are_legal.ensures ∙ c.if-not-are_legal.true)
 
 pub returns : goal.returns
-returns c = 
+returns c =
     let end = c.wide-end in
     c.is_zero-2.ensures
     ∙ body-untouched _ _ c.requires.0 c.requires.1 end.ensures (sym c.is_zero.ensures ∙ c.if-not-is_zero.false)

@@ -1,7 +1,5 @@
 -- `check` meets its contract: the head, then the body. Assumes nothing.
-use native.Mathlib.Omega.{arith}
 use mathlib.Core.Path.{sym, ◌∙◌}
-use borrow.Author.Tests.{not-true, not-false}
 use Rattle.zone.proofs.Scans.{check-asks, check-head, check-body}
 use Rattle.zone.proofs.check.Goals as goal
 

@@ -1,7 +1,6 @@
 -- `set_up` meets its contract: cleared words and five stores are the new zone's encoding. Assumes nothing.
 use native.Mathlib.Omega.{arith}
 use lib.ListN.{length-set}
-use borrow.Author.Rules.{rules}
 use Rattle.zone.proofs.Figures.{set-up-encoding}
 use Rattle.zone.proofs.set_up.Goals as goal
 
@@ -18,7 +17,5 @@ pub bounds-part-64 : goal.bounds-part-64
 bounds-part-64 c = simp length-set (omega arith)
 
 pub returns : goal.returns
-returns c = 
+returns c =
     set-up-encoding c.args.part.now _ _ _ c.requires.0 c.requires.1 c.clear.ensures
-
--- inline: λ c. search rules

@@ -1,10 +1,8 @@
 -- `slots::are_legal` meets its contract. The loop's invariant: the slots from `i` on are legal behind `class` where all are. Assumes nothing.
 use Prim.Native.Nat.{◌≤◌, ◌-◌}
-use mathlib.Core.Path.{◌≡◌, refl, ◌∙◌}
-use native.Mathlib.Omega.{arith}
+use mathlib.Core.Path.{◌≡◌}
 use lib.ListN.{length, drop}
 use Rattle.header.specs.Slots.{legal_slots}
-use Rattle.header.proofs.Scans.{legal-end, legal-zero, legal-large, legal-falls, legal-next}
 use Rattle.header.proofs.slots.are_legal.Given as goal
 
 abbrev pub invariant-loop-i : goal.invariant-loop-i

@@ -1,20 +1,19 @@
 -- `slots::count_between` meets its contract. The loop's invariant: `n` is the count over the slots so far. Assumes nothing.
-use Prim.Native.Nat.{ℕ, ◌<◌, ◌≤◌, ◌-◌}
-use mathlib.Core.Logic.{⊎_elim}
+use Prim.Native.Nat.{ℕ, ◌<◌}
 use mathlib.Core.List.{List}
-use mathlib.Core.Path.{◌≡◌, sym, ◌∙◌}
+use mathlib.Core.Path.{sym, ◌∙◌}
 use native.Mathlib.Omega.{arith}
-use lib.ListN.{length, take}
-use Rattle.lemmas.specs.Every.{count}
+use lib.ListN.{length}
 use Rattle.lemmas.proofs.Every.{count-nil, count-pass, count-fail, count-done}
 use Rattle.header.specs.Slots.{holds}
 use Rattle.header.proofs.slots.count_between.Goals as goal
+use Rattle.header.proofs.slots.count_between.Goals.{then-holds, else-holds}
 
 pub loop-i-init : goal.loop-i-init
 loop-i-init c = (omega arith, omega arith, sym (count-nil _))
 
 pub loop-i-preserved : goal.loop-i-preserved
-loop-i-preserved c = 
+loop-i-preserved c =
     let s : List ℕ = c.args.slots.now in
     let i : ℕ = c.loop-i.i in
     let h : i < length s = omega arith in
@@ -22,8 +21,11 @@ loop-i-preserved c =
     let test = holds c.args.low c.args.high in
     let found = sym c.holds.ensures in (
       omega arith,
-      ⊎_elim (omega arith) (omega arith) c.if-holds.branch,
-      ⊎_elim (λ w. w.1 ∙ count-pass test s i 0 h (found ∙ w.0.taken) was.2) (λ w. w.1 ∙ count-fail test s i 0 h (found ∙ w.0.left) was.2) c.if-holds.branch,
+      elim c.if-holds.branch [ then-holds w ↦ omega arith | else-holds w ↦ omega arith ],
+      elim c.if-holds.branch [
+        | then-holds w ↦ w.n-is ∙ count-pass test s i 0 h (found ∙ w.if-holds.true) was.2
+        | else-holds w ↦ w.n-is ∙ count-fail test s i 0 h (found ∙ w.if-holds.false) was.2
+      ],
     )
 
 pub returns : goal.returns

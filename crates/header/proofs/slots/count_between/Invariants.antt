@@ -1,12 +1,8 @@
 -- `slots::count_between` meets its contract. The loop's invariant: `n` is the count over the slots so far. Assumes nothing.
-use Prim.Native.Nat.{ℕ, ◌<◌, ◌≤◌, ◌-◌}
-use mathlib.Core.Logic.{⊎_elim}
-use mathlib.Core.List.{List}
-use mathlib.Core.Path.{◌≡◌, sym, ◌∙◌}
-use native.Mathlib.Omega.{arith}
+use Prim.Native.Nat.{◌≤◌, ◌-◌}
+use mathlib.Core.Path.{◌≡◌}
 use lib.ListN.{length, take}
 use Rattle.lemmas.specs.Every.{count}
-use Rattle.lemmas.proofs.Every.{count-nil, count-pass, count-fail, count-done}
 use Rattle.header.specs.Slots.{holds}
 use Rattle.header.proofs.slots.count_between.Given as goal
 

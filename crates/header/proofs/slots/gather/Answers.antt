@@ -1,8 +1,5 @@
 -- `slots::gather` meets its contract. The loop's invariant: `Gathered`. Assumes nothing.
-use native.Mathlib.Omega.{arith}
-use Prim.Native.Nat.{◌-◌}
-use lib.ListN.{length}
-use Rattle.header.proofs.Scans.{Gathered, gathered-start, gathered-skip, gathered-keep, gathered-done}
+use Rattle.header.proofs.Scans.{gathered-start, gathered-skip, gathered-keep, gathered-done}
 use Rattle.header.proofs.slots.gather.Goals as goal
 
 pub loop-i-init : goal.loop-i-init
@@ -17,7 +14,5 @@ loop-i-preserved c = gathered-keep _ _ _ _ _ c.loop-i.invariant c.loop-i-test.tr
 pub returns : goal.returns
 returns c = gathered-done _ _ _ _ _ c.loop-i.invariant c.loop-i-test.false
 
--- no goal of today for tie.Need-same-length invariant-loop decreases-loop
 -- same_length : tie.Need-same-length invariant-loop decreases-loop
 -- same_length c = c.before.loop.invariant.size
-

@@ -1,8 +1,7 @@
 -- `slots::gather` meets its contract. The loop's invariant: `Gathered`. Assumes nothing.
-use native.Mathlib.Omega.{arith}
 use Prim.Native.Nat.{◌-◌}
 use lib.ListN.{length}
-use Rattle.header.proofs.Scans.{Gathered, gathered-start, gathered-skip, gathered-keep, gathered-done}
+use Rattle.header.proofs.Scans.{Gathered}
 use Rattle.header.proofs.slots.gather.Given as goal
 
 abbrev pub invariant-loop-i : goal.invariant-loop-i

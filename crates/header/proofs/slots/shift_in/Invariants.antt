@@ -1,11 +1,8 @@
 -- `slots::shift_in` meets its contract. The loop's invariant: what is left to shift leads to the same slots. Assumes nothing.
-use Prim.Native.Nat.{◌≤◌, ◌<◌, ◌-◌}
-use mathlib.Core.Path.{◌≡◌, sym, ◌∙◌}
-use native.Mathlib.Omega.{arith}
-use lib.ListN.{length, length-set}
-use borrow.Author.Rules.{rules}
+use Prim.Native.Nat.{◌≤◌, ◌-◌}
+use mathlib.Core.Path.{◌≡◌}
+use lib.ListN.{length}
 use Rattle.header.specs.Slots.{shifted_in}
-use Rattle.header.proofs.Scans.{shift-more, shift-done}
 use Rattle.header.proofs.slots.shift_in.Given as goal
 
 abbrev pub invariant-loop-i : goal.invariant-loop-i

@@ -5,18 +5,18 @@ use Rattle.header.proofs.Scans.{closed-put}
 use Rattle.header.proofs.slots.take_out.Goals as goal
 
 pub offset_bounds-slots-end : goal.offset_bounds-slots-end
-offset_bounds-slots-end c = 
+offset_bounds-slots-end c =
     omega (arith, c.gather-end.ensures.0, length-remove c.args.v c.args.slots.now)
 
 pub slice_bounds-clear-count : goal.slice_bounds-clear-count
-slice_bounds-clear-count c = 
+slice_bounds-clear-count c =
     omega (arith, c.gather-end.ensures.0, length-remove c.args.v c.args.slots.now)
 
 pub slice_bounds-clear-start : goal.slice_bounds-clear-start
-slice_bounds-clear-start c = 
+slice_bounds-clear-start c =
     omega (arith, c.gather-end.ensures.0, length-remove c.args.v c.args.slots.now)
 
 pub returns : goal.returns
-returns c = 
+returns c =
     let gathered = c.gather-end in
-    closed-put _ _ _ _ _ gathered.auto.0 gathered.ensures.0 gathered.ensures.1 c.clear.ensures
+    closed-put _ _ _ _ _ gathered.auto.slots gathered.ensures.0 gathered.ensures.1 c.clear.ensures

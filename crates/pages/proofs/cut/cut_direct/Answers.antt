@@ -17,21 +17,21 @@ pub put_direct-requires : goal.put_direct-requires
 put_direct-requires c = let h = c.requires in low-blank _ _ _ h.0 h.1 h.2 h.3
 
 pub slice_bounds-put_rest-count : goal.slice_bounds-put_rest-count
-slice_bounds-put_rest-count c = 
+slice_bounds-put_rest-count c =
     let h = c.requires in omega (arith, h.2, whole_length _ _ _ _ (direct _ _) h.0 h.1 h.2 h.3 refl c.put_direct.ensures)
 
 pub slice_bounds-put_rest-start : goal.slice_bounds-put_rest-start
-slice_bounds-put_rest-start c = 
+slice_bounds-put_rest-start c =
     let h = c.requires in omega (arith, h.2, whole_length _ _ _ _ (direct _ _) h.0 h.1 h.2 h.3 refl c.put_direct.ensures)
 
 pub slice_bounds-put_rest-end : goal.slice_bounds-put_rest-end
-slice_bounds-put_rest-end c = 
+slice_bounds-put_rest-end c =
     let h = c.requires in omega (arith, h.2, whole_length _ _ _ _ (direct _ _) h.0 h.1 h.2 h.3 refl c.put_direct.ensures)
 
 pub put_rest-requires : goal.put_rest-requires
-put_rest-requires c = 
+put_rest-requires c =
     let h = c.requires in (rest-zero _ _ _ _ (direct _ _) h.0 h.1 h.2 h.3 refl c.put_direct.ensures, omega (arith, h.3))
 
 pub returns : goal.returns
-returns c = 
+returns c =
     let h = c.requires in cut-made _ _ _ _ (direct _ _) h.0 h.1 h.2 h.3 refl c.put_direct.ensures _ c.put_rest.ensures

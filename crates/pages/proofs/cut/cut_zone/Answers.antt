@@ -19,27 +19,27 @@ pub set_up-requires : goal.set_up-requires
 set_up-requires c = let h = c.requires in ((low-blank _ _ zone_pages h.0 (omega arith) h.1 h.2).long, h.3)
 
 pub slice_bounds-put_rest-count : goal.slice_bounds-put_rest-count
-slice_bounds-put_rest-count c = 
+slice_bounds-put_rest-count c =
     let h = c.requires in
     omega (arith, h.1, whole_length _ _ _ zone_pages (zone (new_zone c.args.class c.args.group)) h.0 (omega arith) h.1 h.2 refl (zone-made (new_zone c.args.class c.args.group) c.set_up.ensures))
 
 pub slice_bounds-put_rest-start : goal.slice_bounds-put_rest-start
-slice_bounds-put_rest-start c = 
+slice_bounds-put_rest-start c =
     let h = c.requires in
     omega (arith, h.1, whole_length _ _ _ zone_pages (zone (new_zone c.args.class c.args.group)) h.0 (omega arith) h.1 h.2 refl (zone-made (new_zone c.args.class c.args.group) c.set_up.ensures))
 
 pub slice_bounds-put_rest-end : goal.slice_bounds-put_rest-end
-slice_bounds-put_rest-end c = 
+slice_bounds-put_rest-end c =
     let h = c.requires in
     omega (arith, h.1, whole_length _ _ _ zone_pages (zone (new_zone c.args.class c.args.group)) h.0 (omega arith) h.1 h.2 refl (zone-made (new_zone c.args.class c.args.group) c.set_up.ensures))
 
 pub put_rest-requires : goal.put_rest-requires
-put_rest-requires c = 
+put_rest-requires c =
     let h = c.requires in
     (rest-zero _ _ _ zone_pages (zone (new_zone c.args.class c.args.group)) h.0 (omega arith) h.1 h.2 refl (zone-made (new_zone c.args.class c.args.group) c.set_up.ensures), omega (arith, h.2))
 
 pub returns : goal.returns
-returns c = 
+returns c =
     let h = c.requires in
     cut-made _ _ _ zone_pages (zone (new_zone c.args.class c.args.group)) h.0 (omega arith) h.1 h.2 refl (zone-made (new_zone c.args.class c.args.group) c.set_up.ensures) _
     c.put_rest.ensures

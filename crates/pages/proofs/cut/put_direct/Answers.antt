@@ -2,7 +2,6 @@
 use Rattle.pages.proofs.Words.{stored-direct}
 use lib.ListN.{length-set, set}
 use native.Mathlib.Omega.{arith}
-use borrow.Author.Rules.{rules}
 use Rattle.pages.proofs.cut.put_direct.Goals as goal
 
 pub bounds-part-1 : goal.bounds-part-1
@@ -13,5 +12,3 @@ bounds-part-2 c = let b = c.requires in omega (arith, length-set c.args.part.now
 
 pub returns : goal.returns
 returns c = stored-direct _ _ _ c.requires
-
--- inline: λ c. search rules

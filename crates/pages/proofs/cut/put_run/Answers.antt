@@ -2,7 +2,6 @@
 use Rattle.pages.proofs.Words.{stored-run}
 use lib.ListN.{length-set}
 use native.Mathlib.Omega.{arith}
-use borrow.Author.Rules.{rules}
 use Rattle.pages.proofs.cut.put_run.Goals as goal
 
 pub bounds-part-1 : goal.bounds-part-1
@@ -10,5 +9,3 @@ bounds-part-1 c = let b = c.requires in omega (arith, length-set c.args.part.now
 
 pub returns : goal.returns
 returns c = stored-run _ _ c.requires
-
--- inline: λ c. search rules

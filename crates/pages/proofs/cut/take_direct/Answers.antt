@@ -20,11 +20,11 @@ pub slice_bounds-cut_direct-end : goal.slice_bounds-cut_direct-end
 slice_bounds-cut_direct-end c = let h = c.requires in let r = run_inside h.holds h.by_index.1 (omega (arith, h.by_index.2, h.by_index.3)) in omega arith
 
 pub cut_direct-requires : goal.cut_direct-requires
-cut_direct-requires c = 
+cut_direct-requires c =
     let h = c.requires in
     let r = run_inside h.holds h.by_index.1 (omega (arith, h.by_index.2, h.by_index.3)) in
     (run-part h.holds h.by_index.1 (omega (arith, h.by_index.2, h.by_index.3)), omega (arith, h.by_index.2, h.by_index.3), omega (arith, h.by_index.3), omega arith)
 
 pub returns : goal.returns
-returns c = 
+returns c =
     let h = c.requires in run-put h.holds h.by_index.1 (omega (arith, h.by_index.2, h.by_index.3)) _ (direct _ _) _ c.cut_direct.ensures

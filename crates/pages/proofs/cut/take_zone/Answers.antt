@@ -21,7 +21,7 @@ pub slice_bounds-cut_zone-end : goal.slice_bounds-cut_zone-end
 slice_bounds-cut_zone-end c = let h = c.requires in let r = run_inside h.holds h.by_index.1 (omega (arith, h.by_index.2)) in omega arith
 
 pub cut_zone-requires : goal.cut_zone-requires
-cut_zone-requires c = 
+cut_zone-requires c =
     let h = c.requires in
     let r = run_inside h.holds h.by_index.1 (omega (arith, h.by_index.2)) in
     (run-part h.holds h.by_index.1 (omega (arith, h.by_index.2)), h.by_index.2, omega arith, h.by_index.3)

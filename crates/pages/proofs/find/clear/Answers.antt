@@ -1,7 +1,6 @@
 -- `find::clear` meets its contract. Assumes nothing.
 use mathlib.Core.Path.{sym, ◌∙◌, ap}
 use native.Mathlib.Omega.{arith}
-use borrow.Author.Rules.{rules}
 use Rattle.model.specs.PageMap.{idle_zone}
 use Rattle.pages.specs.Places.{is_clear}
 use Rattle.pages.proofs.Inverse.{stands-zone}
@@ -15,15 +14,15 @@ pub returns-then-kind-ne-KIND_ZONE : goal.returns-then-kind-ne-KIND_ZONE
 returns-then-kind-ne-KIND_ZONE c = λ b x s. let k = c.kind-kind.ensures b x s in clear-no x (λ e. c.if-kind-eq-KIND_RUN.false (k ∙ e)) (λ e. c.if-kind-ne-KIND_ZONE.true (k ∙ e))
 
 pub zone_part-requires : goal.zone_part-requires
-zone_part-requires c = 
+zone_part-requires c =
     let h = c.requires in
     let z = stands-zone h.by_index.2 (sym (c.kind-kind.ensures _ _ h.by_index.2) ∙ omega arith) in record {
-        holds = h.holds;
-        by_index = (h.by_index.0, z.0, z.2);
+      holds = h.holds;
+      by_index = (h.by_index.0, z.0, z.2);
     }
 
 pub is_idle-requires : goal.is_idle-requires
-is_idle-requires c = 
+is_idle-requires c =
     let h = c.requires in
     let z = stands-zone h.by_index.2 (sym (c.kind-kind.ensures _ _ h.by_index.2) ∙ omega arith) in (c.zone_part.ensures h.by_index.0 z.0 z.2).0
 
@@ -31,5 +30,3 @@ pub returns : goal.returns
 returns c = λ b x s.
     let z = stands-zone s (sym (c.kind-kind.ensures b x s) ∙ omega arith) in
     c.is_idle.ensures ∙ ap idle_zone (c.zone_part.ensures b z.0 z.2).1 ∙ ap (λ y. is_clear y) (sym z.1)
-
--- inline: λ c κs. search rules

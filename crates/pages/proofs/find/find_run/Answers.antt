@@ -1,9 +1,8 @@
 -- `find::find_run` meets its contract: run by run, up to one that is long enough. Assumes nothing.
-use Prim.Native.Nat.{◌-◌}
 use mathlib.Core.Path.{◌≡◌}
 use native.Mathlib.Omega.{arith}
 use Rattle.pages.specs.Places.{found, first_run}
-use Rattle.pages.proofs.Search.{Searching, search-start, search-none, run_inside, search-hit, search-past}
+use Rattle.pages.proofs.Search.{search-start, search-none, run_inside, search-hit, search-past}
 use Rattle.pages.proofs.find.find_run.Goals as goal
 use Rattle.pages.proofs.find.find_run.Goals.{After-next_run}
 
@@ -15,9 +14,9 @@ loop-at-init c = search-start _ _ _ c.requires
 
 pub next_run-requires : goal.next_run-requires
 next_run-requires c = let i = c.loop-at.invariant in record {
-        holds = c.requires;
-        by_index = (i.behind, i.walk.left, i.walk.passed);
-    }
+  holds = c.requires;
+  by_index = (i.behind, i.walk.left, i.walk.passed);
+}
 
 pub overflow_add-looked : goal.overflow_add-looked
 overflow_add-looked c = let i = c.loop-at.invariant in let r = run_inside i (next-is (goal.at.overflow_add-looked c).After-next_run) c.in-Run.is in omega (arith, i.few)

@@ -1,19 +1,15 @@
 -- `find::find_trimmed` meets its contract. Assumes nothing.
-use Prim.Native.Nat.{◌-◌}
 use mathlib.Core.Path.{◌≡◌, sym, ◌∙◌}
 use native.Mathlib.Omega.{arith}
 use Rattle.model.specs.Arena.{pages}
-use Rattle.model.specs.PageMap.{idle_zone}
-use Rattle.model.specs.Pages.{claim, joined}
-use Rattle.pages.specs.Decoding.{segments_of}
-use Rattle.pages.specs.Places.{choice, is_clear}
+use Rattle.pages.specs.Places.{is_clear}
 use Rattle.pages.proofs.Walk.{Next}
-use Rattle.pages.proofs.Clear.{Trimming, trim_start, here, trim-clear, trim-hit, trim-past, trim-inside, trim_end}
+use Rattle.pages.proofs.Clear.{trim_start, here, trim-clear, trim-hit, trim-past, trim-inside, trim_end}
 use Rattle.pages.proofs.find.find_trimmed.Goals as goal
 use Rattle.pages.proofs.find.find_trimmed.Goals.{After-clear}
 
 -- The segment at the page, its pages, and whether they would be free.
-segment : (c : After-clear) → Next c.loop-p.invariant.walk
+abbrev segment : (c : After-clear) → Next c.loop-p.invariant.walk
 segment c = here c.loop-p.invariant c.loop-p-test.true
 
 size_is : (c : After-clear) → c.size-len.result ≡ pages (segment c).x
@@ -27,15 +23,15 @@ loop-p-init c = trim_start c.requires
 
 pub size-len-requires : goal.size-len-requires
 size-len-requires c = let k = here c.loop-p.invariant c.loop-p-test.true in record {
-        holds = c.requires;
-        by_index = (_, k.x, k.stands);
-    }
+  holds = c.requires;
+  by_index = (_, k.x, k.stands);
+}
 
 pub clear-requires : goal.clear-requires
-clear-requires c = 
+clear-requires c =
     let k = here c.loop-p.invariant c.loop-p-test.true in record {
-        holds = c.requires;
-        by_index = (_, k.x, k.stands);
+      holds = c.requires;
+      by_index = (_, k.x, k.stands);
     }
 
 pub overflow_add-free : goal.overflow_add-free
@@ -54,19 +50,19 @@ pub look_at-requires : goal.look_at-requires
 look_at-requires c = trim-inside c.loop-p.invariant
 
 pub returns-in-Chosen : goal.returns-in-Chosen
-returns-in-Chosen c = 
+returns-in-Chosen c =
     trim-hit c.loop-p.invariant c.loop-p-test.true _ (size_is (goal.at.returns-in-Chosen c).After-clear) (sym (clear-is (goal.at.returns-in-Chosen c).After-clear) ∙ c.if-clear.false) c.look_at.ensures c.in-Chosen.is
 
 pub overflow_add-p-in-loop-p : goal.overflow_add-p-in-loop-p
-overflow_add-p-in-loop-p c = 
+overflow_add-p-in-loop-p c =
     let r = (segment (goal.at.overflow_add-p-in-loop-p c).After-clear).read in omega (arith, size_is (goal.at.overflow_add-p-in-loop-p c).After-clear)
 
 pub loop-p-smaller : goal.loop-p-smaller
-loop-p-smaller c = 
+loop-p-smaller c =
     let r = (segment (goal.at.loop-p-smaller c).After-clear).read in omega (arith, size_is (goal.at.loop-p-smaller c).After-clear, r.ok.0)
 
 pub loop-p-preserved : goal.loop-p-preserved
-loop-p-preserved c = 
+loop-p-preserved c =
     trim-past c.loop-p.invariant c.loop-p-test.true _ (size_is (goal.at.loop-p-preserved c).After-clear) (sym (clear-is (goal.at.loop-p-preserved c).After-clear) ∙ c.if-clear.false) c.look_at.ensures c.in-Missed.is
 
 pub look_at-requires-2 : goal.look_at-requires-2

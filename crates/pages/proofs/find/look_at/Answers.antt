@@ -1,5 +1,4 @@
 -- `find::look_at` meets its contract. Assumes nothing.
-use native.Mathlib.Omega.{arith}
 use Rattle.pages.proofs.Clear.{look_none, look-short, look-long}
 use Rattle.pages.proofs.find.look_at.Goals as goal
 

@@ -1,12 +1,7 @@
 -- `find::next_run` meets its contract. The loop's invariant: whichever segments begin at the page, the first run of those left is theirs.
 -- Assumes nothing.
-use Prim.Native.Nat.{ℕ, ◌-◌}
-use mathlib.Core.List.{List}
 use native.Mathlib.Omega.{arith}
-use Rattle.model.specs.Arena.{Segment}
-use Rattle.model.specs.Zone.{Zone}
-use Rattle.pages.specs.Decoding.{segments_of}
-use Rattle.pages.specs.Places.{found, Passed, first_run}
+use Rattle.pages.specs.Places.{found, first_run}
 use Rattle.pages.proofs.Walk.{Next, next, walk_end}
 use Rattle.pages.proofs.Search.{Seeking, seek-from, seek-past, seek_hit}
 use Rattle.pages.proofs.find.next_run.Goals as goal
@@ -23,34 +18,34 @@ loop-p-init c = λ b l q. seek-from c.requires.holds q
 
 pub size-len-requires : goal.size-len-requires
 size-len-requires c = record {
-        holds = c.requires.holds;
-        by_index = ((walk c).0, (segment c).x, (segment c).stands);
-    }
+  holds = c.requires.holds;
+  by_index = ((walk c).0, (segment c).x, (segment c).stands);
+}
 
 pub kind-requires : goal.kind-requires
 kind-requires c = record {
-        holds = c.requires.holds;
-        by_index = ((walk (goal.at.kind-requires c).In-loop-p).0, (segment (goal.at.kind-requires c).In-loop-p).x, (segment (goal.at.kind-requires c).In-loop-p).stands);
-    }
+  holds = c.requires.holds;
+  by_index = ((walk (goal.at.kind-requires c).In-loop-p).0, (segment (goal.at.kind-requires c).In-loop-p).x, (segment (goal.at.kind-requires c).In-loop-p).stands);
+}
 
 pub returns-then-kind-eq-KIND_RUN : goal.returns-then-kind-eq-KIND_RUN
-returns-then-kind-eq-KIND_RUN c = 
+returns-then-kind-eq-KIND_RUN c =
     λ b l q. let i = c.loop-p.invariant b l q in
     let there = (next i.1 c.loop-p-test.true).stands in
     seek_hit i c.loop-p-test.true (c.size-len.ensures _ _ there) (c.kind.ensures _ _ there) c.if-kind-eq-KIND_RUN.true
 
 pub overflow_add-p : goal.overflow_add-p
-overflow_add-p c = 
+overflow_add-p c =
     let k = segment (goal.at.overflow_add-p c).In-loop-p in
     let r = k.read in let z = c.size-len.ensures _ _ k.stands in omega arith
 
 pub loop-p-smaller : goal.loop-p-smaller
-loop-p-smaller c = 
+loop-p-smaller c =
     let k = segment (goal.at.loop-p-smaller c).In-loop-p in
     let r = k.read in let z = c.size-len.ensures _ _ k.stands in omega (arith, r.ok.0)
 
 pub loop-p-preserved : goal.loop-p-preserved
-loop-p-preserved c = 
+loop-p-preserved c =
     λ b l q. let i = c.loop-p.invariant b l q in
     let there = (next i.1 c.loop-p-test.true).stands in
     seek-past i c.loop-p-test.true (c.size-len.ensures _ _ there) (c.kind.ensures _ _ there) c.if-kind-eq-KIND_RUN.false

@@ -2,17 +2,15 @@
 -- Assumes nothing.
 use Prim.Native.Nat.{ℕ, ◌-◌}
 use mathlib.Core.List.{List}
-use native.Mathlib.Omega.{arith}
 use Rattle.model.specs.Arena.{Segment}
 use Rattle.model.specs.Zone.{Zone}
 use Rattle.pages.specs.Decoding.{segments_of}
 use Rattle.pages.specs.Places.{found, Passed, first_run}
-use Rattle.pages.proofs.Walk.{Next, next, walk_end}
-use Rattle.pages.proofs.Search.{Seeking, seek-from, seek-past, seek_hit}
+use Rattle.pages.proofs.Search.{Seeking}
 use Rattle.pages.proofs.find.next_run.Given as goal
 
 abbrev pub invariant-loop-p : goal.invariant-loop-p
-invariant-loop-p l = (b : ℕ) (l : List (Segment Zone)) → Passed (segments_of l.words) l.page b l → Seeking l.words l.n (found (first_run l.page l)) l.p
+invariant-loop-p l = (b : ℕ) (r : List (Segment Zone)) → Passed (segments_of l.words) l.page b r → Seeking l.words l.n (found (first_run l.page r)) l.p
 
 abbrev pub decreases-loop-p : goal.decreases-loop-p
 decreases-loop-p l = l.n - l.p

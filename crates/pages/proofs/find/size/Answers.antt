@@ -3,7 +3,6 @@ use Rattle.pages.proofs.Walk.{Read, read_at}
 use Rattle.pages.proofs.Laws.{zone-size}
 use mathlib.Core.Path.{sym, ◌∙◌}
 use native.Mathlib.Omega.{arith}
-use borrow.Author.Rules.{rules}
 use Rattle.pages.proofs.find.size.Goals as goal
 use Rattle.pages.proofs.find.size.Goals.{After-kind}
 
@@ -27,7 +26,5 @@ pub bounds-words-p : goal.bounds-words-p
 bounds-words-p c = let r = told (goal.at.bounds-words-p c).After-kind in omega (arith, r.ok.0)
 
 pub returns : goal.returns
-returns c = 
+returns c =
     λ b x s. c.wide.ensures ∙ (read_at c.requires.holds s).size (λ q. c.if-kind-eq-KIND_ZONE.false (c.kind.ensures _ _ s ∙ q))
-
--- inline: λ c κs. search rules

@@ -2,7 +2,6 @@
 use Rattle.pages.proofs.Fused.{segment-long, erased}
 use lib.ListN.{length-set}
 use native.Mathlib.Omega.{arith}
-use borrow.Author.Rules.{rules}
 use Rattle.pages.proofs.join.erase.Goals as goal
 
 pub bounds-part-0 : goal.bounds-part-0
@@ -19,6 +18,3 @@ bounds-part-2 c = simp length-set (omega (arith, segment-long _ _ c.requires.1 c
 
 pub returns : goal.returns
 returns c = erased _ _ c.requires.1 c.requires.2 c.if-part-eq-KIND_ZONE.false
-
--- inline: λ c. search rules
--- inline: λ c. search rules

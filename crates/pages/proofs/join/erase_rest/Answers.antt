@@ -2,7 +2,6 @@
 use Rattle.pages.proofs.Fused.{rest-long, rest-erased, nothing-erased}
 use lib.ListN.{length-set}
 use native.Mathlib.Omega.{arith}
-use borrow.Author.Rules.{rules}
 use Rattle.pages.proofs.join.erase_rest.Goals as goal
 
 pub returns-then-part-eq0 : goal.returns-then-part-eq0
@@ -16,5 +15,3 @@ bounds-part-1 c = simp length-set (omega (arith, rest-long _ c.requires.0 c.requ
 
 pub returns : goal.returns
 returns c = rest-erased _ c.requires.0 c.requires.1 c.if-part-eq0.false
-
--- inline: λ c. search rules

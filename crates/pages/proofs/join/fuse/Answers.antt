@@ -1,7 +1,6 @@
 -- `join::fuse` meets its contract. Assumes nothing.
 use Rattle.pages.proofs.Fused.{fuse-long, fuse-part, erased-long, rest_part, fuse-blank}
 use native.Mathlib.Omega.{arith}
-use borrow.Author.Rules.{rules}
 use Rattle.pages.proofs.join.fuse.Goals as goal
 
 pub slice_bounds-erase-end : goal.slice_bounds-erase-end
@@ -11,23 +10,21 @@ pub erase-requires : goal.erase-requires
 erase-requires c = let h = c.requires in (h.0, omega (arith, h.1, h.2), fuse-part _ _ _ _ h.0 h.1 h.2 h.3 h.4)
 
 pub slice_bounds-erase_rest-count : goal.slice_bounds-erase_rest-count
-slice_bounds-erase_rest-count c = 
+slice_bounds-erase_rest-count c =
     let h = c.requires in let r = erased-long _ _ _ _ h.0 h.1 h.2 h.3 h.4 _ c.erase.ensures in omega arith
 
 pub slice_bounds-erase_rest-start : goal.slice_bounds-erase_rest-start
-slice_bounds-erase_rest-start c = 
+slice_bounds-erase_rest-start c =
     let h = c.requires in let r = erased-long _ _ _ _ h.0 h.1 h.2 h.3 h.4 _ c.erase.ensures in omega arith
 
 pub slice_bounds-erase_rest-end : goal.slice_bounds-erase_rest-end
-slice_bounds-erase_rest-end c = 
+slice_bounds-erase_rest-end c =
     let h = c.requires in let r = erased-long _ _ _ _ h.0 h.1 h.2 h.3 h.4 _ c.erase.ensures in omega arith
 
 pub erase_rest-requires : goal.erase_rest-requires
-erase_rest-requires c = 
+erase_rest-requires c =
     let h = c.requires in (c.args.after, rest_part _ _ _ _ h.0 h.1 h.2 h.3 h.4 _ c.erase.ensures)
 
 pub put_run-requires : goal.put_run-requires
-put_run-requires c = 
+put_run-requires c =
     let h = c.requires in fuse-blank _ _ _ _ h.0 h.1 h.2 h.3 h.4 _ c.erase.ensures _ c.erase_rest.ensures
-
--- inline: λ c. search rules

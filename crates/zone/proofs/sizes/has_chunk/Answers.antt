@@ -3,7 +3,6 @@ use Prim.Native.Nat.{◌+◌, ◌*◌}
 use mathlib.Core.Path.{ap, ◌∙◌}
 use native.Mathlib.Omega.{arith}
 use lib.Dec.{leb}
-use borrow.Author.Rules.{rules}
 use Rattle.model.specs.Numbers.{zone_bytes}
 use Rattle.zone.proofs.Rooms.{chunk-fits, chunk-ends}
 use Rattle.zone.proofs.sizes.has_chunk.Goals as goal
@@ -13,5 +12,3 @@ overflow_mul-result c = rw c.room.ensures (omega (arith, chunk-ends c.args.class
 
 pub returns : goal.returns
 returns c = let a = c.args in ap (λ r. leb ((a.chunk + 1) * r) zone_bytes) c.room.ensures ∙ chunk-fits a.class a.chunk
-
--- inline: λ c κs. search rules

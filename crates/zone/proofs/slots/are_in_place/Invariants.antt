@@ -1,15 +1,10 @@
 -- `slots::are_in_place` meets its contract. The loop's invariant: nothing was found wrong where all positions so far have their
 -- chunk. Assumes nothing.
-use Prim.Native.Nat.{◌≤◌, ◌<◌, ◌-◌}
-use mathlib.Core.Path.{◌≡◌, sym}
-use native.Mathlib.Omega.{arith}
+use Prim.Native.Nat.{◌≤◌, ◌-◌}
+use mathlib.Core.Path.{◌≡◌}
 use lib.Dec.{eqb}
-use borrow.Author.Rules.{rules}
 use Rattle.lemmas.specs.Below.{all_below}
-use Rattle.lemmas.proofs.Below.{all_none, all_done}
-use Rattle.zone.specs.Encoding.{slot_count}
 use Rattle.zone.specs.Decoding.{in_place}
-use Rattle.zone.proofs.Scans.{chunk-near, place-next}
 use Rattle.zone.proofs.slots.are_in_place.Given as goal
 
 abbrev pub invariant-loop-i : goal.invariant-loop-i

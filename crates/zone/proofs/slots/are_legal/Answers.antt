@@ -1,7 +1,5 @@
 -- `slots::are_legal` meets its contract, part by part. Assumes nothing.
-use Prim.Native.Nat.{ℕ}
 use mathlib.Core.Path.{sym, ap, ◌∙◌}
-use mathlib.Core.List.{List}
 use native.Mathlib.Omega.{arith}
 use borrow.Author.Tests.{lt-ltb, le-ltb}
 use Rattle.lemmas.specs.Every.{every}
@@ -9,35 +7,24 @@ use Rattle.zone.specs.Encoding.{half}
 use Rattle.zone.specs.Decoding.{is_near}
 use Rattle.zone.proofs.Scans.{front, slots-full, slots-far, slots-uncounted, slots-placed}
 use Rattle.zone.proofs.slots.are_legal.Goals as goal
-use Rattle.zone.proofs.slots.are_legal.Goals.{After-survey-upper}
-
--- The arguments.
-abbrev S : tie.After-survey → List ℕ
-S c = (start c).args.slots.now
-
-abbrev K : tie.After-survey → ℕ
-K c = (start c).args.touched
-
-abbrev M : tie.After-survey → ℕ
-M c = (start c).args.chained
 
 pub returns-then-upper-ge-HALF : goal.returns-then-upper-ge-HALF
-returns-then-upper-ge-HALF c = slots-full (S (goal.at.returns-then-upper-ge-HALF c).After-survey-upper) (K (goal.at.returns-then-upper-ge-HALF c).After-survey-upper) (M (goal.at.returns-then-upper-ge-HALF c).After-survey-upper) (sym c.survey-upper.ensures.1 ∙ le-ltb _ _ c.if-upper-ge-HALF.true)
+returns-then-upper-ge-HALF c = slots-full c.args.slots.now c.args.touched c.args.chained (sym c.survey-upper.ensures.1 ∙ le-ltb _ _ c.if-upper-ge-HALF.true)
 
 pub returns-then-lower-ge-FAR : goal.returns-then-lower-ge-FAR
-returns-then-lower-ge-FAR c = 
-    slots-far (S (goal.at.returns-then-lower-ge-FAR c).After-survey-upper) (K (goal.at.returns-then-lower-ge-FAR c).After-survey-upper) (M (goal.at.returns-then-lower-ge-FAR c).After-survey-upper) (omega arith) (omega arith) (sym c.survey-lower.ensures.2 ∙ le-ltb _ _ c.if-lower-ge-FAR.true)
+returns-then-lower-ge-FAR c =
+    slots-far c.args.slots.now c.args.touched c.args.chained (omega arith) (omega arith) (sym c.survey-lower.ensures.2 ∙ le-ltb _ _ c.if-lower-ge-FAR.true)
 
 pub returns-then-lower-upper : goal.returns-then-lower-upper
-returns-then-lower-upper c = 
-    slots-uncounted (S (goal.at.returns-then-lower-upper c).After-survey-upper) (K (goal.at.returns-then-lower-upper c).After-survey-upper) (M (goal.at.returns-then-lower-upper c).After-survey-upper) (omega arith) (λ e. omega (arith, e, c.survey-upper.ensures.0, c.survey-lower.ensures.0))
+returns-then-lower-upper c =
+    slots-uncounted c.args.slots.now c.args.touched c.args.chained (omega arith) (λ e. omega (arith, e, c.survey-upper.ensures.0, c.survey-lower.ensures.0))
 
 pub are_in_place-requires : goal.are_in_place-requires
-are_in_place-requires c = 
+are_in_place-requires c =
     let near = sym c.survey-lower.ensures.2 ∙ lt-ltb c.survey-lower.result.seen _ (omega arith) in
-    (omega arith, omega arith, ap (every is_near) (sym (front (S (goal.at.are_in_place-requires c).After-survey-upper) (M (goal.at.are_in_place-requires c).After-survey-upper))) ∙ near)
+    (omega arith, omega arith, ap (every is_near) (sym (front c.args.slots.now c.args.chained)) ∙ near)
 
 pub returns : goal.returns
-returns c = 
+returns c =
     let bare = sym c.survey-upper.ensures.1 ∙ lt-ltb c.survey-upper.result.seen half (omega arith) in
-    c.are_in_place.ensures ∙ slots-placed (S (goal.at.returns c).After-survey-upper) (K (goal.at.returns c).After-survey-upper) (M (goal.at.returns c).After-survey-upper) (omega arith) bare (omega (arith, c.survey-upper.ensures.0, c.survey-lower.ensures.0))
+    c.are_in_place.ensures ∙ slots-placed c.args.slots.now c.args.touched c.args.chained (omega arith) bare (omega (arith, c.survey-upper.ensures.0, c.survey-lower.ensures.0))

@@ -1,13 +1,8 @@
 -- `slots::survey` meets its contract. The loop's invariant: count and or are those of the slots so far. Assumes nothing.
-use Prim.Native.Nat.{ℕ, ◌<◌, ◌≤◌, ◌-◌}
-use mathlib.Core.List.{List}
-use mathlib.Core.Logic.{⊎_elim}
-use mathlib.Core.Path.{◌≡◌, sym, ◌∙◌}
-use native.Mathlib.Omega.{arith}
+use Prim.Native.Nat.{◌≤◌, ◌-◌}
+use mathlib.Core.Path.{◌≡◌}
 use lib.ListN.{length, take}
-use Rattle.lemmas.proofs.Every.{every-nil, every-done, count-nil, count-pass, count-fail, count-done}
 use Rattle.lemmas.specs.Every.{every, count}
-use Rattle.lemmas.proofs.Bits.{or-below-more}
 use Rattle.zone.specs.Decoding.{is_live, is_bare, is_near}
 use Rattle.zone.proofs.slots.survey.Given as goal
 
