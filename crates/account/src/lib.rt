@@ -1,6 +1,7 @@
 // All the lent words: the groups' figures, and behind them the words of the state. Whether they begin with the words of a valid account
 // (`account-iff`). Any words may be lent.
 #![tactic(auto)]
+
 ghost use Rattle.std.specs.Prelude.{◌≡◌, true, ◌+◌, ◌≤◌, ◌<◌, length};
 ghost use Rattle.lemmas.specs.Below.{all_below};
 ghost use Rattle.model.specs.Numbers.{most_group, most_pages, figure_words};

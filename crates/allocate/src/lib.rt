@@ -1,6 +1,7 @@
 // Allocation (document 01: a request), on all the words of a valid state, once its group, size and ceiling have been tested. Each function
 // does one rule of the model's, out of the steps; the words that it leaves are those of the state that the rule makes.
 #![tactic(auto)]
+
 ghost use Rattle.std.specs.Prelude.{◌≡◌, ◌≤◌, ◌<◌};
 ghost use Rattle.model.specs.State.{list_of};
 ghost use Rattle.model.specs.declared.Answer.TheVariants.{Granted};

@@ -1,6 +1,7 @@
 // The library for C. Each function answers 0 or the papers' number of the refusal, and writes the answer's values, if it has any,
 // through the pointers lent for them. include/nostrimel.h says what a caller must keep.
 #![tactic(auto)]
+
 ghost use Rattle.std.specs.Prelude.{◌≡◌, true, false, cond, length};
 ghost use Rattle.std.proofs.Math.Option.{some};
 ghost use Rattle.model.specs.Calls as rules;
@@ -236,7 +237,6 @@ pub extern "C" fn nostrimel_set_ceiling(meta: &mut [u32], group: u32, ceiling: u
     refusal_of(calls::set_ceiling(meta, group, ceiling))
 }
 
-// The list is a slice of structs, which the borrow checker does not cover: the proof is by hand.
 #[unsafe(no_mangle)]
 pub extern "C" fn nostrimel_holdings(meta: &mut [u32], list: &mut [Holding]) -> u32
     ensures value { result ≡ (reading (answer_of meta.old (rules.act (rules.holdings (length list.old))))).refusal }

@@ -2,6 +2,7 @@
 // writes a file. specs/Replies.antt says what each line is answered with and what it leaves; specs/Session.antt the same of all
 // lines of an input.
 #![tactic(auto)]
+
 ghost use Rattle.std.specs.Prelude.{◌≡◌, length};
 ghost use Rattle.uplink.specs.declared.Line.TheVariants as lines;
 ghost use Rattle.uplink.specs.Fragments.{Sound, held, last_line};

@@ -1,7 +1,7 @@
 // The groups' figures, the first 64 of the lent words: at a start, against a ceiling, and in the list of records that is filled from
-// them. The list is lent: a slice of structs, which the borrow checker does not cover. So `fill` only stores the records, and is proved
-// by a walk of its MIR, by hand.
+// them.
 #![tactic(auto)]
+
 ghost use Rattle.std.specs.Prelude.{◌≡◌, ◌+◌, ◌≤◌, ◌<◌, leb, eqb, length};
 ghost use Rattle.model.specs.Numbers.{most_bytes, most_group, figure_words};
 ghost use Rattle.figures.specs.Encoding.{figure_word, figures_encoding, no_holding, largest, record_in, ceiling_in};

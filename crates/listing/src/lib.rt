@@ -1,6 +1,7 @@
 // The arena's listing as text, from the words of its pages: three sections, of free runs, direct blocks and zones, each after its
 // count. Nothing here changes the words.
 #![tactic(auto)]
+
 ghost use Rattle.std.specs.Prelude.{◌≡◌, true, cond, ℕ, leb, eqb, length};
 ghost use Rattle.model.specs.Arena.{Segment, zone};
 ghost use Rattle.model.specs.Zone.{Zone};

@@ -1,5 +1,6 @@
 // What the benchmarks and the damage test call, which are no Rattle: the check by itself, and the class of a size by itself.
 #![tactic(auto)]
+
 ghost use Rattle.std.specs.Prelude.{◌≡◌, ◌<◌, length, if◌then◌else◌};
 ghost use Rattle.model.specs.Numbers.{large_size};
 ghost use Rattle.account.specs.Decoding.{is_account};

@@ -1,5 +1,6 @@
 // What each of the twelve groups holds, added up from the words of an arena's pages: its live blocks and its held bytes.
 #![tactic(auto)]
+
 ghost use Rattle.std.specs.Prelude.{true, cond, [], ◌++◌, map, ◌≡◌, ℕ, ◌*◌, ◌≤◌, ◌<◌, eqb, length, drop};
 ghost use Rattle.lemmas.specs.Times.{times};
 ghost use Rattle.model.specs.Numbers.{zone_bytes, large_size, most_group};

@@ -3,6 +3,7 @@
 // A writer skips the bytes that lie past the buffer's end, and answers the position after its text all the same. So a buffer of
 // any length may be lent, and on an empty one a writer only measures its text.
 #![tactic(auto)]
+
 ghost use Rattle.std.specs.Prelude.{◌≡◌, cond, [], ◌∷◌, ltb};
 ghost use Rattle.model.specs.Text.{decimal, line};
 ghost use Rattle.text.specs.Writing.{Bounded, Wrote, field, named};

@@ -1,6 +1,7 @@
 // Lines of input to calls, answers to lines, and a reader that takes the input in fragments. Nothing here reads or writes a file:
 // bytes come in lent slices, and texts go into lent buffers.
 #![tactic(auto)]
+
 use model::Call;
 
 pub mod answers;

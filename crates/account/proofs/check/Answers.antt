@@ -2,10 +2,8 @@
 use native.Mathlib.Omega.{arith}
 use mathlib.Core.Path.{sym, ◌∙◌}
 use lib.Seq.{length-take-le}
-use borrow.Author.Tests.{not-true, not-false}
 use Rattle.model.specs.Numbers.{figure_words}
 use Rattle.account.proofs.Checked.{too_short, no-state, figures-decide}
-use borrow.Author.Rules.{rules}
 use Rattle.account.proofs.check.Goals as goal
 
 pub returns-then-words-lt-FIGURE_WORDS : goal.returns-then-words-lt-FIGURE_WORDS
@@ -18,21 +16,9 @@ pub slice_bounds-figures_fit-end : goal.slice_bounds-figures_fit-end
 slice_bounds-figures_fit-end c = sym (length-take-le figure_words c.args.words.now (omega (arith, c.if-words-lt-FIGURE_WORDS.false)))
 
 pub figures_fit-requires : goal.figures_fit-requires
-figures_fit-requires c = 
-    (length-take-le figure_words c.args.words.now (omega (arith, c.if-words-lt-FIGURE_WORDS.false)), sym c.check.ensures ∙ c.if2.false)
+figures_fit-requires c =
+    (length-take-le figure_words c.args.words.now (omega (arith, c.if-words-lt-FIGURE_WORDS.false)), sym c.check.ensures ∙ c.if-not-check.false)
 
 pub returns : goal.returns
-returns c = 
-    c.figures_fit.ensures ∙ figures-decide c.args.words.now (sym c.check.ensures ∙ c.if2.false)
-
--- inline: λ c. search rules
--- inline: λ c. search rules
--- inline: λ c. search rules
--- inline: λ c κs. search rules
--- inline: λ c. search rules
--- inline: λ c. search rules
--- inline: λ c. search rules
--- WARN step ['check', 'ensures'] at After-check-arg is check-arg
--- WARN step ['if2', 'false'] at After-check is check
--- WARN step ['check', 'ensures'] at After-check-arg is check-arg
--- WARN step ['if2', 'false'] at After-check is check
+returns c =
+    c.figures_fit.ensures ∙ figures-decide c.args.words.now (sym c.check.ensures ∙ c.if-not-check.false)

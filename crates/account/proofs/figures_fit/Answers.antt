@@ -1,9 +1,7 @@
 -- `figures_fit` meets its contract. Assumes nothing.
 use native.Mathlib.Omega.{arith}
 use mathlib.Core.Path.{refl, sym, ◌∙◌}
-use borrow.Author.Tests.{not-true, not-false}
 use Rattle.account.proofs.Checked.{state-most, state-inside, state-holds, no-figures, rest-decides, empty-tally}
-use borrow.Author.Rules.{rules}
 use Rattle.account.proofs.figures_fit.Goals as goal
 
 pub words_for-e-requires : goal.words_for-e-requires
@@ -14,9 +12,9 @@ slice_bounds-tally-end c = state-inside _ c.requires.1 _ c.pages-n.ensures _ c.w
 
 pub tally-requires : goal.tally-requires
 tally-requires c = record {
-        holds = state-holds _ c.requires.1 _ c.pages-n.ensures _ c.words_for-e.ensures;
-        tallied = empty-tally;
-    }
+  holds = state-holds _ c.requires.1 _ c.pages-n.ensures _ c.words_for-e.ensures;
+  tallied = empty-tally;
+}
 
 pub overflow_cast-n : goal.overflow_cast-n
 overflow_cast-n c = omega (arith, c.pages-n.ensures, state-most _ c.requires.1)
@@ -25,23 +23,12 @@ pub overflow_mul-n : goal.overflow_mul-n
 overflow_mul-n c = omega (arith, c.pages-n.ensures, state-most _ c.requires.1)
 
 pub returns-then-not-records_fit : goal.returns-then-not-records_fit
-returns-then-not-records_fit c = 
+returns-then-not-records_fit c =
     no-figures c.args.state.now c.requires.1 _ c.pages-n.ensures _ c.words_for-e.ensures c.args.figures.now _ c.tally.ensures _ refl
     (sym c.records_fit.ensures ∙ c.if-not-records_fit.true)
 
 pub returns : goal.returns
-returns c = 
+returns c =
     c.is_zero.ensures
     ∙ rest-decides c.args.state.now c.requires.1 _ c.pages-n.ensures _ c.words_for-e.ensures c.args.figures.now _ c.tally.ensures _ refl
     (sym c.records_fit.ensures ∙ c.if-not-records_fit.false)
-
--- inline: λ c κs. search rules
--- inline: λ c. search rules
--- inline: λ c. search rules
--- inline: λ c. search rules
--- inline: λ c. search rules
--- inline: λ c κs. search rules
--- inline: λ c. search rules
--- inline: λ c. search rules
--- inline: λ c. search rules
--- inline: λ c κs. search rules

@@ -4,7 +4,6 @@ use mathlib.Core.Path.{◌∙◌, ap}
 use Rattle.metadata.specs.Decoding.{is_state}
 use Rattle.account.proofs.Accounts.{passed, has-figures}
 use Rattle.account.proofs.Checked.{behind-is, pages-behind}
-use borrow.Author.Rules.{rules}
 use Rattle.account.proofs.pages.Goals as goal
 
 pub slice_bounds-pages-count : goal.slice_bounds-pages-count
@@ -18,5 +17,3 @@ pages-requires c = ap is_state (behind-is c.args.words.now) ∙ (passed c.args.w
 
 pub returns : goal.returns
 returns c = c.pages.ensures ∙ pages-behind c.args.words.now
-
--- inline: λ c. search rules

@@ -1,34 +1,23 @@
 -- `records_fit` meets its contract. Assumes nothing.
 use native.Mathlib.Omega.{arith}
-use Prim.Native.Nat.{◌≤◌, ◌-◌}
-use mathlib.Core.Path.{◌≡◌, sym, ◌∙◌}
-use mathlib.Core.Bool.{true}
-use borrow.Author.Tests.{not-true, not-false}
-use Rattle.lemmas.specs.Below.{all_below}
-use Rattle.model.specs.Numbers.{most_group}
-use Rattle.account.specs.Decoding.{tally_fits}
+use mathlib.Core.Path.{sym, ◌∙◌}
 use Rattle.account.proofs.Checked.{none-tested, one-fails, one_more, all_tested}
-use borrow.Author.Rules.{rules}
 use Rattle.account.proofs.records_fit.Goals as goal
 
 pub loop-i-init : goal.loop-i-init
 loop-i-init c = let a = c.args in (omega arith, none-tested a.figures.now a.tally.now a.most)
 
 pub returns-then-not-record_fits : goal.returns-then-not-record_fits
-returns-then-not-record_fits c = 
+returns-then-not-record_fits c =
     let a = c.args in
     one-fails a.figures.now a.tally.now a.most c.loop-i.i c.loop-i-test.true (sym c.record_fits.ensures ∙ c.if-not-record_fits.true)
 
 pub loop-i-preserved : goal.loop-i-preserved
-loop-i-preserved c = 
+loop-i-preserved c =
     let a = c.args in
     (omega (arith, c.loop-i-test.true), one_more a.figures.now a.tally.now a.most c.loop-i.i c.loop-i.invariant.1 (sym c.record_fits.ensures ∙ c.if-not-record_fits.false))
 
 pub returns : goal.returns
-returns c = 
+returns c =
     let a = c.args in
     all_tested a.figures.now a.tally.now a.most c.loop-i.i c.loop-i.invariant.0 (omega (arith, c.loop-i-test.false)) c.loop-i.invariant.1
-
--- inline: λ c κs. search rules
--- inline: λ c. search rules
--- inline: λ c. search rules

@@ -1,14 +1,10 @@
 -- `records_fit` meets its contract. Assumes nothing.
-use native.Mathlib.Omega.{arith}
 use Prim.Native.Nat.{◌≤◌, ◌-◌}
-use mathlib.Core.Path.{◌≡◌, sym, ◌∙◌}
+use mathlib.Core.Path.{◌≡◌}
 use mathlib.Core.Bool.{true}
-use borrow.Author.Tests.{not-true, not-false}
 use Rattle.lemmas.specs.Below.{all_below}
 use Rattle.model.specs.Numbers.{most_group}
 use Rattle.account.specs.Decoding.{tally_fits}
-use Rattle.account.proofs.Checked.{none-tested, one-fails, one_more, all_tested}
-use borrow.Author.Rules.{rules}
 use Rattle.account.proofs.records_fit.Given as goal
 
 abbrev pub invariant-loop-i : goal.invariant-loop-i

@@ -4,7 +4,6 @@ use mathlib.Core.Path.{sym}
 use lib.Seq.{length-take-le}
 use Rattle.model.specs.Numbers.{figure_words}
 use Rattle.account.proofs.Checked.{fresh-set-up}
-use borrow.Author.Rules.{rules}
 use Rattle.account.proofs.set_up.Goals as goal
 
 pub slice_bounds-set_up-end-2 : goal.slice_bounds-set_up-end-2
@@ -14,12 +13,5 @@ pub set_up-requires : goal.set_up-requires
 set_up-requires c = length-take-le figure_words c.args.words.now (omega (arith, c.requires.0))
 
 pub returns : goal.returns
-returns c = 
+returns c =
     fresh-set-up c.args.pages c.args.words.now _ _ c.set_up.ensures c.set_up-2.ensures
-
--- inline: λ c. search rules
--- inline: λ c. search rules
--- inline: λ c. search rules
--- inline: λ c. search rules
--- inline: λ c κs. search rules
--- inline: λ c. search rules

@@ -5,7 +5,6 @@ use Rattle.classes.proofs.Rule.{class_for-chunk}
 use Rattle.model.specs.Sizes.{class_of, room}
 use Rattle.model.proofs.Sizes.{classed}
 use Rattle.allocate.proofs.Requests.{small-room, large-room}
-use borrow.Author.Rules.{rules}
 use Rattle.allocate.proofs.room_for.Goals as goal
 use Rattle.allocate.proofs.room_for.Goals.{Else-size-ge-LARGE_SIZE}
 
@@ -21,6 +20,3 @@ room-requires c = let h = c.requires in omega (arith, of-class c, (classed c.arg
 
 pub returns : goal.returns
 returns c = c.room.ensures ∙ ap room (of-class (goal.at.returns c).Else-size-ge-LARGE_SIZE) ∙ small-room c.args.size c.if-size-ge-LARGE_SIZE.false
-
--- inline: λ c κs. search rules
--- inline: λ c. search rules

@@ -6,7 +6,6 @@ use Rattle.metadata.specs.Decoding.{decode}
 use Rattle.allocate.proofs.Requests.{made, small, large}
 use Rattle.model.proofs.Sizes.{classed}
 use native.Mathlib.Omega.{arith}
-use borrow.Author.Rules.{rules}
 use Rattle.allocate.proofs.supply.Goals as goal
 use Rattle.allocate.proofs.supply.Goals.{Then-size-lt-LARGE_SIZE}
 
@@ -15,17 +14,15 @@ of-class : (c : Then-size-lt-LARGE_SIZE) → c.args.class ≡ class_of c.args.si
 of-class c = let h = c.requires in h.group_nonzero.4 ∙ class_for-chunk _ h.group_nonzero.2 c.if-size-lt-LARGE_SIZE.true
 
 pub supply_chunk-requires : goal.supply_chunk-requires
-supply_chunk-requires c = 
+supply_chunk-requires c =
     let h = c.requires in
     let k = classed _ h.group_nonzero.2 c.if-size-lt-LARGE_SIZE.true in
     record { good = h.good; class = omega (arith, k.below, of-class (goal.at.supply_chunk-requires c).Then-size-lt-LARGE_SIZE); least = h.group_nonzero.0; most = h.group_nonzero.1 }
 
 pub returns-then-size-lt-LARGE_SIZE : goal.returns-then-size-lt-LARGE_SIZE
-returns-then-size-lt-LARGE_SIZE c = 
+returns-then-size-lt-LARGE_SIZE c =
     let a = c.args in made (small (decode a.words.now) a.group a.size _ c.if-size-lt-LARGE_SIZE.true (of-class (goal.at.returns-then-size-lt-LARGE_SIZE c).Then-size-lt-LARGE_SIZE)) c.supply_chunk.ensures
 
 pub returns : goal.returns
-returns c = 
+returns c =
     let a = c.args in made (large (decode a.words.now) a.group a.size _ c.if-size-lt-LARGE_SIZE.false c.pages_for.ensures) c.supply_pages.ensures
-
--- inline: λ c κs. search rules

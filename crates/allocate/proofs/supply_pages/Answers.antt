@@ -1,39 +1,34 @@
 -- `supply_pages` meets its contract. Assumes nothing.
 use Rattle.allocate.proofs.Requests.{no-pages, pages-good, pages-free, pages-page, pages-taken}
 use native.Mathlib.Omega.{arith}
-use borrow.Author.Rules.{rules}
 use Rattle.allocate.proofs.supply_pages.Goals as goal
 
 pub take_direct-requires : goal.take_direct-requires
-take_direct-requires c = 
+take_direct-requires c =
     let h = c.requires in
     let k = c.in-Chosen.is in
     let s = c.find_pages.ensures in
     let g = pages-good h.0 h.1 0 k s in
     let r = pages-free h.0 h.1 0 k s in record {
-        lent = (g.lent, g.pages);
-        by_index = (r.behind, r.there, h.1, r.enough);
+      lent = (g.lent, g.pages);
+      by_index = (r.behind, r.there, h.1, r.enough);
     }
 
 pub overflow_cast-result : goal.overflow_cast-result
-overflow_cast-result c = 
+overflow_cast-result c =
     let h = c.requires in
     let p = pages-page h.0 h.1 0 c.in-Chosen.is c.find_pages.ensures in omega arith
 
 pub overflow_mul-result : goal.overflow_mul-result
-overflow_mul-result c = 
+overflow_mul-result c =
     let h = c.requires in
     let p = pages-page h.0 h.1 0 c.in-Chosen.is c.find_pages.ensures in omega arith
 
 pub returns-in-Chosen : goal.returns-in-Chosen
-returns-in-Chosen c = 
+returns-in-Chosen c =
     let h = c.requires in
     pages-taken h.0 h.1 _ c.in-Chosen.is c.find_pages.ensures c.take_direct.ensures
 
 pub returns-in-Missed : goal.returns-in-Missed
-returns-in-Missed c = 
+returns-in-Missed c =
     let h = c.requires in no-pages h.0 h.1 _ c.in-Missed.is c.find_pages.ensures
-
--- inline: λ c κs. search rules
--- inline: λ c. search rules
--- inline: λ c. search rules

@@ -1,21 +1,13 @@
--- `nostrimel_allocate` meets its contract. Assumes nothing.
-use native.Mathlib.Omega.{arith}
-use mathlib.Core.Path.{◌∙◌, ap}
-use mathlib.Core.Option.{some}
-use Rattle.capi.specs.Values.{first_or, second_or}
-use Rattle.capi.proofs.Values.{looked-told}
+-- `nostrimel_allocate` meets its contract: a request's count is always written. Assumes nothing.
+use Rattle.std.proofs.Common.{◌∙◌, ap}
+use Rattle.std.proofs.Math.Option.{some}
 use Rattle.model.specs.Calls.{reading}
+use Rattle.capi.specs.Values.{first_or}
+use Rattle.capi.proofs.Values.{looked-told}
 use Rattle.capi.proofs.nostrimel_allocate.Goals as goal
 
-pub returns : goal.returns
-returns c = 
+pub returns-clause-looked_after : goal.returns-clause-looked_after
+returns-clause-looked_after c =
     let s = c.args in
-    let e = c.call-answer.ensures in
-    let d = c.tell_both.ensures in
-    let count = d.1.0 ∙ ap (λ x. first_or s.looked.now (reading x).values) e.0 in
-    let granted = d.1.1 ∙ ap (λ x. second_or s.offset.now (reading x).values) e.0 in record {
-        value = d.0 ∙ ap (λ x. (reading x).refusal) e.0;
-        meta_after = e.1;
-        offset_after = granted;
-        looked_after = ap some count ∙ looked-told s.meta.now s.group s.size s.looked.now;
-    }
+    let count = c.tell_both.ensures.first_after ∙ ap (λ x. first_or s.looked.now (reading x).values) c.call-answer.ensures.value in
+    ap some count ∙ looked-told s.meta.now s.group s.size s.looked.now

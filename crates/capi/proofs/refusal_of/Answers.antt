@@ -1,5 +1,4 @@
 -- `refusal_of` meets its contract. Assumes nothing.
-use native.Mathlib.Omega.{arith}
 use mathlib.Core.Path.{◌∙◌, ap}
 use Rattle.capi.proofs.Values.{refusal-told}
 use Rattle.capi.proofs.refusal_of.Goals as goal

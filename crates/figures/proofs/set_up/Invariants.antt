@@ -1,9 +1,7 @@
 -- `set_up` meets its contract. The loop's invariant: `at` words are set up. Assumes nothing.
 use Prim.Native.Nat.{◌-◌}
-use mathlib.Core.Path.{sym, ◌∙◌}
 use Rattle.model.specs.Numbers.{figure_words}
-use Rattle.figures.proofs.Encoded.{Begun, begun-none, begun_more, begun_all}
-use borrow.Author.Rules.{rules}
+use Rattle.figures.proofs.Encoded.{Begun}
 use Rattle.figures.proofs.set_up.Given as goal
 
 abbrev pub invariant-loop-at : goal.invariant-loop-at

@@ -1,7 +1,6 @@
 -- `count_rows` meets its contract. The loop's invariant: the rows so far and those of the segments left are all rows. Assumes nothing.
-use Rattle.listing.proofs.Walks.{Counting, count-start, count_next, count-few, count-more, count-end}
+use Rattle.listing.proofs.Walks.{Counting}
 use Prim.Native.Nat.{◌-◌}
-use native.Mathlib.Omega.{arith}
 use Rattle.listing.proofs.count_rows.Given as goal
 
 abbrev pub invariant-loop-p : goal.invariant-loop-p

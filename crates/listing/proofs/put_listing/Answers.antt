@@ -1,5 +1,4 @@
 -- `put_listing` meets its contract: three pieces. Assumes nothing.
-use native.Mathlib.Omega.{arith}
 use Rattle.listing.proofs.Lengths.{listing-bounded}
 use Rattle.listing.proofs.Rows.{left-sections}
 use Rattle.text.proofs.Left.{left_step, left-bounded, left-done}
@@ -9,29 +8,25 @@ use Rattle.listing.proofs.put_listing.Goals as goal
 pub put_section-direct-requires : goal.put_section-direct-requires
 unfolding ascii
 put_section-direct-requires c = record {
-        holds = c.requires;
-        bounded = left-bounded (left-sections {l = c.args.out.now} _ c.requires.sound) (listing-bounded c.requires);
-    }
+  holds = c.requires;
+  bounded = left-bounded (left-sections {l = c.args.out.now} _ c.requires.sound) (listing-bounded c.requires);
+}
 
 pub put_section-zones-requires : goal.put_section-zones-requires
 unfolding ascii
 put_section-zones-requires c = record {
-        holds = c.requires;
-        bounded = left-bounded (left_step (left-sections _ c.requires.sound) c.put-section.ensures) (listing-bounded c.requires);
-    }
+  holds = c.requires;
+  bounded = left-bounded (left_step (left-sections _ c.requires.sound) c.put_section-direct.ensures) (listing-bounded c.requires);
+}
 
 pub put_section-requires : goal.put_section-requires
 unfolding ascii
 put_section-requires c = record {
-        holds = c.requires;
-        bounded = left-bounded (left_step (left_step (left-sections _ c.requires.sound) c.put_section-direct.ensures) c.put-section2.ensures) (listing-bounded c.requires);
-    }
+  holds = c.requires;
+  bounded = left-bounded (left_step (left_step (left-sections _ c.requires.sound) c.put_section-direct.ensures) c.put_section-zones.ensures) (listing-bounded c.requires);
+}
 
 pub returns : goal.returns
 unfolding ascii
-returns c = 
-    left-done (left_step (left_step (left_step (left-sections _ c.requires.sound) c.put_section-direct.ensures) c.put-section2.ensures) c.put_section.ensures)
-
--- WARN step ['put-section', 'ensures'] at After-out is out
--- WARN step ['put-section2', 'ensures'] at After-out2 is out2
--- WARN step ['put-section2', 'ensures'] at After-out2 is out2
+returns c =
+    left-done (left_step (left_step (left_step (left-sections _ c.requires.sound) c.put_section-direct.ensures) c.put_section-zones.ensures) c.put_section.ensures)

@@ -1,6 +1,5 @@
 -- `put_rows` meets its contract. The loop's invariant: the rows of the segments passed have been written. Assumes nothing.
-use Rattle.listing.proofs.Walks.{Writing, write-start, write-next, write-length, write-bounded, write-more, write-end}
-use Prim.Native.Nat.{◌-◌}
+use Rattle.listing.proofs.Walks.{write-start, write-next, write-bounded, write-more, write-end}
 use native.Mathlib.Omega.{arith}
 use Rattle.listing.proofs.put_rows.Goals as goal
 
@@ -8,36 +7,31 @@ pub loop-p-init : goal.loop-p-init
 loop-p-init c = write-start _ _ c.requires.holds
 
 pub put_row-next-requires : goal.put_row-next-requires
-put_row-next-requires c = 
+put_row-next-requires c =
     let k = write-next c.loop-p.invariant c.loop-p-test.true in record {
-        holds = c.requires.holds;
-        by_index = (c.loop-p.invariant.b, k.x, k.stands, write-bounded c.loop-p.invariant c.loop-p-test.true c.requires.bounded);
+      holds = c.requires.holds;
+      by_index = (c.loop-p.invariant.b, k.x, k.stands, write-bounded c.loop-p.invariant c.loop-p-test.true c.requires.bounded);
     }
 
 pub size-p-requires : goal.size-p-requires
-size-p-requires c = 
+size-p-requires c =
     let k = write-next c.loop-p.invariant c.loop-p-test.true in record {
-        holds = c.requires.holds;
-        by_index = (c.loop-p.invariant.b, k.x, k.stands);
+      holds = c.requires.holds;
+      by_index = (c.loop-p.invariant.b, k.x, k.stands);
     }
 
 pub overflow_add-p : goal.overflow_add-p
-overflow_add-p c = 
+overflow_add-p c =
     let k = write-next c.loop-p.invariant c.loop-p-test.true in omega (arith, c.size-p.ensures _ _ k.stands, k.read.inside, k.read.few)
 
 pub loop-p-smaller : goal.loop-p-smaller
-loop-p-smaller c = 
+loop-p-smaller c =
     let k = write-next c.loop-p.invariant c.loop-p-test.true in omega (arith, c.size-p.ensures _ _ k.stands, k.read.inside, k.read.ok.0)
 
 pub loop-p-preserved : goal.loop-p-preserved
-loop-p-preserved c = 
+loop-p-preserved c =
     let k = write-next c.loop-p.invariant c.loop-p-test.true in
     write-more c.loop-p.invariant c.loop-p-test.true _ (c.put_row-next.ensures _ _ k.stands) (c.size-p.ensures _ _ k.stands)
 
 pub returns : goal.returns
 returns c = write-end c.loop-p.invariant c.loop-p-test.false
-
--- no goal of today for tie.Need-same-length invariant-loop decreases-loop
--- same_length : tie.Need-same-length invariant-loop decreases-loop
--- same_length c = write-length c.before.loop.invariant
-

@@ -1,7 +1,6 @@
 -- `put_rows` meets its contract. The loop's invariant: the rows of the segments passed have been written. Assumes nothing.
-use Rattle.listing.proofs.Walks.{Writing, write-start, write-next, write-length, write-bounded, write-more, write-end}
+use Rattle.listing.proofs.Walks.{Writing}
 use Prim.Native.Nat.{◌-◌}
-use native.Mathlib.Omega.{arith}
 use Rattle.listing.proofs.put_rows.Given as goal
 
 abbrev pub invariant-loop-p : goal.invariant-loop-p

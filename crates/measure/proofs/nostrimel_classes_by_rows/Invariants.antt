@@ -1,6 +1,6 @@
 -- `nostrimel_classes_by_rows` meets its contract. The loop's invariant: the sum is that of the numbers so far. Assumes nothing.
-use Rattle.std.proofs.Common.{ℕ, ◌-◌, List, length, arith, rules}
-use Rattle.measure.proofs.Sums.{Added, added_none, added_more, added-all}
+use Rattle.std.proofs.Common.{◌-◌, length}
+use Rattle.measure.proofs.Sums.{Added}
 use Rattle.measure.proofs.nostrimel_classes_by_rows.Given as goal
 
 abbrev pub invariant-loop-i : goal.invariant-loop-i

@@ -3,12 +3,11 @@ use Prim.Native.Nat.{ℕ, ◌+◌, ◌-◌, ◌<◌}
 use Rattle.model.specs.Numbers.{most_group}
 use native.Mathlib.Omega.{arith}
 use lib.ListN.{length-set}
-use borrow.Author.Rules.{rules}
 use Rattle.tally.proofs.Adding.{off-increased, blocks-added}
 use Rattle.tally.proofs.add_blocks.Goals as goal
 
 pub overflow_add-figures : goal.overflow_add-figures
-overflow_add-figures c = 
+overflow_add-figures c =
     let h = c.requires in
     let b : c.args.group - 1 < most_group = omega arith in
     omega (arith, h.4.blocks _ b)
@@ -17,7 +16,7 @@ pub bounds-figures-at-3 : goal.bounds-figures-at-3
 bounds-figures-at-3 c = let h = c.requires in simp length-set (omega (arith, h.4.long))
 
 pub overflow_add-figures-3 : goal.overflow_add-figures-3
-overflow_add-figures-3 c = 
+overflow_add-figures-3 c =
     let h = c.requires in
     let at : ℕ = c.args.group - 1 in
     let b : at < most_group = omega arith in
@@ -28,10 +27,3 @@ bounds-figures-at-4 c = let h = c.requires in simp length-set (omega (arith, h.4
 
 pub returns : goal.returns
 returns c = let h = c.requires in blocks-added _ _ _ _ h.4.long h.0 h.1
-
--- inline: λ c. search rules
--- inline: λ c. search rules
--- inline: λ c. search rules
--- inline: λ c. search rules
--- inline: λ c. search rules
--- inline: λ c. search rules

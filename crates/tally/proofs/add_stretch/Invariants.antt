@@ -1,16 +1,11 @@
 -- `add_stretch` meets its contract. The loop's invariant: the chunks of the groups so far are added. Assumes nothing.
-use Prim.Native.Nat.{ℕ, ◌≤◌, ◌<◌, ◌-◌}
+use Prim.Native.Nat.{◌≤◌, ◌-◌}
 use mathlib.Core.List.{map}
-use native.Mathlib.Omega.{arith}
-use mathlib.Core.Path.{◌≡◌, sym, ◌∙◌}
-use lib.ListN.{length-map}
-use borrow.Author.Rules.{rules}
 use Rattle.lemmas.specs.Times.{times}
 use Rattle.model.specs.Numbers.{most_group}
 use Rattle.zone.specs.Decoding.{owner_in}
-use Rattle.tally.specs.Figures.{stretch, Added}
-use Rattle.tally.proofs.Adding.{up_to, up_none, up_more, up-all, count_most, stretch-within}
-use Rattle.tally.proofs.Squeezed.{times-squeezed}
+use Rattle.tally.specs.Figures.{Added}
+use Rattle.tally.proofs.Adding.{up_to}
 use Rattle.tally.proofs.add_stretch.Given as goal
 
 abbrev pub invariant-loop-group : goal.invariant-loop-group

@@ -1,7 +1,6 @@
 -- `add_zone` meets its contract. Assumes nothing.
 use Prim.Native.Nat.{◌<◌}
 use mathlib.Core.Path.{◌≡◌, sym, ◌∙◌, subst}
-use borrow.Author.Rules.{rules}
 use Rattle.model.specs.Numbers.{class_count}
 use Rattle.model.specs.Zone.{touched}
 use Rattle.zone.specs.Decoding.{zone_of}
@@ -24,19 +23,10 @@ pub slice_bounds-add_slots-end : goal.slice_bounds-add_slots-end
 slice_bounds-add_slots-end c = handed-inside _ c.requires.0 (count c)
 
 pub add_slots-requires : goal.add_slots-requires
-add_slots-requires c = 
+add_slots-requires c =
     let h = handed-asks _ c.requires.0 (count (goal.at.add_slots-requires c).After-wide-end) c.class_of.ensures c.room-room.ensures in
     (h.0, h.1, h.2, c.requires.1)
 
 pub returns : goal.returns
-returns c = 
+returns c =
     handed-added _ c.requires.0 (count (goal.at.returns c).After-wide-end) c.class_of.ensures c.room-room.ensures c.add_slots.ensures
-
--- inline: λ c κs. search rules
--- inline: λ c κs. search rules
--- inline: λ c κs. search rules
--- inline: λ c κs. search rules
--- inline: λ c. search rules
--- inline: λ c. search rules
--- inline: λ c. search rules
--- inline: λ c. search rules

@@ -1,30 +1,27 @@
 -- `count_byte` meets its contract. The loop's invariant: the count is that of the bytes so far. Assumes nothing.
-use Prim.Native.Nat.{ℕ, ◌<◌, ◌≤◌, ◌-◌}
+use Prim.Native.Nat.{ℕ, ◌<◌}
 use mathlib.Core.List.{List}
-use mathlib.Core.Logic.{⊎_elim}
-use mathlib.Core.Path.{◌≡◌, sym, ◌∙◌}
+use mathlib.Core.Path.{sym, ◌∙◌}
 use native.Mathlib.Omega.{arith}
-use lib.Dec.{eqb}
-use lib.ListN.{length, take}
+use lib.ListN.{length}
 use borrow.Author.Tests.{eq-eqb, ne_eqb}
-use Rattle.lemmas.specs.Every.{count}
 use Rattle.lemmas.specs.Times.{times}
 use Rattle.lemmas.proofs.Every.{count-nil, count-pass, count-fail, count-done}
 use Rattle.tally.proofs.count_byte.Goals as goal
+use Rattle.tally.proofs.count_byte.Goals.{then-bytes-i, else-bytes-i}
 
 pub loop-i-init : goal.loop-i-init
 loop-i-init c = (omega arith, omega arith, sym (count-nil _))
 
 pub loop-i-preserved : goal.loop-i-preserved
-loop-i-preserved c = 
+loop-i-preserved c =
     let s : List ℕ = c.args.bytes.now in
     let i : ℕ = c.loop-i.i in
-    let h : i < length s = omega arith in (
-      omega arith,
-      ⊎_elim (omega arith) (omega arith) c.if-bytes-i.branch,
-      ⊎_elim (λ w. w.1 ∙ count-pass _ s i 0 h (eq-eqb _ _ (sym w.0.taken)) c.loop-i.invariant.2)
-          (λ w. w.1 ∙ count-fail _ s i 0 h (ne_eqb _ _ (λ e. w.0.left (sym e))) c.loop-i.invariant.2) c.if-bytes-i.branch,
-    )
+    let h : i < length s = omega arith in
+    elim c.if-bytes-i.branch [
+      | then-bytes-i w ↦ (omega arith, omega arith, w.count-is ∙ count-pass _ s i 0 h (eq-eqb _ _ (sym w.if-bytes-i.true)) c.loop-i.invariant.2)
+      | else-bytes-i w ↦ (omega arith, omega arith, w.count-is ∙ count-fail _ s i 0 h (ne_eqb _ _ (λ e. w.if-bytes-i.false (sym e))) c.loop-i.invariant.2)
+    ]
 
 pub returns : goal.returns
 unfolding times

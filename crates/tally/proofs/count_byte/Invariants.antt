@@ -1,15 +1,9 @@
 -- `count_byte` meets its contract. The loop's invariant: the count is that of the bytes so far. Assumes nothing.
-use Prim.Native.Nat.{ℕ, ◌<◌, ◌≤◌, ◌-◌}
-use mathlib.Core.List.{List}
-use mathlib.Core.Logic.{⊎_elim}
-use mathlib.Core.Path.{◌≡◌, sym, ◌∙◌}
-use native.Mathlib.Omega.{arith}
+use Prim.Native.Nat.{◌≤◌, ◌-◌}
+use mathlib.Core.Path.{◌≡◌}
 use lib.Dec.{eqb}
 use lib.ListN.{length, take}
-use borrow.Author.Tests.{eq-eqb, ne_eqb}
 use Rattle.lemmas.specs.Every.{count}
-use Rattle.lemmas.specs.Times.{times}
-use Rattle.lemmas.proofs.Every.{count-nil, count-pass, count-fail, count-done}
 use Rattle.tally.proofs.count_byte.Given as goal
 
 abbrev pub invariant-loop-i : goal.invariant-loop-i

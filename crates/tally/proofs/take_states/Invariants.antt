@@ -1,11 +1,9 @@
 -- `take_states` meets its contract. The loop's invariant: i states are those in i slots, the others as they were. Assumes nothing.
-use Prim.Native.Nat.{ℕ, ◌≤◌, ◌-◌}
-use mathlib.Core.List.{List, ◌++◌, map}
-use mathlib.Core.Path.{◌≡◌, refl}
-use native.Mathlib.Omega.{arith}
-use lib.ListN.{length, take, drop, length-set}
+use Prim.Native.Nat.{◌≤◌, ◌-◌}
+use mathlib.Core.List.{◌++◌, map}
+use mathlib.Core.Path.{◌≡◌}
+use lib.ListN.{length, take, drop}
 use Rattle.zone.specs.Decoding.{state_in}
-use Rattle.tally.proofs.Squeezed.{squeezed-more, squeezed-done}
 use Rattle.tally.proofs.take_states.Given as goal
 
 abbrev pub invariant-loop-i : goal.invariant-loop-i

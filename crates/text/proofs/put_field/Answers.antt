@@ -1,5 +1,4 @@
 -- `text::put_field` meets its contract: two pieces. Assumes nothing.
-use native.Mathlib.Omega.{arith}
 use Rattle.text.proofs.Lines.{left-field}
 use Rattle.text.proofs.Left.{left_step, left-bounded, left-done}
 use Rattle.text.proofs.put_field.Goals as goal

@@ -2,12 +2,11 @@
 -- Assumes nothing.
 use Prim.Native.Nat.{◌-◌, ◌≤◌}
 use mathlib.Core.List.{[], ◌∷◌}
-use mathlib.Core.Path.{◌≡◌, refl, sym, ap, ◌∙◌}
-use native.Mathlib.Omega.{arith}
+use mathlib.Core.Path.{◌≡◌}
 use lib.ListN.{length, drop}
 use Rattle.model.specs.Text.{line}
-use Rattle.text.proofs.Lines.{fields, line-none, left-line, left-number, left_end}
-use Rattle.text.proofs.Left.{Left, left_step, left-bounded, left-done, wrote_as}
+use Rattle.text.proofs.Lines.{fields}
+use Rattle.text.proofs.Left.{Left}
 use Rattle.text.proofs.put_line.Given as goal
 
 abbrev pub invariant-loop-i : goal.invariant-loop-i

@@ -1,13 +1,10 @@
 -- `text::read_number` meets its contract. The loop's invariant: v fits 32 bits, and what is read from i on, behind digits of the
 -- value v, is what is read at `at`. Assumes nothing.
 use Prim.Native.Nat.{◌-◌, ◌≤◌}
-use mathlib.Core.Path.{◌≡◌, sym, ◌∙◌}
-use native.Mathlib.Omega.{arith}
-use lib.ListN.{length, drop, get_or}
-use borrow.Author.Tests.{not-true, not-false}
+use mathlib.Core.Path.{◌≡◌}
+use lib.ListN.{length, drop}
 use Rattle.text.specs.Numbers.{largest, number_at}
-use Rattle.text.proofs.Scan.{number_on, none-past, none_other, begins, on-end, on-stop, on-zero, on-large, on-more}
-use Rattle.text.proofs.Decimal.{digit-range}
+use Rattle.text.proofs.Scan.{number_on}
 use Rattle.text.proofs.read_number.Given as goal
 
 abbrev pub invariant-loop-i : goal.invariant-loop-i

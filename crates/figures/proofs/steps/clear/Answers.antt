@@ -1,15 +1,7 @@
 -- `steps::clear` meets its contract. Assumes nothing.
 use native.Mathlib.Omega.{arith}
 use lib.ListN.{length-set}
-use borrow.Author.Rules.{rules}
 use Rattle.figures.proofs.steps.clear.Goals as goal
 
 pub bounds-words-index-2 : goal.bounds-words-index-2
 bounds-words-index-2 c = omega (arith, length-set c.args.words.now c.args.index 0)
-
--- inline: λ c. search rules
--- inline: λ c. search rules
--- inline: λ c. search rules
--- inline: λ c. search rules
--- inline: λ c. search rules
--- inline: λ c. search rules

@@ -2,23 +2,8 @@
 use Prim.Native.Nat.{◌-◌}
 use native.Mathlib.Omega.{arith}
 use lib.ListN.{get_or, length-set}
-use borrow.Author.Rules.{rules}
 use Rattle.figures.proofs.steps.take.Goals as goal
 
 pub bounds-words-index-4 : goal.bounds-words-index-4
-bounds-words-index-4 c = 
+bounds-words-index-4 c =
     omega (arith, length-set c.args.words.now c.args.index (get_or c.args.words.now c.args.index 0 - 1))
-
--- inline: λ c. search rules
--- inline: λ c. search rules
--- inline: λ c. search rules
--- inline: λ c. search rules
--- inline: λ c. search rules
--- inline: λ c. search rules
--- inline: λ c. search rules
--- inline: λ c. search rules
--- inline: λ c. search rules
--- inline: λ c. search rules
--- inline: λ c. search rules
--- inline: λ c. search rules
--- inline: λ c. search rules

@@ -6,55 +6,48 @@ use Rattle.uplink.proofs.Says.{named-bounded, named-short, says-granted, says-de
 use Rattle.uplink.proofs.answers.put_answer.Goals as goal
 
 pub put_named-requires : goal.put_named-requires
-put_named-requires c = 
+put_named-requires c =
     named-bounded _ _ _ c.requires (omega arith) (omega arith)
 
 pub put_named-requires-in-Counted : goal.put_named-requires-in-Counted
-put_named-requires-in-Counted c = 
+put_named-requires-in-Counted c =
     named-bounded _ _ _ c.requires (omega arith) (omega arith)
 
 pub returns-in-Granted : goal.returns-in-Granted
 unfolding ascii
 returns-in-Granted c = record {
-        wrote = wrote_as (says-granted c.answer.given.1 c.long.ensures) c.put_named.ensures;
-        upper_bound = named-short _ _ c.put_named.ensures (omega arith) (omega arith);
-    }
+  wrote = wrote_as (says-granted c.in-Granted.is c.long.ensures) c.put_named.ensures;
+  upper_bound = named-short _ _ c.put_named.ensures (omega arith) (omega arith);
+}
 
 pub returns-in-Denied : goal.returns-in-Denied
-returns-in-Denied c = 
-    let p = c.put_refusal.ensures in record {
-        wrote = wrote_as (says-denied c.in-Denied.is) p.0;
-        upper_bound = p.1;
-    }
+returns-in-Denied c = record {
+  wrote = wrote_as (says-denied c.in-Denied.is) c.put_refusal.ensures.wrote;
+  upper_bound = c.put_refusal.ensures.upper_bound;
+}
 
 pub returns-in-Refused : goal.returns-in-Refused
-returns-in-Refused c = 
-    let p = c.put_refusal-in-Refused.ensures in record {
-        wrote = wrote_as (says-refused c.in-Refused.is) p.0;
-        upper_bound = p.1;
-    }
+returns-in-Refused c = record {
+  wrote = wrote_as (says-refused c.in-Refused.is) c.put_refusal-in-Refused.ensures.wrote;
+  upper_bound = c.put_refusal-in-Refused.ensures.upper_bound;
+}
 
 pub returns-in-Done : goal.returns-in-Done
 unfolding ascii
 returns-in-Done c = record {
-        wrote = wrote_as (says-done c.enum_told.given.1) c.put_bytes.ensures;
-        upper_bound = omega (arith, c.put_bytes.ensures.next);
-    }
+  wrote = wrote_as (says-done c.in-Done.is) c.put_bytes.ensures;
+  upper_bound = omega (arith, c.put_bytes.ensures.next);
+}
 
 pub returns-in-Counted : goal.returns-in-Counted
 unfolding ascii
 returns-in-Counted c = record {
-        wrote = wrote_as (says-counted c.answer4.given.1 c.long-in-Counted.ensures) c.put_named-in-Counted.ensures;
-        upper_bound = named-short _ _ c.put_named-in-Counted.ensures (omega arith) (omega arith);
-    }
+  wrote = wrote_as (says-counted c.in-Counted.is c.long-in-Counted.ensures) c.put_named-in-Counted.ensures;
+  upper_bound = named-short _ _ c.put_named-in-Counted.ensures (omega arith) (omega arith);
+}
 
 pub returns-in-Block : goal.returns-in-Block
-returns-in-Block c = 
-    let p = c.put_block.ensures in record {
-        wrote = wrote_as (says-block c.in-Block.is) p.0;
-        upper_bound = p.1;
-    }
-
--- WARN step ['answer', 'given', '1'] at After-known_told is known_told
--- WARN step ['enum_told', 'given', '1'] at After-put_bytes-arg is put_bytes-arg
--- WARN step ['answer4', 'given', '1'] at After-known_told4 is known_told4
+returns-in-Block c = record {
+  wrote = wrote_as (says-block c.in-Block.is) c.put_block.ensures.wrote;
+  upper_bound = c.put_block.ensures.upper_bound;
+}

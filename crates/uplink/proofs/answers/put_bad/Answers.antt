@@ -1,5 +1,4 @@
 -- `uplink::put_bad` meets its contract. Assumes nothing.
-use native.Mathlib.Omega.{arith}
 use Rattle.model.specs.Ascii.{ascii}
 use Rattle.uplink.specs.Answers.{bad_text}
 use Rattle.uplink.proofs.answers.put_bad.Goals as goal

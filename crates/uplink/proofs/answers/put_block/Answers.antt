@@ -8,11 +8,11 @@ use Rattle.uplink.proofs.Says.{pair-bounded, pair-short}
 use Rattle.uplink.proofs.answers.put_block.Goals as goal
 
 pub put_line-requires : goal.put_line-requires
-put_line-requires c = 
+put_line-requires c =
     pair-bounded _ _ _ c.requires (omega arith) (omega arith)
 
 pub returns : goal.returns
 returns c = record {
-        wrote = wrote_as (ap (λ n. line (n ∷ c.long-2.result ∷ [])) c.long.ensures ∙ ap (λ n. line (c.args.group ∷ n ∷ [])) c.long-2.ensures) c.put_line.ensures;
-        upper_bound = pair-short _ _ c.put_line.ensures (omega arith) (omega arith);
-    }
+  wrote = wrote_as (ap (λ n. line (n ∷ c.long-2.result ∷ [])) c.long.ensures ∙ ap (λ n. line (c.args.group ∷ n ∷ [])) c.long-2.ensures) c.put_line.ensures;
+  upper_bound = pair-short _ _ c.put_line.ensures (omega arith) (omega arith);
+}

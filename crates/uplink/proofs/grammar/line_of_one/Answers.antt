@@ -13,10 +13,10 @@ returns-then-letter-eq120 c = rw (ne_eqb _ 115 c.if-letter-eq115.false, eq-eqb _
 
 pub returns-then-letter-eq98 : goal.returns-then-letter-eq98
 unfolding line_of_one
-returns-then-letter-eq98 c = 
+returns-then-letter-eq98 c =
     rw (ne_eqb _ 115 c.if-letter-eq115.false, ne_eqb _ 120 c.if-letter-eq120.false, eq-eqb _ 98 c.if-letter-eq98.true)
 
 pub returns : goal.returns
 unfolding line_of_one
-returns c = 
+returns c =
     rw (ne_eqb _ 115 c.if-letter-eq115.false, ne_eqb _ 120 c.if-letter-eq120.false, ne_eqb _ 98 c.if-letter-eq98.false)

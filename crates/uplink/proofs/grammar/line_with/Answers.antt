@@ -1,5 +1,4 @@
 -- `uplink::line_with` meets its contract. Assumes nothing.
-use native.Mathlib.Omega.{arith}
 use Rattle.uplink.specs.Grammar.{line_with}
 use Rattle.uplink.proofs.grammar.line_with.Goals as goal
 

@@ -1,5 +1,4 @@
 -- `uplink::parse` meets its contract. Assumes nothing.
-use native.Mathlib.Omega.{arith}
 use Rattle.uplink.proofs.Parsing.{line-empty, line-letter}
 use Rattle.uplink.proofs.grammar.parse.Goals as goal
 

@@ -1,12 +1,9 @@
 -- `uplink::feed` meets its contract. The loop's invariant is `Feeding`: from i on, with what the locals hold, the step goes on as it
 -- was to go from `from` on. Assumes nothing.
 use Prim.Native.Nat.{◌-◌}
-use mathlib.Core.Path.{◌≡◌, sym}
-use native.Mathlib.Omega.{arith}
 use lib.ListN.{length}
-use borrow.Author.Rules.{rules}
-use Rattle.uplink.specs.Fragments.{most_line, held}
-use Rattle.uplink.proofs.Steps.{reader, Feeding, feeding-none, feeding-end, feeding-lf, feeding-byte, feeding-over}
+use Rattle.uplink.specs.Fragments.{held}
+use Rattle.uplink.proofs.Steps.{reader, Feeding}
 use Rattle.uplink.proofs.input.feed.Given as goal
 
 abbrev pub invariant-loop-i : goal.invariant-loop-i

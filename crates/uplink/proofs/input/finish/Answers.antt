@@ -12,10 +12,10 @@ pub returns-then-over : goal.returns-then-over
 returns-then-over c = (c.new_reader-fresh.ensures.0, c.new_reader-fresh.ensures.1, last-over _ c.if-over.true)
 
 pub returns-then-len-eq0 : goal.returns-then-len-eq0
-returns-then-len-eq0 c = 
+returns-then-len-eq0 c =
     (c.new_reader-fresh.ensures.0, c.new_reader-fresh.ensures.1, last_none _ c.if-over.false (omega (arith, c.if-len-eq0.true)))
 
 pub returns : goal.returns
-returns c = 
+returns c =
     let h : length c.args.reader.line ≡ most_line = search rules in
     (c.new_reader-fresh.ensures.0, c.new_reader-fresh.ensures.1, ap Whole c.held_line-call.ensures ∙ last-part _ c.if-over.false c.if-len-eq0.false (sym h) c.requires)
