@@ -2,6 +2,7 @@
 // refused otherwise. specs/Calls.antt says what each call answers and leaves; proofs/Promises.antt what follows from it. A group's call
 // that is not refused steps the figures of that group, and no others; so does the setting of its ceiling.
 #![tactic(auto)]
+
 ghost use Rattle.std.specs.Prelude.{◌≡◌, length};
 ghost use Rattle.model.specs.Calls as rules;
 ghost use Rattle.model.specs.Calls.{told_by};

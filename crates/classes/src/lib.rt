@@ -1,6 +1,7 @@
 // The class of a size (document 02, d): looked up in a table that has one entry for each size rounded up to eight bytes.
 // specs/Table.antt says what the entries are, src/entries.rt has them.
 #![tactic(auto)]
+
 ghost use Rattle.std.specs.Prelude.{◌≡◌, ◌<◌, get_or};
 ghost use Rattle.model.specs.Numbers.{large_size};
 ghost use Rattle.model.specs.Sizes.{class_of};

@@ -18,7 +18,7 @@ use Rattle.model.specs.declared.Answer.{Answer}
 use Rattle.model.specs.Sizes.{step, rounded, class_of, room, chunks}
 use Rattle.model.specs.Pages.{claim}
 use Rattle.model.specs.Allocate.{sought}
-use Rattle.model.specs.Calls.{group, trim, query, ceiling, Command, init, act}
+use Rattle.model.specs.Calls.{trim, query, ceiling, Command, init, act}
 use Rattle.model.specs.Perform.{Metadata, perform}
 use Rattle.history.specs.Demand.{History, after_all, begun, SameCeilings, asks, Demand3}
 use Rattle.history.proofs.Theorem.{demand-3}

@@ -11,7 +11,7 @@ use borrow.Author.Tests.{leb-true, leb-false, ltb-true, ltb-false, lt-ltb, le-lt
 use Rattle.lemmas.proofs.Cases.{bool, true-false, clash}
 use Rattle.model.specs.Numbers.{page_bytes, zone_bytes, zone_pages}
 use Rattle.model.specs.Arena.{Segment, run, direct, zone, pages, bytes, total, retold, locate, edit, Each}
-use Rattle.model.specs.PageMap.{Occupancy, occupancy, PageMap, page_map, idle, whole}
+use Rattle.model.specs.PageMap.{Occupancy, occupancy, PageMap, page_map, idle}
 use Rattle.model.specs.Zone.{Zone}
 use Rattle.model.specs.State.{State}
 use Rattle.model.specs.Valid.{ValidSegment, Valid}

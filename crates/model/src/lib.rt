@@ -1,6 +1,7 @@
 // The public types of which the contracts speak, and the little code that every layer shares: numbers, the group test, a refusal's
 // number, a request's refusal. The rules themselves are definitions, in specs/.
 #![tactic(auto)]
+
 ghost use Rattle.std.specs.Prelude.{◌≡◌};
 ghost use Rattle.model.specs.declared.Answer.TheVariants.{Denied};
 ghost use Rattle.model.specs.Calls.{group_ok, is_refused, number as number_of};

@@ -1,5 +1,6 @@
 // Scans over any words: are they all zero, make them zero.
 #![tactic(auto)]
+
 ghost use Rattle.std.specs.Prelude.{◌≡◌, length};
 ghost use Rattle.lemmas.specs.Every.{every};
 ghost use Rattle.lemmas.specs.Zeros.{zeros, is_zero};

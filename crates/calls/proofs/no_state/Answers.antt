@@ -1,6 +1,5 @@
 -- `no_state` meets its contract: each operation is told in its own way. Assumes nothing.
 use mathlib.Core.Path.{sym, ap, ◌∙◌}
-use native.Mathlib.Omega.{arith}
 use Rattle.model.specs.declared.Refusal.TheVariants.{NoState}
 use Rattle.model.specs.Calls.{told_by}
 use Rattle.calls.proofs.no_state.Goals as goal

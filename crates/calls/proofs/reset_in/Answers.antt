@@ -2,7 +2,7 @@
 use native.Mathlib.Omega.{arith}
 use mathlib.Core.Path.{◌≡◌, refl, sym, ap, ◌∙◌}
 use mathlib.Core.Bool.{false}
-use Prim.Native.Nat.{◌-◌}
+use Prim.Native.Nat.{ℕ, ◌-◌}
 use lib.ListN.{length, take}
 use Rattle.lemmas.specs.Parts.{put_mid}
 use Rattle.model.specs.Numbers.{figure_words}
@@ -17,25 +17,24 @@ use Rattle.account.specs.Decoding.{account_in}
 use Rattle.calls.proofs.Acting.{arena-few, arena-valid, arena-inside, arena-good, arena-answer, arena-done, arena-not, figures-there, long-there, arena-stepped, arena-refused}
 use Rattle.calls.proofs.Caller.{caller}
 use Rattle.calls.proofs.Resetting.{reset-needs, reset-done}
-use borrow.Author.Rules.{rules}
 use Rattle.calls.proofs.reset_in.Goals as goal
-use Rattle.calls.proofs.reset_in.Goals.{After-wide-index, Start}
+use Rattle.calls.proofs.reset_in.Goals.{After-wide-index}
 
 -- What is asked.
-abbrev call : tie.Start → Action
-call s = group (record { group = s.args.group; operation = Reset })
+abbrev call : ℕ → Action
+call g = group (record { group = g; operation = Reset })
 
-abbrev asks : tie.Start → State → Outcome State
-asks s = reset s.args.group
+abbrev asks : ℕ → State → Outcome State
+asks g = reset g
 
 -- The figures, as they are lent for their step.
-lent : (c : After-wide-index) → take figure_words (put_mid figure_words (c.words_for-e.result - figure_words) c.args.meta.now c.reset-answer.new.0) ≡ figures_of (account_in c.args.meta.now)
-lent c = figures-there c.requires _ c.words_for-e.ensures (call (c AT Start)) (asks (c AT Start)) refl _ c.reset-answer.ensures.1
+lent : (c : After-wide-index) → take figure_words (put_mid figure_words (c.words_for-e.result - figure_words) c.args.meta.now c.reset-answer.new.words) ≡ figures_of (account_in c.args.meta.now)
+lent c = figures-there c.requires _ c.words_for-e.ensures (call c.args.group) (asks c.args.group) refl _ c.reset-answer.ensures.1
 
 -- It was not refused.
-done : (c : After-wide-index) → is_refused (asks (c AT Start) (account_in c.args.meta.now).state).answer ≡ false
-done c = 
-    arena-done c.requires _ c.words_for-e.ensures (call (c AT Start)) (asks (c AT Start)) refl _ c.reset-answer.ensures.0 _ c.is_refused.ensures c.if-is_refused.false
+done : (c : After-wide-index) → is_refused (asks c.args.group (account_in c.args.meta.now).state).answer ≡ false
+done c =
+    arena-done c.requires _ c.words_for-e.ensures (call c.args.group) (asks c.args.group) refl _ c.reset-answer.ensures.0 _ c.is_refused.ensures c.if-is_refused.false
 
 pub words_for-e-requires : goal.words_for-e-requires
 words_for-e-requires c = arena-few c.requires
@@ -47,38 +46,31 @@ pub reset-answer-requires : goal.reset-answer-requires
 reset-answer-requires c = arena-good c.requires _ c.words_for-e.ensures
 
 pub returns-then-is_refused : goal.returns-then-is_refused
-returns-then-is_refused c = 
+returns-then-is_refused c =
     let e = c.words_for-e.ensures in
     let r = c.reset-answer.ensures in record {
-        value = arena-answer c.requires _ e (call (goal.at.returns-then-is_refused c).Start) (asks (goal.at.returns-then-is_refused c).Start) refl _ r.0;
-        meta_after = arena-refused c.requires _ e (call (goal.at.returns-then-is_refused c).Start) (asks (goal.at.returns-then-is_refused c).Start) refl _ r.1 (arena-not c.requires _ e (call (goal.at.returns-then-is_refused c).Start) (asks (goal.at.returns-then-is_refused c).Start) refl _ r.0 _ c.is_refused.ensures c.if-is_refused.true);
+      value = arena-answer c.requires _ e (call c.args.group) (asks c.args.group) refl _ r.0;
+      meta_after = arena-refused c.requires _ e (call c.args.group) (asks c.args.group) refl _ r.1 (arena-not c.requires _ e (call c.args.group) (asks c.args.group) refl _ r.0 _ c.is_refused.ensures c.if-is_refused.true);
     }
 
 pub overflow_sub-index : goal.overflow_sub-index
-overflow_sub-index c = omega (arith, c.wide-index.ensures, (caller 0 c.args.group Reset _ (done c)).0)
+overflow_sub-index c = omega (arith, c.wide-index.ensures, (caller 0 c.args.group Reset _ (done (goal.at.overflow_sub-index c).After-wide-index)).0)
 
 pub slice_bounds-clear-end : goal.slice_bounds-clear-end
-slice_bounds-clear-end c = long-there c.requires _ c.words_for-e.ensures (call (goal.at.slice_bounds-clear-end c).Start) (asks (goal.at.slice_bounds-clear-end c).Start) refl _ c.reset-answer.ensures.1
+slice_bounds-clear-end c = long-there c.requires _ c.words_for-e.ensures (call c.args.group) (asks c.args.group) refl _ c.reset-answer.ensures.1
 
 pub slice_bounds-clear-end-2 : goal.slice_bounds-clear-end-2
 slice_bounds-clear-end-2 c = sym (ap length (lent (goal.at.slice_bounds-clear-end-2 c).After-wide-index) ∙ length-figures (holding_of (account_in c.args.meta.now)) (ceiling_at (account_in c.args.meta.now)))
 
 pub clear-requires : goal.clear-requires
-clear-requires c = 
+clear-requires c =
     reset-needs (account_in c.args.meta.now) (arena-valid c.requires) c.args.group (done (goal.at.clear-requires c).After-wide-index) _ (lent (goal.at.clear-requires c).After-wide-index) _ (ap (λ g. g - 1) c.wide-index.ensures)
 
 pub returns : goal.returns
-returns c = 
+returns c =
     let e = c.words_for-e.ensures in
     let r = c.reset-answer.ensures in record {
-        value = arena-answer c.requires _ e (call (goal.at.returns c).Start) (asks (goal.at.returns c).Start) refl _ r.0;
-        meta_after = arena-stepped c.requires _ e (call (goal.at.returns c).Start) (asks (goal.at.returns c).Start) refl _ r.1 _
+      value = arena-answer c.requires _ e (call c.args.group) (asks c.args.group) refl _ r.0;
+      meta_after = arena-stepped c.requires _ e (call c.args.group) (asks c.args.group) refl _ r.1 _
           (reset-done (account_in c.args.meta.now) (arena-valid c.requires) c.args.group (done (goal.at.returns c).After-wide-index) _ (lent (goal.at.returns c).After-wide-index) _ (ap (λ g. g - 1) c.wide-index.ensures) _ c.clear.ensures);
     }
-
--- inline: λ c. search rules
--- inline: λ c. search rules
--- inline: λ c κs. search rules
--- inline: λ c. search rules
--- inline: λ c κs. search rules
--- inline: λ c. search rules

@@ -2,7 +2,6 @@
 use mathlib.Core.Path.{ap, ◌∙◌}
 use native.Mathlib.Omega.{arith}
 use lib.ListN.{length, get_or}
-use borrow.Author.Rules.{rules}
 use Rattle.classes.proofs.Rule.{table-length, entry-class}
 use Rattle.classes.proofs.class_in.Goals as goal
 
@@ -10,9 +9,6 @@ pub bounds-table-place : goal.bounds-table-place
 bounds-table-place c = omega (arith, ap length c.requires.table_value ∙ table-length)
 
 pub returns : goal.returns
-returns c = 
+returns c =
     let n = c.args.size in
     c.wide.ensures ∙ (λ j. get_or (c.requires.table_value j) (c.place.ensures.0 j) 0) ∙ entry-class n c.requires.size_nonzero.0 c.requires.size_nonzero.1
-
--- inline: λ c κs. search rules
--- inline: λ c κs. search rules

@@ -13,7 +13,7 @@ returns-then-not-block_is_zero c =
     sym (every-block-not is_zero c.args.s.now i (i + 64 - i) (sym c.block_is_zero.ensures ∙ c.if-not-block_is_zero.true))
 
 pub loop-i-preserved : goal.loop-i-preserved
-loop-i-preserved c = 
+loop-i-preserved c =
     let i = c.loop-i.i in (
       omega arith,
       every-block is_zero c.args.s.now i (i + 64 - i) (i + 64) (omega arith) c.loop-i.invariant.1 (sym c.block_is_zero.ensures ∙ c.if-not-block_is_zero.false),
