@@ -2,17 +2,18 @@
 //! here: the static libraries of the crates `measure`, which has the proved check, and `capi`, which
 //! has the calls; and the program of the crate `bench`.
 //!
-//! `rt staticlib NAME` writes the libraries to target/staticlib below the repository's root, and
-//! `rt check bench` the program to target/bin/bench. The environment variable NOSTRIMEL_STATICLIB
-//! names another folder, by its whole path, that has the libraries already, and NOSTRIMEL_BENCH
-//! another program, by its whole path too.
+//! In a crate's folder `rt lib` writes its static library to out/libNAME.a and `rt run` its program
+//! to out/NAME; the libraries are put into target/staticlib. The environment variable
+//! NOSTRIMEL_STATICLIB names another folder, by its whole path, that has the libraries already, and
+//! NOSTRIMEL_BENCH another program, by its whole path too.
 //!
 //! Both libraries go into one program: the functions that they have in common are not visible
 //! outside each.
 
 use std::env;
+use std::fs;
 use std::path::{Path, PathBuf};
-use std::process::{exit, Command};
+use std::process::{exit, Command, Stdio};
 
 const NAMED_FOLDER: &str = "NOSTRIMEL_STATICLIB";
 const LIBRARIES: [&str; 2] = ["measure", "capi"];
@@ -57,14 +58,12 @@ fn libraries() -> Result<PathBuf, String> {
     }
     let root = watched_repository();
     let folder = root.join("target").join("staticlib");
+    fs::create_dir_all(&folder).map_err(|error| format!("target/staticlib: {error}"))?;
     for library in LIBRARIES {
-        rt(&root, ["staticlib", library])?;
-        if !folder.join(file_of(library)).is_file() {
-            return Err(format!(
-                "rt staticlib {library} left no target/staticlib/{}",
-                file_of(library)
-            ));
-        }
+        let file = file_of(library);
+        let made = rt(&root, "lib", library)?.join(&file);
+        fs::copy(made, folder.join(&file))
+            .map_err(|error| format!("rt lib left no crates/{library}/out/{file}: {error}"))?;
     }
     Ok(folder)
 }
@@ -87,11 +86,10 @@ fn program() -> Result<PathBuf, String> {
         };
     }
     let root = watched_repository();
-    rt(&root, ["check", PROGRAM])?;
-    let program = root.join("target").join("bin").join(PROGRAM);
+    let program = rt(&root, "run", PROGRAM)?.join(PROGRAM);
     match program.is_file() {
         true => Ok(program),
-        false => Err(format!("rt check {PROGRAM} left no target/bin/{PROGRAM}")),
+        false => Err(format!("rt run left no {}", program.display())),
     }
 }
 
@@ -100,23 +98,37 @@ fn watched_repository() -> PathBuf {
     let package = env::var_os("CARGO_MANIFEST_DIR").expect("cargo says where the package is");
     let mut root = PathBuf::from(package);
     root.pop();
-    for watched in ["crates", "crates.txt"] {
-        println!("cargo:rerun-if-changed={}", root.join(watched).display());
+    println!(
+        "cargo:rerun-if-changed={}",
+        root.join("crates.txt").display()
+    );
+    // Not the whole of crates: what rt makes stands in out, and would be a change each time.
+    let crates = fs::read_dir(root.join("crates")).expect("the folder crates");
+    for entry in crates {
+        let folder = entry.expect("an entry").path();
+        for part in ["src", "specs", "proofs"] {
+            let watched = folder.join(part);
+            if watched.is_dir() {
+                println!("cargo:rerun-if-changed={}", watched.display());
+            }
+        }
     }
     root
 }
 
-/// Has the kit prove and write something. What `rt` prints is kept from cargo, which would take
-/// lines of it for this program's.
-fn rt(root: &Path, words: [&str; 2]) -> Result<(), String> {
-    let command = format!("rt {}", words.join(" "));
+/// Has the kit prove and write something of a crate, and gives the folder that has it. What `rt`
+/// prints is kept from cargo, which would take lines of it for this program's.
+fn rt(root: &Path, word: &str, name: &str) -> Result<PathBuf, String> {
+    let folder = root.join("crates").join(name);
+    let command = format!("rt {word} in crates/{name}");
     let done = Command::new("rt")
-        .args(words)
-        .current_dir(root)
+        .arg(word)
+        .current_dir(&folder)
+        .stdin(Stdio::null())
         .output()
         .map_err(|error| format!("{command} does not run: {error}"))?;
     if done.status.success() {
-        return Ok(());
+        return Ok(folder.join("out"));
     }
     let said = [done.stdout, done.stderr].concat();
     let said = String::from_utf8_lossy(&said);

@@ -30,12 +30,17 @@ crates_below() {
 
 # The edits that the prover must refuse.
 all_edits() {
-    find crates -path '*/must-fail/*.edit'
+    find crates -path '*/must-fail/*.edit' ! -path 'crates/*/out/*'
+}
+
+# Has a crate's static library proved and compiled, and puts it into target/staticlib: the crate, a title, and the file for what rt prints.
+kept_library() {
+    follow "$2" kept "$3" env -C "crates/$1" rt lib && mkdir -p target/staticlib && cp "crates/$1/out/lib$1.a" target/staticlib/
 }
 
 # A sum of all that a built file comes from, and of the file itself: the crates without their edits, and their list.
 sum_of() {
-    { echo crates.txt && find crates -type f ! -path '*/must-fail/*' && echo "$1"; } | LC_ALL=C sort | xargs -d '\n' sha256sum | sha256sum
+    { echo crates.txt && find crates -type f ! -path '*/must-fail/*' ! -path 'crates/*/out/*' && echo "$1"; } | LC_ALL=C sort | xargs -d '\n' sha256sum | sha256sum
 }
 
 # Was this file built of the sources that stand here? That is told by a sum beside it. Where the kit is there, it has to be the one that
@@ -54,14 +59,12 @@ set_current() {
 # follow TITLE HOW LOG COMMAND ..: runs the command. What it prints goes to the file LOG, and where HOW is 'shown' to standard output as
 # well. The status is the command's. The functions below see the variables of this one.
 follow() {
-    local title=$1 how=$2 log=$3 crates=0 edits=0 proved=0 tried=0 line='' held='' drawn='' stream runner
-    local began=$SECONDS seen=$SECONDS since
-    local -A ended=() begun=()
-    since=$(date +%s.%N)
+    local title=$1 how=$2 log=$3 crates=0 edits=0 proved=0 tried=0 line='' held='' drawn='' at='' stream runner
+    local began=$SECONDS seen=$SECONDS
     shift 3
-    case "$1 ${2-}" in
-    'rt check' | 'rt staticlib') crates=$(crates_below "${@:3}" | wc -l) ;;
+    case $* in
     'rt ci') crates=$(crates_below | wc -l) edits=$(all_edits | wc -l) ;;
+    'env -C crates/'*' rt '*) crates=$(crates_below "${3#crates/}" | wc -l) ;;
     esac
     : >"$log"
     exec {stream}< <(exec "$@" 2>&1 </dev/null)
@@ -83,7 +86,7 @@ follow() {
     wait "$runner"
 }
 
-# A line of the command's.
+# A line of the command's. A crate of which nothing has changed has none.
 follow_line() {
     printf '%s\n' "$1" >>"$log"
     if [ "$how" = shown ]; then
@@ -91,61 +94,45 @@ follow_line() {
         printf '%s\n' "$1"
         seen=$SECONDS
     fi
-    if [[ $1 =~ ^rt:\ must-fail\ ([^ :]+): ]]; then
-        ended[${BASH_REMATCH[1]}]=1
+    if [[ $1 == 'rt: must-fail '* ]]; then
         tried=$((tried + 1))
-    elif [[ $1 =~ ^rt:\ ([a-z0-9_]+)\ (NOT\ PROVED|proved\ \() ]]; then
-        case $1 in
-        *'(unchanged'*) ;;
-        *) follow_begins "${BASH_REMATCH[1]}" ;;
-        esac
-        ended[${BASH_REMATCH[1]}]=1
+    elif [[ $1 =~ ^rt:\ [a-z0-9_]+\ (NOT\ PROVED|proved)$ ]]; then
+        proved=$((proved + 1))
+    elif [ "$edits" -eq 0 ] && [[ $1 =~ ^rt:\ chose\ --jobs\ [0-9]+\ for\ ([a-z0-9_]+)$ ]]; then
+        follow_begins "${BASH_REMATCH[1]}"
+    elif [ "$edits" -eq 0 ] && [[ $1 == logic=* ]]; then
         proved=$((proved + 1))
     fi
 }
 
-# A second without a line: what has begun meanwhile, and is under way.
+# A second without a line: how long it has been under way.
 follow_second() {
-    local names='' name now=$((SECONDS - began))
-    if [ "$crates" -gt 0 ]; then
-        for name in $(follow_started); do
-            [ -z "${ended[$name]-}" ] || continue
-            [[ $name == */* ]] || follow_begins "$name"
-            names+="${names:+, }$name"
-        done
-    fi
+    local now=$((SECONDS - began))
     if [ -t 2 ]; then
         follow_wipe
-        drawn=$(follow_where "$names" "$now")
+        drawn=$(follow_where "$now")
         drawn=${drawn:0:78}
         printf '%s' "$drawn" >&2
     elif [ $((SECONDS - seen)) -ge "$patience" ]; then
-        follow_where "$names" "$now" >&2
+        follow_where "$now" >&2
         seen=$SECONDS
     fi
 }
 
 # A crate's proof begins; where there is no terminal, that is a line.
 follow_begins() {
-    [ -z "${begun[$1]-}" ] || return 0
-    begun[$1]=1
-    [ -t 2 ] || { echo "$title: proving $1, $((crates - proved)) of $crates crates left" >&2 && seen=$SECONDS; }
-}
-
-# What rt has begun: it keeps a file in target/log for each crate that it proves, and one in target/must-fail for each edit.
-follow_started() {
-    find target/log -maxdepth 1 -name '*.say' -newermt "@$since" -printf '%f\n' 2>/dev/null | sed 's/\.say$//'
-    [ "$proved" -lt "$crates" ] || find target/must-fail -mindepth 2 -maxdepth 2 -name '*.out' -newermt "@$since" -printf '%P\n' 2>/dev/null | sed 's/\.out$//'
+    at=$1
+    [ -t 2 ] || { echo "$title: proving $1, of $crates crates" >&2 && seen=$SECONDS; }
 }
 
 # One line on how far it is.
 follow_where() {
-    if [ "$proved" -lt "$crates" ]; then
-        echo "$title, $2 s: $((crates - proved)) of $crates crates left${1:+, at $1}"
+    if [ "$edits" -gt 0 ] && [ "$proved" -lt "$crates" ]; then
+        echo "$title, $1 s: $((crates - proved)) of $crates crates left"
     elif [ "$tried" -lt "$edits" ]; then
-        echo "$title, $2 s: $((edits - tried)) of $edits edits left${1:+, at $1}"
+        echo "$title, $1 s: $((edits - tried)) of $edits edits left"
     else
-        echo "$title, $2 s"
+        echo "$title, $1 s${at:+: at $at}"
     fi
 }
 

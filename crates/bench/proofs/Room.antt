@@ -10,7 +10,7 @@ use Rattle.model.specs.State.{State}
 use Rattle.model.specs.Calls.{act, listing, is_refused}
 use Rattle.uplink.specs.declared.Line.{Line}
 use Rattle.calls.specs.Calls.{state_of, answer_of}
-use Rattle.calls.proofs.Promises as slab
+use Rattle.calls.proofs.Promises as promises
 use Rattle.calls.proofs.Promises.{longest-few}
 use Rattle.desk.specs.Session.{words_after_all}
 use Rattle.desk.proofs.Session.{words_long}
@@ -23,7 +23,7 @@ reply-room = longest-figures.0
 
 -- No listing of a state is refused.
 pub listing-answered : (w : List ℕ) → length w ≤ bench_words → (s : State) → state_of w ≡ some s → is_refused (answer_of w (act (listing reply_room))) ≡ false
-listing-answered w h s e = ap is_refused (slab.listing-answered w s e reply_room (omega (arith, longest-few w s e bench_pages h, reply-room)))
+listing-answered w h s e = ap is_refused (promises.listing-answered w s e reply_room (omega (arith, longest-few w s e bench_pages h, reply-room)))
 
 -- Nor is one after any lines.
 pub session-answered : (w : List ℕ) → length w ≤ bench_words → (ls : List Line) (s : State) → state_of (words_after_all w ls) ≡ some s → is_refused (answer_of (words_after_all w ls) (act (listing reply_room))) ≡ false
