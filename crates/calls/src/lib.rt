@@ -109,8 +109,7 @@ fn unread() -> Answer
     Answer::Refused(Refusal::NoState)
 }
 
-// Writes what each group holds, group 1 first, to the list, if it has as many records as there are groups. The words are only read. (The
-// list is a slice of structs, which the borrow checker does not cover: the proof is a walk of the function's MIR, by hand.)
+// Writes what each group holds, group 1 first, to the list, if it has as many records as there are groups. The words are only read.
 pub fn holdings(meta: &mut [u32], list: &mut [Holding]) -> Answer
     ensures value { result ≡ answer_of meta.old (rules.act (rules.holdings (length list.old))) }
     ensures meta_after { meta.new ≡ meta_after meta.old (rules.act (rules.holdings (length list.old))) }
