@@ -18,7 +18,7 @@ crates_below() {
         { sub(/#.*/, "") }
         match($0, /:/) {
             name = substr($0, 1, RSTART - 1)
-            gsub(/[ \t]/, "", name)
+            gsub(/^[ \t]+|[ \t].*$/, "", name)
             below[name] = substr($0, RSTART + 1)
         }
         END {

@@ -14,9 +14,14 @@ pub fn listed(root: &Path) -> BTreeMap<String, BTreeSet<String>> {
     let rows = lines.filter_map(|line| line.split_once(':'));
     rows.map(|(name, below)| {
         let below = below.split_whitespace().map(str::to_string);
-        (name.trim().to_string(), below.collect())
+        (name_of(name), below.collect())
     })
     .collect()
+}
+
+/// The name of a crate in front of its line's colon, where a static library's is followed by `staticlib`.
+pub fn name_of(front: &str) -> String {
+    front.split_whitespace().next().unwrap_or("").to_string()
 }
 
 /// The crates of these, and of the kit, that the code, the definitions and the proofs below a crate's folder name.
@@ -42,8 +47,8 @@ fn enter(path: &Path, found: &mut BTreeSet<String>) {
     }
     let text = fs::read_to_string(path).expect("UTF-8");
     let is_letter = |letter: char| letter.is_ascii_alphanumeric() || letter == '_';
-    // A library of another crate's: `Rattle·NAME.`, where a crate's own go on with `·`.
-    for behind in text.split("Rattle·").skip(1) {
+    // A library of a crate's: `Rattle.NAME.`.
+    for behind in text.split("Rattle.").skip(1) {
         let end = behind.find(|letter| !is_letter(letter));
         let (name, rest) = behind.split_at(end.unwrap_or(behind.len()));
         if rest.starts_with('.') {

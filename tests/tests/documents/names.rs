@@ -1,5 +1,6 @@
 //! The names of the tree: files, and what is declared in them.
 
+use crate::edges::name_of;
 use crate::markdown::Token;
 use std::collections::{BTreeMap, BTreeSet};
 use std::fs;
@@ -19,10 +20,10 @@ pub const FOREIGN: [&str; 35] = [
     "io",
     "libc",
     "libnostrimel.a",
-    "axioms=2",
+    "axioms=3",
     "native=",
     "sum=",
-    "rattle-kit-5b-plain",
+    "rattle-kit-13f",
     "memset",
     "search",
     "omega",
@@ -74,7 +75,7 @@ impl Names {
         let list = fs::read_to_string(root.join("crates.txt")).expect("crates.txt");
         let lines = list.lines().filter(|line| !line.starts_with('#'));
         let listed = lines.filter_map(|line| line.split_once(':'));
-        names.crates = listed.map(|(name, _)| name.trim().to_string()).collect();
+        names.crates = listed.map(|(name, _)| name_of(name)).collect();
         names.enter("");
         assert!(
             names.declared.len() > 2_000,
@@ -93,7 +94,7 @@ impl Names {
                 "" => name.clone(),
                 _ => format!("{folder}/{name}"),
             };
-            if path == "target" || path == ".git" {
+            if path == "target" || path == ".git" || path.ends_with("/out") {
                 continue;
             }
             if entry.path().is_dir() {
