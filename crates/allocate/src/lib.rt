@@ -101,7 +101,7 @@ fn granted_at(offset: u32) -> Answer
 // The zone that stands first on the class's list serves; once its last chunk goes, it leaves the list.
 fn serve(words: &mut [u32], n: usize, class: u32, page: u32, group: u32) -> Answer
     requires asked { Asked words.old n class group }
-    requires class_value { front_of (list_of (decode words.old) class) ≡ Page page }
+    requires lists_told { front_of (list_of (decode words.old) class) ≡ Page page }
     ensures { Makes (chunk_from class group (decode words.old) (list_of (decode words.old) class)) result words.new }
 {
     let at = page as usize;
@@ -117,7 +117,7 @@ fn serve(words: &mut [u32], n: usize, class: u32, page: u32, group: u32) -> Answ
 // No zone of the class has a chunk left: the first of the empty list is set up anew.
 fn renew(words: &mut [u32], n: usize, class: u32, page: u32, group: u32) -> Answer
     requires asked { Asked words.old n class group }
-    requires class_value { (front_of (list_of (decode words.old) class) ≡ Nothing) × (front_of (decode words.old).spare ≡ Page page) }
+    requires lists_told { (front_of (list_of (decode words.old) class) ≡ Nothing) × (front_of (decode words.old).spare ≡ Page page) }
     ensures { Makes (chunk_from class group (decode words.old) (list_of (decode words.old) class)) result words.new }
 {
     steps::spare_behind(words);
@@ -129,7 +129,7 @@ fn renew(words: &mut [u32], n: usize, class: u32, page: u32, group: u32) -> Answ
 // The empty list has no zone either: 8 pages are taken from the runs and set up.
 fn open_zone(words: &mut [u32], n: usize, class: u32, group: u32) -> Answer
     requires asked { Asked words.old n class group }
-    requires class_value { (front_of (list_of (decode words.old) class) ≡ Nothing) × (front_of (decode words.old).spare ≡ Nothing) }
+    requires lists_told { (front_of (list_of (decode words.old) class) ≡ Nothing) × (front_of (decode words.old).spare ≡ Nothing) }
     ensures { Makes (chunk_from class group (decode words.old) (list_of (decode words.old) class)) result words.new }
 {
     match find_pages(words, n, ZONE_PAGES) {
@@ -177,7 +177,7 @@ fn pages_for(size: u32) -> u32
 // been tested.) The class is that of its chunk, if it takes one: it is looked up once, by the caller, who needs it for the room too.
 pub fn supply(words: &mut [u32], n: usize, group: u32, size: u32, class: u32) -> Answer
     requires good { Good words.old n }
-    requires group_nonzero { (0 < group) × (group ≤ most_group) × (0 < size) × (size ≤ most_bytes) × (class ≡ class_for size) }
+    requires legal_request { (0 < group) × (group ≤ most_group) × (0 < size) × (size ≤ most_bytes) × (class ≡ class_for size) }
     ensures { Makes (supplied group size (decode words.old)) result words.new }
 {
     if size < LARGE_SIZE {

@@ -29,9 +29,9 @@ struct Served {
 
 // The words that the program begins with, all zero: they encode no valid state.
 fn fresh_words() -> [u32; WORDS]
-    ensures bench_words_value { bench_words ≡ length result }
+    ensures word_count { bench_words ≡ length result }
     ensures value { result ≡ zeros bench_words }
-    ensures result_value { is_account result ≡ false }
+    ensures encodes_none { is_account result ≡ false }
 {
     [0; WORDS]
 }
@@ -64,7 +64,7 @@ fn serve_fragment(
     out: &mut [u8],
 ) -> Served
     requires sound { Sound reader }
-    requires reply_room_in_bounds { reply_room ≤ length out.old }
+    requires reply_fits { reply_room ≤ length out.old }
     ensures { ServedAll (held reader) meta.old fragment.now result meta.new }
 {
     let mut reader = reader;
@@ -91,7 +91,7 @@ fn serve_fragment(
 // The end of the input: a last line without LF.
 fn serve_end(rt: &HostRuntime, reader: Reader, meta: &mut [u32], out: &mut [u8])
     requires sound { Sound reader }
-    requires reply_room_in_bounds { reply_room ≤ length out.old }
+    requires reply_fits { reply_room ≤ length out.old }
 {
     let len = desk::serve_last(reader, meta, &mut out[..REPLY]);
     write_out(rt, &out[..len]);
@@ -106,7 +106,7 @@ fn serve_read(
     out: &mut [u8],
 ) -> Served
     requires sound { Sound reader }
-    requires reply_room_in_bounds { reply_room ≤ length out.old }
+    requires reply_fits { reply_room ≤ length out.old }
     ensures { Sound result.reader }
 {
     let mut stdin = rt.stdin();

@@ -39,7 +39,7 @@ pub enum Place {
 // The live chunk that begins `away` bytes behind the start of the zone at page `at`.
 fn find_chunk(words: &[u32], n: usize, at: usize, before: usize, away: u32) -> Place
     requires good { Good words.now n }
-    requires away_lt_zone_bytes { ((z : Zone) × Stands (decode words.now).segments at before (zone z)) × (away < zone_bytes) }
+    requires inside_zone { ((z : Zone) × Stands (decode words.now).segments at before (zone z)) × (away < zone_bytes) }
     ensures { Tells (decode words.now) (at * page_bytes + away) result }
 {
     let class = steps::zone_class(words, at);

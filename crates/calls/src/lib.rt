@@ -145,7 +145,7 @@ pub fn set_ceiling(meta: &mut [u32], group: u32, ceiling: u32) -> Answer
 // The group is granted a block of so many bytes, if the pages that it needs are found.
 fn grant_in(meta: &mut [u32], n: usize, group: u32, size: u32, class: u32, room: u32) -> Answer
     requires arena { Arena meta.old n × Accepted (account_in meta.old) group size }
-    requires class_value { (class ≡ class_for size) × (room ≡ room_for size) }
+    requires size_told { (class ≡ class_for size) × (room ≡ room_for size) }
     ensures value { result ≡ answer_of meta.old (rules.act (rules.group (record { group = group; operation = operation.Allocate size }))) }
     ensures meta_after { meta.new ≡ meta_after meta.old (rules.act (rules.group (record { group = group; operation = operation.Allocate size }))) }
 {

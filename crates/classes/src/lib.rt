@@ -63,7 +63,7 @@ pub fn table() -> [u8; ENTRY_COUNT]
 // The class of a size below 8,192, by the table that the caller has.
 pub fn class_in(table: &[u8], size: u32) -> u32
     requires table_value { table.now ≡ class_table }
-    requires size_nonzero { (0 < size) × (size < large_size) }
+    requires chunk_sized { (0 < size) × (size < large_size) }
     ensures { result ≡ class_of size }
 {
     wide(table[place(size)])

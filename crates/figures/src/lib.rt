@@ -41,8 +41,8 @@ pub fn set_up(words: &mut [u32])
 
 // Whether the group at the index stays within its ceiling, if it gets a block of so many bytes.
 pub fn within(words: &[u32], index: usize, room: u32) -> bool
-    requires words_len { (length words.now ≡ figure_words) × (index < most_group) }
-    requires index_bound { ((record_in words.now index).held ≤ most_bytes) × (room ≤ most_bytes) }
+    requires record_there { (length words.now ≡ figure_words) × (index < most_group) }
+    requires bounded_bytes { ((record_in words.now index).held ≤ most_bytes) × (room ≤ most_bytes) }
     ensures { result ≡ leb ((record_in words.now index).held + room) (ceiling_in words.now index) }
 {
     words[AT_HELD + index] + room <= words[AT_CEILING + index]

@@ -19,8 +19,8 @@ fn greater(a: u32, b: u32) -> u32
 
 // The group holds one block more, of so many bytes; its greatest is raised, if it holds more now than ever.
 pub fn add(words: &mut [u32], index: usize, room: u32)
-    requires words_len { (length words.old ≡ figure_words) × (index < most_group) }
-    requires index_bound { ((record_in words.old index).blocks ≤ most_bytes) × ((record_in words.old index).held + room ≤ most_bytes) }
+    requires record_there { (length words.old ≡ figure_words) × (index < most_group) }
+    requires bounded_bytes { ((record_in words.old index).blocks ≤ most_bytes) × ((record_in words.old index).held + room ≤ most_bytes) }
     ensures { words.new ≡ added index room words.old }
 {
     let blocks = words[index] + 1;
@@ -33,8 +33,8 @@ pub fn add(words: &mut [u32], index: usize, room: u32)
 
 // The group holds one block less, of so many bytes.
 pub fn take(words: &mut [u32], index: usize, room: u32)
-    requires words_len { (length words.old ≡ figure_words) × (index < most_group) }
-    requires blocks_nonzero { (0 < (record_in words.old index).blocks) × (room ≤ (record_in words.old index).held) }
+    requires record_there { (length words.old ≡ figure_words) × (index < most_group) }
+    requires holds_block { (0 < (record_in words.old index).blocks) × (room ≤ (record_in words.old index).held) }
     ensures { words.new ≡ taken index room words.old }
 {
     let blocks = words[index] - 1;

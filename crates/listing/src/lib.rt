@@ -44,7 +44,7 @@ fn put_zone(out: &mut [u8], at: usize, part: &[u32], p: usize) -> usize
 // The row of the segment at page p, if it is of the kind.
 fn put_row(out: &mut [u8], at: usize, words: &[u32], n: usize, p: usize, kind: u32) -> usize
     requires holds { Holds words.now n }
-    requires by_index { (b : ℕ) × (x : Segment Zone) × Stands (segments_of words.now) p b x × Bounded at (lines (rows_at kind p x)) }
+    requires placed { (b : ℕ) × (x : Segment Zone) × Stands (segments_of words.now) p b x × Bounded at (lines (rows_at kind p x)) }
     ensures { (b : ℕ) (x : Segment Zone) → Stands (segments_of words.now) p b x → Wrote out.old at (lines (rows_at kind p x)) result out.new }
 {
     if pages::find::kind(words, n, p) != kind {

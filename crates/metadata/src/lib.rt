@@ -48,7 +48,7 @@ fn zone_open(part: &[u32]) -> u32
 // Whether the segment at page p, if it is a zone, stands where it should.
 fn fits_at(head: &[u32], words: &[u32], n: usize, p: usize) -> bool
     requires header { Header head.now × Holds words.now n }
-    requires by_index { (b : ℕ) × (x : Segment Zone) × Stands (segments_of words.now) p b x }
+    requires placed { (b : ℕ) × (x : Segment Zone) × Stands (segments_of words.now) p b x }
     ensures { (b : ℕ) (x : Segment Zone) → Stands (segments_of words.now) p b x → result ≡ segment_fits (spare_in head.now) (lists_in head.now) p x }
 {
     if pages::find::kind(words, n, p) != KIND_ZONE {
@@ -61,7 +61,7 @@ fn fits_at(head: &[u32], words: &[u32], n: usize, p: usize) -> bool
 // 1 if the segment at page p is a zone that has a chunk not live, else 0.
 fn open_at(words: &[u32], n: usize, p: usize) -> u32
     requires holds { Holds words.now n }
-    requires by_index { (b : ℕ) × (x : Segment Zone) × Stands (segments_of words.now) p b x }
+    requires placed { (b : ℕ) × (x : Segment Zone) × Stands (segments_of words.now) p b x }
     ensures { (b : ℕ) (x : Segment Zone) → Stands (segments_of words.now) p b x → result ≡ is_open x }
 {
     if pages::find::kind(words, n, p) != KIND_ZONE {

@@ -74,7 +74,7 @@ fn cut_zone(part: &mut [u32], len: usize, class: u32, group: u32)
 // The run at page `at` gives its low `need` pages to a direct block of the group.
 pub fn take_direct(words: &mut [u32], n: usize, at: usize, len: usize, need: usize, group: u32)
     requires holds { Holds words.old n }
-    requires by_index { (b : ℕ) × Stands (segments_of words.old) at b (run len) × (0 < need) × (need ≤ len) }
+    requires placed { (b : ℕ) × Stands (segments_of words.old) at b (run len) × (0 < need) × (need ≤ len) }
     ensures { words.new ≡ segments_encoding (carve (record { page = at; size = len }) need (direct need group) (segments_of words.old)) }
 {
     let a = PAGE_WORDS * at;
@@ -85,7 +85,7 @@ pub fn take_direct(words: &mut [u32], n: usize, at: usize, len: usize, need: usi
 // The run at page `at` gives its low 8 pages to a zone, set up for the class with its chunk 0 granted to the group.
 pub fn take_zone(words: &mut [u32], n: usize, at: usize, len: usize, class: u32, group: u32)
     requires holds { Holds words.old n }
-    requires by_index { (b : ℕ) × Stands (segments_of words.old) at b (run len) × (zone_pages ≤ len) × (0 < group) }
+    requires placed { (b : ℕ) × Stands (segments_of words.old) at b (run len) × (zone_pages ≤ len) × (0 < group) }
     ensures { words.new ≡ segments_encoding (carve (record { page = at; size = len }) zone_pages (zone (new_zone class group)) (segments_of words.old)) }
 {
     let a = PAGE_WORDS * at;

@@ -27,7 +27,7 @@ pub fn run_len(kind: u32, len: usize) -> usize
 // The kind of the segment that begins at page p.
 pub fn kind(words: &[u32], n: usize, p: usize) -> u32
     requires holds { Holds words.now n }
-    requires by_index { (b : ℕ) × (x : Segment Zone) × Stands (segments_of words.now) p b x }
+    requires placed { (b : ℕ) × (x : Segment Zone) × Stands (segments_of words.now) p b x }
     ensures { (b : ℕ) (x : Segment Zone) → Stands (segments_of words.now) p b x → result ≡ kind_of x }
 {
     words[PAGE_WORDS * p]
@@ -36,7 +36,7 @@ pub fn kind(words: &[u32], n: usize, p: usize) -> u32
 // Its pages.
 pub fn size(words: &[u32], n: usize, p: usize) -> usize
     requires holds { Holds words.now n }
-    requires by_index { (b : ℕ) × (x : Segment Zone) × Stands (segments_of words.now) p b x }
+    requires placed { (b : ℕ) × (x : Segment Zone) × Stands (segments_of words.now) p b x }
     ensures { (b : ℕ) (x : Segment Zone) → Stands (segments_of words.now) p b x → result ≡ pages x }
 {
     if kind(words, n, p) == KIND_ZONE {
@@ -48,7 +48,7 @@ pub fn size(words: &[u32], n: usize, p: usize) -> usize
 // Its words, if it is a zone.
 pub fn zone_part(words: &[u32], n: usize, p: usize) -> &[u32]
     requires holds { Holds words.now n }
-    requires by_index { (b : ℕ) × (z : Zone) × Stands (segments_of words.now) p b (zone z) }
+    requires placed { (b : ℕ) × (z : Zone) × Stands (segments_of words.now) p b (zone z) }
     ensures { (b : ℕ) (z : Zone) → Stands (segments_of words.now) p b (zone z) → (is_zone result.now ≡ true) × (zone_of result.now ≡ z) }
 {
     let a = PAGE_WORDS * p;
@@ -59,7 +59,7 @@ pub fn zone_part(words: &[u32], n: usize, p: usize) -> &[u32]
 // The group of the direct block that begins at page p.
 pub fn group(words: &[u32], n: usize, p: usize) -> u32
     requires holds { Holds words.now n }
-    requires by_index { (b k g : ℕ) × Stands (segments_of words.now) p b (direct k g) }
+    requires placed { (b k g : ℕ) × Stands (segments_of words.now) p b (direct k g) }
     ensures { (b k g : ℕ) → Stands (segments_of words.now) p b (direct k g) → result ≡ g }
 {
     words[PAGE_WORDS * p + 2]
@@ -68,7 +68,7 @@ pub fn group(words: &[u32], n: usize, p: usize) -> u32
 // The first free run from the page on; a segment begins there, or the arena ends.
 fn next_run(words: &[u32], n: usize, page: usize) -> Found
     requires holds { Holds words.now n }
-    requires by_index { (b : ℕ) × (l : List (Segment Zone)) × Passed (segments_of words.now) page b l }
+    requires placed { (b : ℕ) × (l : List (Segment Zone)) × Passed (segments_of words.now) page b l }
     ensures { (b : ℕ) (l : List (Segment Zone)) → Passed (segments_of words.now) page b l → result ≡ found (first_run page l) }
 {
     let mut p = page;
@@ -109,7 +109,7 @@ pub fn find_run(words: &[u32], n: usize, need: usize) -> Choice
 // Whether the pages of the segment that begins at page p are free once trim has been there: it is a run, or a zone without a live chunk.
 fn clear(words: &[u32], n: usize, p: usize) -> bool
     requires holds { Holds words.now n }
-    requires by_index { (b : ℕ) × (x : Segment Zone) × Stands (segments_of words.now) p b x }
+    requires placed { (b : ℕ) × (x : Segment Zone) × Stands (segments_of words.now) p b x }
     ensures { (b : ℕ) (x : Segment Zone) → Stands (segments_of words.now) p b x → result ≡ is_clear x }
 {
     let kind = kind(words, n, p);
@@ -201,7 +201,7 @@ pub fn find_segment(words: &[u32], n: usize, page: usize) -> Spot
 // The pages of the run that begins behind the segment x at page `at`, of `len` pages, or 0.
 pub fn run_behind(words: &[u32], n: usize, at: usize, len: usize) -> usize
     requires holds { Holds words.now n }
-    requires by_index { (b : ℕ) × (x : Segment Zone) × Stands (segments_of words.now) at b x × (pages x ≡ len) }
+    requires placed { (b : ℕ) × (x : Segment Zone) × Stands (segments_of words.now) at b x × (pages x ≡ len) }
     ensures { (b : ℕ) (x : Segment Zone) (s : Stands (segments_of words.now) at b x) → pages x ≡ len → result ≡ run_at_start s.behind }
 {
     let next = at + len;

@@ -29,7 +29,7 @@ pub struct Swept {
 // The walk goes on behind the run at page `start`.
 fn behind_run(words: &[u32], n: usize, start: usize, count: u32) -> Swept
     requires good { Good words.now n }
-    requires by_index { (b k : ℕ) × Stands (decode words.now).segments start b (run k) }
+    requires placed { (b k : ℕ) × Stands (decode words.now).segments start b (run k) }
     ensures { (b k : ℕ) → Stands (decode words.now).segments start b (run k) → (result.next ≡ start + k) × (result.before ≡ k) × (result.count ≡ count) }
 {
     let len = steps::size_at(words, n, start);

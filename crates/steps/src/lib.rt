@@ -48,7 +48,7 @@ pub fn list_count(words: &[u32], class: u32) -> u32
 // The page goes to the front of the class's list, which has room for one more.
 pub fn list_front(words: &mut [u32], class: u32, page: u32)
     requires lent { Lent words.old }
-    requires class_lt_class_count { (class < class_count) × (page < most_pages) × (length (keys_of (decode words.old).lists) < list_slots) }
+    requires in_range { (class < class_count) × (page < most_pages) × (length (keys_of (decode words.old).lists) < list_slots) }
     ensures { words.new ≡ encode (fronted class page (decode words.old)) }
 {
     header::push(&mut words[..HEADER_WORDS], class, page);
@@ -57,7 +57,7 @@ pub fn list_front(words: &mut [u32], class: u32, page: u32)
 // The page leaves the class's list.
 pub fn list_without(words: &mut [u32], class: u32, page: u32)
     requires lent { Lent words.old }
-    requires class_lt_class_count { (class < class_count) × (page < most_pages) }
+    requires in_range { (class < class_count) × (page < most_pages) }
     ensures { words.new ≡ encode (unlisted class page (decode words.old)) }
 {
     header::remove(&mut words[..HEADER_WORDS], class, page);
@@ -82,7 +82,7 @@ pub fn spare_count(words: &[u32]) -> u32
 // The page goes to the front of the empty list, which has room for one more.
 pub fn spare_front(words: &mut [u32], page: u32)
     requires lent { Lent words.old }
-    requires page_lt_most_pages { (page < most_pages) × (length (decode words.old).spare < spare_slots) }
+    requires in_range { (page < most_pages) × (length (decode words.old).spare < spare_slots) }
     ensures { words.new ≡ encode (spared (page ∷ (decode words.old).spare) (decode words.old)) }
 {
     header::spare_push(&mut words[..HEADER_WORDS], page);
@@ -191,7 +191,7 @@ pub fn zone_renew(words: &mut [u32], page: usize, class: u32, group: u32)
 // The kind of the segment that begins at page p.
 pub fn kind_at(words: &[u32], p: usize) -> u32
     requires lent { Lent words.now }
-    requires by_index { (b : ℕ) × (x : Segment Zone) × Stands (decode words.now).segments p b x }
+    requires placed { (b : ℕ) × (x : Segment Zone) × Stands (decode words.now).segments p b x }
     ensures { (b : ℕ) (x : Segment Zone) → Stands (decode words.now).segments p b x → result ≡ kind_of x }
 {
     let at = metadata::words_for(p);
@@ -201,7 +201,7 @@ pub fn kind_at(words: &[u32], p: usize) -> u32
 // The pages of the segment that begins at page p.
 pub fn size_at(words: &[u32], n: usize, p: usize) -> usize
     requires lent { Lent words.now × (n ≡ total (decode words.now).segments) }
-    requires by_index { (b : ℕ) × (x : Segment Zone) × Stands (decode words.now).segments p b x }
+    requires placed { (b : ℕ) × (x : Segment Zone) × Stands (decode words.now).segments p b x }
     ensures { (b : ℕ) (x : Segment Zone) → Stands (decode words.now).segments p b x → result ≡ pages x }
 {
     pages::find::size(&words[HEADER_WORDS..], n, p)
@@ -210,7 +210,7 @@ pub fn size_at(words: &[u32], n: usize, p: usize) -> usize
 // Its pages if it is a run, else 0.
 pub fn run_at(words: &[u32], n: usize, p: usize) -> usize
     requires lent { Lent words.now × (n ≡ total (decode words.now).segments) }
-    requires by_index { (b : ℕ) × (x : Segment Zone) × Stands (decode words.now).segments p b x }
+    requires placed { (b : ℕ) × (x : Segment Zone) × Stands (decode words.now).segments p b x }
     ensures { (b : ℕ) (x : Segment Zone) → Stands (decode words.now).segments p b x → result ≡ run_pages x }
 {
     pages::find::run_len(kind_at(words, p), size_at(words, n, p))
@@ -219,7 +219,7 @@ pub fn run_at(words: &[u32], n: usize, p: usize) -> usize
 // The group of the direct block that begins at page p.
 pub fn group_at(words: &[u32], n: usize, p: usize) -> u32
     requires lent { Lent words.now × (n ≡ total (decode words.now).segments) }
-    requires by_index { (b k g : ℕ) × Stands (decode words.now).segments p b (direct k g) }
+    requires placed { (b k g : ℕ) × Stands (decode words.now).segments p b (direct k g) }
     ensures { (b k g : ℕ) → Stands (decode words.now).segments p b (direct k g) → result ≡ g }
 {
     pages::find::group(&words[HEADER_WORDS..], n, p)
@@ -252,7 +252,7 @@ pub fn find_trimmed(words: &[u32], n: usize, need: usize) -> Choice
 // The run at page `at` gives its low `need` pages to a direct block of the group.
 pub fn take_direct(words: &mut [u32], n: usize, at: usize, len: usize, need: usize, group: u32)
     requires lent { Lent words.old × (n ≡ total (decode words.old).segments) }
-    requires by_index { (b : ℕ) × Stands (decode words.old).segments at b (run len) × (0 < need) × (need ≤ len) }
+    requires placed { (b : ℕ) × Stands (decode words.old).segments at b (run len) × (0 < need) × (need ≤ len) }
     ensures { words.new ≡ encode (carved (record { page = at; size = len }) need (direct need group) (decode words.old)) }
 {
     pages::cut::take_direct(&mut words[HEADER_WORDS..], n, at, len, need, group);
@@ -261,7 +261,7 @@ pub fn take_direct(words: &mut [u32], n: usize, at: usize, len: usize, need: usi
 // It gives its low 8 pages to a zone, set up for the class with chunk 0 granted to the group.
 pub fn take_zone(words: &mut [u32], n: usize, at: usize, len: usize, class: u32, group: u32)
     requires lent { Lent words.old × (n ≡ total (decode words.old).segments) }
-    requires by_index { (b : ℕ) × Stands (decode words.old).segments at b (run len) × (zone_pages ≤ len) × (0 < group) }
+    requires placed { (b : ℕ) × Stands (decode words.old).segments at b (run len) × (zone_pages ≤ len) × (0 < group) }
     ensures { words.new ≡ encode (carved (record { page = at; size = len }) zone_pages (zone (new_zone class group)) (decode words.old)) }
 {
     pages::cut::take_zone(&mut words[HEADER_WORDS..], n, at, len, class, group);

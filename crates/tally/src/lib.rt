@@ -154,7 +154,7 @@ fn add_zone(part: &[u32], figures: &mut [u32])
 // Adds what stands at page p.
 fn add_segment(words: &[u32], n: usize, p: usize, figures: &mut [u32])
     requires holds { Holds words.now n × Within 1 figures.old }
-    requires by_index { (b : ℕ) × (x : Segment Zone) × Stands (segments_of words.now) p b x }
+    requires placed { (b : ℕ) × (x : Segment Zone) × Stands (segments_of words.now) p b x }
     ensures { (b : ℕ) (x : Segment Zone) → Stands (segments_of words.now) p b x → Adds x figures.old figures.new }
 {
     let kind = pages::find::kind(words, n, p);

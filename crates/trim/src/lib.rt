@@ -21,7 +21,7 @@ use zone::layout::KIND_ZONE;
 // Whether the segment that begins at page p is a zone without a live chunk.
 fn idle_at(words: &[u32], p: usize) -> bool
     requires lent { Lent words.now }
-    requires by_index { (b : ℕ) × (x : Segment Zone) × Stands (decode words.now).segments p b x }
+    requires placed { (b : ℕ) × (x : Segment Zone) × Stands (decode words.now).segments p b x }
     ensures { (b : ℕ) (x : Segment Zone) → Stands (decode words.now).segments p b x → result ≡ idle_segment x }
 {
     if steps::kind_at(words, p) != KIND_ZONE {
@@ -44,7 +44,7 @@ fn unlist(words: &mut [u32], p: usize)
 fn give_zone(words: &mut [u32], n: usize, p: usize, before: usize) -> usize
     requires lent { Lent words.old × (n ≡ total (decode words.old).segments) }
     requires apart { Apart false (decode words.old).segments }
-    requires by_index { (a : ℕ) × (z : Zone) × Between (decode words.old).segments p before a z }
+    requires placed { (a : ℕ) × (z : Zone) × Between (decode words.old).segments p before a z }
     ensures { (a : ℕ) (z : Zone) → Between (decode words.old).segments p before a z → (result ≡ before + zone_pages + a) × (words.new ≡ encode (released p (unlisted z.class p (decode words.old)))) }
 {
     unlist(words, p);

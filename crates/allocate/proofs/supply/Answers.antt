@@ -11,13 +11,13 @@ use Rattle.allocate.proofs.supply.Goals.{Then-size-lt-LARGE_SIZE}
 
 -- The class is that of the size, where a chunk is taken.
 of-class : (c : Then-size-lt-LARGE_SIZE) → c.args.class ≡ class_of c.args.size
-of-class c = let h = c.requires in h.group_nonzero.4 ∙ class_for-chunk _ h.group_nonzero.2 c.if-size-lt-LARGE_SIZE.true
+of-class c = let h = c.requires in h.legal_request.4 ∙ class_for-chunk _ h.legal_request.2 c.if-size-lt-LARGE_SIZE.true
 
 pub supply_chunk-requires : goal.supply_chunk-requires
 supply_chunk-requires c =
     let h = c.requires in
-    let k = classed _ h.group_nonzero.2 c.if-size-lt-LARGE_SIZE.true in
-    record { good = h.good; class = omega (arith, k.below, of-class (goal.at.supply_chunk-requires c).Then-size-lt-LARGE_SIZE); least = h.group_nonzero.0; most = h.group_nonzero.1 }
+    let k = classed _ h.legal_request.2 c.if-size-lt-LARGE_SIZE.true in
+    record { good = h.good; class = omega (arith, k.below, of-class (goal.at.supply_chunk-requires c).Then-size-lt-LARGE_SIZE); least = h.legal_request.0; most = h.legal_request.1 }
 
 pub returns-then-size-lt-LARGE_SIZE : goal.returns-then-size-lt-LARGE_SIZE
 returns-then-size-lt-LARGE_SIZE c =

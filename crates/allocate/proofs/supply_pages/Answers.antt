@@ -11,7 +11,7 @@ take_direct-requires c =
     let g = pages-good h.0 h.1 0 k s in
     let r = pages-free h.0 h.1 0 k s in record {
       lent = (g.lent, g.pages);
-      by_index = (r.behind, r.there, h.1, r.enough);
+      placed = (r.behind, r.there, h.1, r.enough);
     }
 
 pub overflow_cast-result : goal.overflow_cast-result

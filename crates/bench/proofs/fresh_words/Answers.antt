@@ -8,7 +8,7 @@ use Rattle.bench.proofs.fresh_words.Goals as goal
 pub returns : goal.returns
 unfolding zeros
 returns c = record {
-  bench_words_value = refl;
+  word_count = refl;
   value = refl;
-  result_value = zeros-none bench_words;
+  encodes_none = zeros-none bench_words;
 }

@@ -24,7 +24,7 @@ overflow_sub-away c = (here (goal.at.overflow_sub-away c).In-Segment).low
 pub find_chunk-requires : goal.find_chunk-requires
 find_chunk-requires c = record {
   good = c.requires;
-  away_lt_zone_bytes = held-zone (here (goal.at.find_chunk-requires c).In-Segment) c.if-kind-eq-KIND_ZONE.true;
+  inside_zone = held-zone (here (goal.at.find_chunk-requires c).In-Segment) c.if-kind-eq-KIND_ZONE.true;
 }
 
 pub returns-then-kind-eq-KIND_ZONE : goal.returns-then-kind-eq-KIND_ZONE
@@ -41,7 +41,7 @@ group_at-group-requires c =
     let h = c.requires in
     let t = held-direct (here (goal.at.group_at-group-requires c).In-Segment) c.if-kind-ne-KIND_DIRECT.false in record {
       lent = (h.lent, h.pages);
-      by_index = (_, _, t.0, t.1);
+      placed = (_, _, t.0, t.1);
     }
 
 pub returns : goal.returns

@@ -54,7 +54,7 @@ slice_bounds-within-end-2 c = sym (length-take-le figure_words c.args.meta.now (
 pub within-requires : goal.within-requires
 within-requires c =
     let k = within-needs (account_in c.args.meta.now) (arena-valid c.requires) c.args.group c.args.size (legal-group (goal.at.within-requires c).After-size_ok) (legal-size (goal.at.within-requires c).After-class_for-class) _ (lent (goal.at.within-requires c).Start) _ (ap (λ g. g - 1) c.wide-index.ensures) _ c.room_for-room.ensures in
-    record { words_len = k.0; index_bound = k.1 }
+    record { record_there = k.0; bounded_bytes = k.1 }
 
 within-told : (c : After-within) → c.within.result ≡ within (ceiling_of (account_in c.args.meta.now) c.args.group) c.args.group c.args.size (page_map (account_in c.args.meta.now).state)
 within-told c =
@@ -68,5 +68,5 @@ returns-then-not-within c = let k = arena-denied c.requires (call (account_in c.
 pub grant_in-requires : goal.grant_in-requires
 grant_in-requires c = record {
   arena = (c.requires, record { group = legal-group (goal.at.grant_in-requires c).After-size_ok; size = legal-size (goal.at.grant_in-requires c).After-class_for-class; ceiling = sym (within-told (goal.at.grant_in-requires c).After-within) ∙ c.if-not-within.false });
-  class_value = (c.class_for-class.ensures, c.room_for-room.ensures);
+  size_told = (c.class_for-class.ensures, c.room_for-room.ensures);
 }

@@ -80,7 +80,7 @@ pub take-requires : goal.take-requires
 take-requires c =
     let p = (goal.at.take-requires c).After-wide-index in
     let k = return-needs (account_in c.args.meta.now) (arena-valid c.requires) c.args.group c.args.offset (done p) _ (lent p) _ (ap (λ g. g - 1) c.wide-index.ensures) _ (told p) in
-    record { words_len = k.0; blocks_nonzero = k.1 }
+    record { record_there = k.0; holds_block = k.1 }
 
 pub returns : goal.returns
 returns c =

@@ -53,7 +53,7 @@ pub supply-answer-requires : goal.supply-answer-requires
 supply-answer-requires c =
     let ok = c.requires.arena.1 in record {
       good = arena-good c.requires.arena.0 _ c.words_for-e.ensures;
-      group_nonzero = (group-least _ ok.group, group-most _ ok.group, size-least _ ok.size, size-most _ ok.size, c.requires.class_value.0);
+      legal_request = (group-least _ ok.group, group-most _ ok.group, size-least _ ok.size, size-most _ ok.size, c.requires.size_told.0);
     }
 
 pub returns-then-is_refused : goal.returns-then-is_refused
@@ -76,8 +76,8 @@ slice_bounds-add-end-2 c = sym (ap length (lent (goal.at.slice_bounds-add-end-2 
 pub add-requires : goal.add-requires
 add-requires c =
     let p = (goal.at.add-requires c).After-wide-index in
-    let k = grant-needs (account_in c.args.meta.now) (arena-valid c.requires.arena.0) c.args.group c.args.size c.requires.arena.1 (done p) _ (lent p) _ (ap (λ g. g - 1) c.wide-index.ensures) _ c.requires.class_value.1 in
-    record { words_len = k.0; index_bound = k.1 }
+    let k = grant-needs (account_in c.args.meta.now) (arena-valid c.requires.arena.0) c.args.group c.args.size c.requires.arena.1 (done p) _ (lent p) _ (ap (λ g. g - 1) c.wide-index.ensures) _ c.requires.size_told.1 in
+    record { record_there = k.0; bounded_bytes = k.1 }
 
 pub returns : goal.returns
 returns c =
@@ -85,5 +85,5 @@ returns c =
     let r = c.supply-answer.ensures in record {
       value = arena-answer c.requires.arena.0 _ e (call c.args.group c.args.size) (asks c.args.group c.args.size) (accepted _ _ _ c.requires.arena.1) _ r.0;
       meta_after = arena-stepped c.requires.arena.0 _ e (call c.args.group c.args.size) (asks c.args.group c.args.size) (accepted _ _ _ c.requires.arena.1) _ r.1 _
-          (grant-done (account_in c.args.meta.now) (arena-valid c.requires.arena.0) c.args.group c.args.size c.requires.arena.1 (done (goal.at.returns c).After-wide-index) _ (lent (goal.at.returns c).After-wide-index) _ (ap (λ g. g - 1) c.wide-index.ensures) _ c.requires.class_value.1 _ c.add.ensures);
+          (grant-done (account_in c.args.meta.now) (arena-valid c.requires.arena.0) c.args.group c.args.size c.requires.arena.1 (done (goal.at.returns c).After-wide-index) _ (lent (goal.at.returns c).After-wide-index) _ (ap (λ g. g - 1) c.wide-index.ensures) _ c.requires.size_told.1 _ c.add.ensures);
     }

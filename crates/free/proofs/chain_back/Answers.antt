@@ -24,7 +24,7 @@ list_front-requires c =
     let h = c.requires in
     let e = c.zone_put_back.ensures in record {
       lent = mid-lent h.0 h.1 e;
-      class_lt_class_count = (omega (arith, c.zone_class-class.ensures, live-class h.0 h.1), live-page h.0 h.1, mid-room h.0 h.1 e (sym c.zone_full-full.ensures ∙ c.if-full.true));
+      in_range = (omega (arith, c.zone_class-class.ensures, live-class h.0 h.1), live-page h.0 h.1, mid-room h.0 h.1 e (sym c.zone_full-full.ensures ∙ c.if-full.true));
     }
 
 pub returns-then-full : goal.returns-then-full

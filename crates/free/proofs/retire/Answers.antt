@@ -13,7 +13,7 @@ overflow_cast-at c = let h = c.requires in omega (arith, zone-page h.0 h.1.0 h.1
 pub list_without-requires : goal.list_without-requires
 list_without-requires c = let h = c.requires in record {
   lent = h.0.lent;
-  class_lt_class_count = (zone-class h.0 h.1.0 h.1.1 h.1.2, zone-page h.0 h.1.0 h.1.1 h.1.2);
+  in_range = (zone-class h.0 h.1.0 h.1.1 h.1.2, zone-page h.0 h.1.0 h.1.1 h.1.2);
 }
 
 pub spare_count-requires : goal.spare_count-requires
@@ -30,7 +30,7 @@ spare_front-requires c =
     let e = c.list_without.ensures in
     let few : length (decode c.args.words.now).spare < most_spare = omega (arith, off-count h.0 h.1.0 h.1.1 h.1.2 e _ c.spare_count.ensures, c.if-spare_count-lt-MOST_SPARE.true) in record {
       lent = off-lent h.0 h.1.0 h.1.1 h.1.2 e;
-      page_lt_most_pages = (zone-page h.0 h.1.0 h.1.1 h.1.2, off-room h.0 h.1.0 h.1.1 h.1.2 e few);
+      in_range = (zone-page h.0 h.1.0 h.1.1 h.1.2, off-room h.0 h.1.0 h.1.1 h.1.2 e few);
     }
 
 pub returns-then-spare_count-lt-MOST_SPARE : goal.returns-then-spare_count-lt-MOST_SPARE

@@ -10,7 +10,7 @@ pub kind-requires : goal.kind-requires
 kind-requires c =
     let k = count_next c.loop-p.invariant c.loop-p-test.true in record {
       holds = c.requires;
-      by_index = (c.loop-p.invariant.b, k.x, k.stands);
+      placed = (c.loop-p.invariant.b, k.x, k.stands);
     }
 
 pub overflow_add-rows : goal.overflow_add-rows
@@ -22,7 +22,7 @@ pub size-p-requires : goal.size-p-requires
 size-p-requires c =
     let k = count_next c.loop-p.invariant c.loop-p-test.true in record {
       holds = c.requires;
-      by_index = (c.loop-p.invariant.b, k.x, k.stands);
+      placed = (c.loop-p.invariant.b, k.x, k.stands);
     }
 
 pub overflow_add-p : goal.overflow_add-p

@@ -22,18 +22,18 @@ returns-then-kind c = λ b x s. wrote_as (text-none _ _ _ (λ e. c.if-kind.true 
 pub zone_part-part-requires : goal.zone_part-part-requires
 zone_part-part-requires c =
     let h = c.requires in
-    let i = stands-zone h.by_index.2 (of-kind (goal.at.zone_part-part-requires c).Else-kind h.by_index.2 ∙ c.if-kind-eq-KIND_ZONE.true) in record {
+    let i = stands-zone h.placed.2 (of-kind (goal.at.zone_part-part-requires c).Else-kind h.placed.2 ∙ c.if-kind-eq-KIND_ZONE.true) in record {
       holds = h.holds;
-      by_index = (_, i.0, i.2);
+      placed = (_, i.0, i.2);
     }
 
 pub put_zone-requires : goal.put_zone-requires
 put_zone-requires c =
-    let s = c.requires.by_index.2 in
+    let s = c.requires.placed.2 in
     let i = stands-zone s (of-kind (goal.at.put_zone-requires c).Else-kind s ∙ c.if-kind-eq-KIND_ZONE.true) in
     let told = c.zone_part-part.ensures _ _ i.2 in record {
       part_value = told.0;
-      bounded = bounded-as _ (text-zone _ _ _ (of-kind (goal.at.put_zone-requires c).Else-kind s) told.1 i.1) c.requires.by_index.3;
+      bounded = bounded-as _ (text-zone _ _ _ (of-kind (goal.at.put_zone-requires c).Else-kind s) told.1 i.1) c.requires.placed.3;
     }
 
 pub returns-then-kind-eq-KIND_ZONE : goal.returns-then-kind-eq-KIND_ZONE
@@ -43,8 +43,8 @@ returns-then-kind-eq-KIND_ZONE c =
 
 pub put_line-requires : goal.put_line-requires
 put_line-requires c =
-    let s = c.requires.by_index.2 in
-    bounded-as _ (text-run _ _ _ (of-kind (goal.at.put_line-requires c).Else-kind s) (c.size-len.ensures _ _ s) c.if-kind-eq-KIND_RUN.true) c.requires.by_index.3
+    let s = c.requires.placed.2 in
+    bounded-as _ (text-run _ _ _ (of-kind (goal.at.put_line-requires c).Else-kind s) (c.size-len.ensures _ _ s) c.if-kind-eq-KIND_RUN.true) c.requires.placed.3
 
 pub returns-then-kind-eq-KIND_RUN : goal.returns-then-kind-eq-KIND_RUN
 returns-then-kind-eq-KIND_RUN c =
@@ -52,17 +52,17 @@ returns-then-kind-eq-KIND_RUN c =
 
 pub group-requires : goal.group-requires
 group-requires c =
-    let s = c.requires.by_index.2 in
+    let s = c.requires.placed.2 in
     let i = stands-direct s (λ q. c.if-kind-eq-KIND_ZONE.false (sym (of-kind (goal.at.group-requires c).Else-kind s) ∙ q)) (λ q. c.if-kind-eq-KIND_RUN.false (sym (of-kind (goal.at.group-requires c).Else-kind s) ∙ q)) in record {
       holds = c.requires.holds;
-      by_index = (_, _, i.0, i.2);
+      placed = (_, _, i.0, i.2);
     }
 
 pub put_line-requires-2 : goal.put_line-requires-2
 put_line-requires-2 c =
-    let s = c.requires.by_index.2 in
+    let s = c.requires.placed.2 in
     let i = stands-direct s (λ q. c.if-kind-eq-KIND_ZONE.false (sym (of-kind (goal.at.put_line-requires-2 c).Else-kind s) ∙ q)) (λ q. c.if-kind-eq-KIND_RUN.false (sym (of-kind (goal.at.put_line-requires-2 c).Else-kind s) ∙ q)) in
-    bounded-as _ (text-direct _ _ _ (of-kind (goal.at.put_line-requires-2 c).Else-kind s) (c.size-len.ensures _ _ s) (c.long.ensures ∙ c.group.ensures _ _ _ i.2) i.1) c.requires.by_index.3
+    bounded-as _ (text-direct _ _ _ (of-kind (goal.at.put_line-requires-2 c).Else-kind s) (c.size-len.ensures _ _ s) (c.long.ensures ∙ c.group.ensures _ _ _ i.2) i.1) c.requires.placed.3
 
 pub returns : goal.returns
 returns c =

@@ -10,14 +10,14 @@ pub put_row-next-requires : goal.put_row-next-requires
 put_row-next-requires c =
     let k = write-next c.loop-p.invariant c.loop-p-test.true in record {
       holds = c.requires.holds;
-      by_index = (c.loop-p.invariant.b, k.x, k.stands, write-bounded c.loop-p.invariant c.loop-p-test.true c.requires.bounded);
+      placed = (c.loop-p.invariant.b, k.x, k.stands, write-bounded c.loop-p.invariant c.loop-p-test.true c.requires.bounded);
     }
 
 pub size-p-requires : goal.size-p-requires
 size-p-requires c =
     let k = write-next c.loop-p.invariant c.loop-p-test.true in record {
       holds = c.requires.holds;
-      by_index = (c.loop-p.invariant.b, k.x, k.stands);
+      placed = (c.loop-p.invariant.b, k.x, k.stands);
     }
 
 pub overflow_add-p : goal.overflow_add-p

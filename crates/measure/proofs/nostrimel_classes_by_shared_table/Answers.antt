@@ -9,7 +9,7 @@ loop-i-init c = added_none c.args.numbers.now
 pub class_in-requires : goal.class_in-requires
 class_in-requires c = record {
   table_value = c.table-table.ensures;
-  size_nonzero = (c.size_from.ensures.1, c.size_from.ensures.2);
+  chunk_sized = (c.size_from.ensures.1, c.size_from.ensures.2);
 }
 
 pub loop-i-preserved : goal.loop-i-preserved

@@ -1,10 +1,9 @@
 -- `check` meets its contract. Assumes nothing.
-use Rattle.model.specs.Numbers.{most_pages, header_words}
+use Rattle.model.specs.Numbers.{most_pages}
 use Rattle.header.specs.Encoding.{Header}
 use Rattle.metadata.specs.Decoding.{header_part}
 use Rattle.metadata.proofs.Checked.{too_short, no_header, pages-missing, part-long, no-segments, segments-hold, lists-decide}
 use Rattle.header.proofs.Exact.{check-header}
-use lib.Seq.{length-take-le}
 use native.Mathlib.Omega.{arith}
 use mathlib.Core.Path.{sym, ◌∙◌}
 use Prim.Native.Nat.{◌≤◌}
@@ -18,14 +17,8 @@ header c = check-header _ (sym c.check.ensures ∙ c.if-not-check.false)
 pub returns-then-words-lt-HEADER_WORDS : goal.returns-then-words-lt-HEADER_WORDS
 returns-then-words-lt-HEADER_WORDS c = too_short _ c.if-words-lt-HEADER_WORDS.true
 
-pub slice_bounds-check-end : goal.slice_bounds-check-end
-slice_bounds-check-end c = sym (length-take-le header_words c.args.words.now (omega (arith, c.if-words-lt-HEADER_WORDS.false)))
-
 pub returns-then-not-check : goal.returns-then-not-check
 returns-then-not-check c = no_header _ (sym c.check.ensures ∙ c.if-not-check.true)
-
-pub slice_bounds-pages-end : goal.slice_bounds-pages-end
-slice_bounds-pages-end c = sym (length-take-le header_words c.args.words.now (omega (arith, c.if-words-lt-HEADER_WORDS.false)))
 
 pub pages-n-requires : goal.pages-n-requires
 pages-n-requires c = header (goal.at.pages-n-requires c).Else-not-check
@@ -43,10 +36,6 @@ check-requires-2 c =
 pub returns-then-not-check-2 : goal.returns-then-not-check-2
 returns-then-not-check-2 c =
     no-segments _ _ c.pages-n.ensures _ c.words_for-e.ensures (sym c.check-2.ensures ∙ c.if-not-check-2.true)
-
-pub slice_bounds-lists_fit-end : goal.slice_bounds-lists_fit-end
-slice_bounds-lists_fit-end c =
-    sym (length-take-le header_words c.args.words.now (omega (arith, c.if-words-lt-HEADER_WORDS.false)))
 
 pub lists_fit-requires : goal.lists_fit-requires
 lists_fit-requires c =

@@ -12,19 +12,19 @@ returns-then-kind-ne-KIND_ZONE c = λ b x s. fits-other _ _ _ x (λ k. c.if-kind
 pub zone_part-part-requires : goal.zone_part-part-requires
 zone_part-part-requires c =
     let h = c.requires in
-    let i = stands-zone h.by_index.2 (sym (c.kind.ensures _ _ h.by_index.2) ∙ c.if-kind-ne-KIND_ZONE.false) in record {
+    let i = stands-zone h.placed.2 (sym (c.kind.ensures _ _ h.placed.2) ∙ c.if-kind-ne-KIND_ZONE.false) in record {
       holds = h.header.1;
-      by_index = (_, i.0, i.2);
+      placed = (_, i.0, i.2);
     }
 
 pub overflow_cast-p : goal.overflow_cast-p
-overflow_cast-p c = let h = c.requires in let r = read_at h.header.1 h.by_index.2 in omega arith
+overflow_cast-p c = let h = c.requires in let r = read_at h.header.1 h.placed.2 in omega arith
 
 pub zone_fits-requires : goal.zone_fits-requires
 zone_fits-requires c =
     let h = c.requires in
-    let r = read_at h.header.1 h.by_index.2 in
-    let i = stands-zone h.by_index.2 (sym (c.kind.ensures _ _ h.by_index.2) ∙ c.if-kind-ne-KIND_ZONE.false) in
+    let r = read_at h.header.1 h.placed.2 in
+    let i = stands-zone h.placed.2 (sym (c.kind.ensures _ _ h.placed.2) ∙ c.if-kind-ne-KIND_ZONE.false) in
     (h.header.0, (c.zone_part-part.ensures _ _ i.2).0, omega (arith, r.ok.0))
 
 pub returns : goal.returns

@@ -17,7 +17,7 @@ pub fits_at-requires : goal.fits_at-requires
 fits_at-requires c =
     let k = fit_next c.loop-p.invariant c.loop-p-test.true in record {
       header = (c.requires.0, c.requires.1);
-      by_index = (c.loop-p.invariant.b, k.x, k.stands);
+      placed = (c.loop-p.invariant.b, k.x, k.stands);
     }
 
 pub returns-then-not-fits_at : goal.returns-then-not-fits_at
@@ -30,7 +30,7 @@ pub open_at-open-requires : goal.open_at-open-requires
 open_at-open-requires c =
     let k = fit_next c.loop-p.invariant c.loop-p-test.true in record {
       holds = c.requires.1;
-      by_index = (c.loop-p.invariant.b, k.x, k.stands);
+      placed = (c.loop-p.invariant.b, k.x, k.stands);
     }
 
 pub overflow_add-open : goal.overflow_add-open
@@ -41,7 +41,7 @@ pub size-p-requires : goal.size-p-requires
 size-p-requires c =
     let k = fit_next c.loop-p.invariant c.loop-p-test.true in record {
       holds = c.requires.1;
-      by_index = (c.loop-p.invariant.b, k.x, k.stands);
+      placed = (c.loop-p.invariant.b, k.x, k.stands);
     }
 
 pub overflow_add-p : goal.overflow_add-p

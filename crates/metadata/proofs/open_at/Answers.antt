@@ -10,14 +10,14 @@ returns-then-kind-ne-KIND_ZONE c = λ b x s. open-other x (λ k. c.if-kind-ne-KI
 pub zone_part-requires : goal.zone_part-requires
 zone_part-requires c =
     let h = c.requires in
-    let i = stands-zone h.by_index.2 (sym (c.kind.ensures _ _ h.by_index.2) ∙ c.if-kind-ne-KIND_ZONE.false) in record {
+    let i = stands-zone h.placed.2 (sym (c.kind.ensures _ _ h.placed.2) ∙ c.if-kind-ne-KIND_ZONE.false) in record {
       holds = h.holds;
-      by_index = (_, i.0, i.2);
+      placed = (_, i.0, i.2);
     }
 
 pub zone_open-requires : goal.zone_open-requires
 zone_open-requires c =
-    let s = c.requires.by_index.2 in
+    let s = c.requires.placed.2 in
     let i = stands-zone s (sym (c.kind.ensures _ _ s) ∙ c.if-kind-ne-KIND_ZONE.false) in (c.zone_part.ensures _ _ i.2).0
 
 pub returns : goal.returns

@@ -8,7 +8,7 @@ use Rattle.reset.proofs.sweep_at.Goals as goal
 pub kind_at-kind-requires : goal.kind_at-kind-requires
 kind_at-kind-requires c = let h = c.requires in let S = h.2.3 in record {
   lent = S.good.lent;
-  by_index = (_, _, here-stands S (here S h.1));
+  placed = (_, _, here-stands S (here S h.1));
 }
 
 pub sweep_zone-requires : goal.sweep_zone-requires
@@ -24,7 +24,7 @@ pub size_at-len-requires : goal.size_at-len-requires
 size_at-len-requires c =
     let h = c.requires in let S = h.2.3 in record {
       lent = (S.good.lent, S.good.pages);
-      by_index = (_, _, here-stands S (here S h.1));
+      placed = (_, _, here-stands S (here S h.1));
     }
 
 pub overflow_add-next : goal.overflow_add-next
@@ -49,7 +49,7 @@ group_at-requires c =
     let e = c.kind_at-kind.ensures _ _ (here-stands S H) in
     let d = step-direct S H (λ y. c.if-kind-eq-KIND_ZONE.false (e ∙ y)) (λ y. c.if-kind-eq-KIND_RUN.false (e ∙ y)) in record {
       lent = (S.good.lent, S.good.pages);
-      by_index = (_, _, _, step-stands S H _ _ _ refl d.1 refl);
+      placed = (_, _, _, step-stands S H _ _ _ refl d.1 refl);
     }
 
 pub sweep_direct-requires : goal.sweep_direct-requires

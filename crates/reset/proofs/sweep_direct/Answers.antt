@@ -10,7 +10,7 @@ pub behind_run-requires : goal.behind_run-requires
 behind_run-requires c =
     let h = c.requires in let e = c.give_back.ensures in record {
       good = direct_good h.0 h.1 e;
-      by_index = direct-run h.0 h.1 e;
+      placed = direct-run h.0 h.1 e;
     }
 
 pub returns : goal.returns

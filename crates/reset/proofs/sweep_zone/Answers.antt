@@ -55,7 +55,7 @@ behind_run-requires c =
     let e = c.zone_owner.ensures in
     let d = c.chunk_back.ensures in record {
       good = walk-gone-good h.1.3 a _ e c.loop-i-test.true h.0 c.if-zone_owner-group.false d.words_after c.chunk_back.result c.if-not-chunk_back.true d.remains;
-      by_index = walk-run
+      placed = walk-run
           h.1.3 a _ e c.loop-i-test.true h.0 c.if-zone_owner-group.false d.words_after c.chunk_back.result c.if-not-chunk_back.true d.remains;
     }
 

@@ -14,7 +14,7 @@ slice_bounds-group-start c = has-header c.requires.lent.0
 pub group-requires : goal.group-requires
 group-requires c = let h = c.requires in record {
   holds = body-holds h.lent.0 _ h.lent.1;
-  by_index = in_body h.lent.0 (λ m. (b : ℕ) × (k g : ℕ) × Stands m c.args.p b (direct k g)) h.by_index;
+  placed = in_body h.lent.0 (λ m. (b : ℕ) × (k g : ℕ) × Stands m c.args.p b (direct k g)) h.placed;
 }
 
 pub returns : goal.returns

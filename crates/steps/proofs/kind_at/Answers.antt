@@ -6,13 +6,13 @@ use native.Mathlib.Omega.{arith}
 use Rattle.steps.proofs.kind_at.Goals as goal
 
 pub words_for-at-requires : goal.words_for-at-requires
-words_for-at-requires c = let h = c.requires in let r = here-inside h.lent h.by_index.2 in omega arith
+words_for-at-requires c = let h = c.requires in let r = here-inside h.lent h.placed.2 in omega arith
 
 pub offset_bounds-words-at : goal.offset_bounds-words-at
-offset_bounds-words-at c = let h = c.requires in let r = here-inside h.lent h.by_index.2 in omega (arith, c.words_for-at.ensures)
+offset_bounds-words-at c = let h = c.requires in let r = here-inside h.lent h.placed.2 in omega (arith, c.words_for-at.ensures)
 
 pub bounds-words-at : goal.bounds-words-at
-bounds-words-at c = let h = c.requires in let r = here-inside h.lent h.by_index.2 in omega (arith, c.words_for-at.ensures)
+bounds-words-at c = let h = c.requires in let r = here-inside h.lent h.placed.2 in omega (arith, c.words_for-at.ensures)
 
 pub returns : goal.returns
 returns c = λ b x t. ap (λ a. get_or c.args.words.now a 0) c.words_for-at.ensures ∙ here-kind c.requires.lent t

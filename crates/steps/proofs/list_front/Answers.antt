@@ -13,7 +13,7 @@ slice_bounds-push-end-2 c = header-long c.requires.lent
 
 pub push-requires : goal.push-requires
 unfolding decode
-push-requires c = let h = c.requires in (header-lent h.lent, h.class_lt_class_count.0, h.class_lt_class_count.1, h.class_lt_class_count.2)
+push-requires c = let h = c.requires in (header-lent h.lent, h.in_range.0, h.in_range.1, h.in_range.2)
 
 pub returns : goal.returns
 unfolding decode

@@ -13,7 +13,7 @@ slice_bounds-remove-end-2 c = header-long c.requires.lent
 
 pub remove-requires : goal.remove-requires
 unfolding decode
-remove-requires c = let h = c.requires in (header-lent h.lent, h.class_lt_class_count.0, h.class_lt_class_count.1)
+remove-requires c = let h = c.requires in (header-lent h.lent, h.in_range.0, h.in_range.1)
 
 pub returns : goal.returns
 unfolding decode

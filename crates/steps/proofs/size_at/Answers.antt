@@ -15,7 +15,7 @@ slice_bounds-size-start c = has-header c.requires.lent.0
 pub size-requires : goal.size-requires
 size-requires c = let h = c.requires in record {
   holds = body-holds h.lent.0 _ h.lent.1;
-  by_index = in_body h.lent.0 (λ m. (b : ℕ) × (x : Segment Zone) × Stands m c.args.p b x) h.by_index;
+  placed = in_body h.lent.0 (λ m. (b : ℕ) × (x : Segment Zone) × Stands m c.args.p b x) h.placed;
 }
 
 pub returns : goal.returns

@@ -13,7 +13,7 @@ slice_bounds-spare_push-end-2 c = header-long c.requires.lent
 
 pub spare_push-requires : goal.spare_push-requires
 unfolding decode
-spare_push-requires c = let h = c.requires in (header-lent h.lent, h.page_lt_most_pages.0, h.page_lt_most_pages.1)
+spare_push-requires c = let h = c.requires in (header-lent h.lent, h.in_range.0, h.in_range.1)
 
 pub returns : goal.returns
 unfolding decode

@@ -17,11 +17,11 @@ pub take_direct-requires : goal.take_direct-requires
 take_direct-requires c =
     let h = c.requires in record {
       holds = body-holds h.lent.0 _ h.lent.1;
-      by_index = in_body h.lent.0 (λ m. (b : ℕ) × Stands m c.args.at b (run c.args.len) × (0 < c.args.need) × (c.args.need ≤ c.args.len)) h.by_index;
+      placed = in_body h.lent.0 (λ m. (b : ℕ) × Stands m c.args.at b (run c.args.len) × (0 < c.args.need) × (c.args.need ≤ c.args.len)) h.placed;
     }
 
 pub returns : goal.returns
 returns c =
     let h = c.requires in
     body_back h.lent.0 _ (λ m. carve (record { page = c.args.at; size = c.args.len }) c.args.need (direct c.args.need c.args.group) m)
-    (carve-total h.by_index.1 c.args.need (direct c.args.need c.args.group) refl h.by_index.2 h.by_index.3) c.take_direct.ensures
+    (carve-total h.placed.1 c.args.need (direct c.args.need c.args.group) refl h.placed.2 h.placed.3) c.take_direct.ensures

@@ -20,11 +20,11 @@ pub take_zone-requires : goal.take_zone-requires
 take_zone-requires c =
     let h = c.requires in record {
       holds = body-holds h.lent.0 _ h.lent.1;
-      by_index = in_body h.lent.0 (λ m. (b : ℕ) × Stands m c.args.at b (run c.args.len) × (zone_pages ≤ c.args.len) × (0 < c.args.group)) h.by_index;
+      placed = in_body h.lent.0 (λ m. (b : ℕ) × Stands m c.args.at b (run c.args.len) × (zone_pages ≤ c.args.len) × (0 < c.args.group)) h.placed;
     }
 
 pub returns : goal.returns
 returns c =
     let h = c.requires in
     body_back h.lent.0 _ (λ m. carve (record { page = c.args.at; size = c.args.len }) zone_pages (zone (new_zone c.args.class c.args.group)) m)
-    (carve-total h.by_index.1 zone_pages (zone (new_zone c.args.class c.args.group)) refl (omega arith) h.by_index.2) c.take_zone.ensures
+    (carve-total h.placed.1 zone_pages (zone (new_zone c.args.class c.args.group)) refl (omega arith) h.placed.2) c.take_zone.ensures

@@ -36,15 +36,15 @@ returns-then-kind-eq-KIND_RUN c = λ b x s. run-adds x (sym (c.kind-kind.ensures
 pub zone_part-requires : goal.zone_part-requires
 zone_part-requires c =
     let h = c.requires in
-    let i = as-zone (goal.at.zone_part-requires c).After-kind-kind h.by_index.2 c.if-kind-eq-KIND_ZONE.true in record {
+    let i = as-zone (goal.at.zone_part-requires c).After-kind-kind h.placed.2 c.if-kind-eq-KIND_ZONE.true in record {
       holds = h.holds.0;
-      by_index = (_, i.0, i.2);
+      placed = (_, i.0, i.2);
     }
 
 pub add_zone-requires : goal.add_zone-requires
 add_zone-requires c =
     let h = c.requires in
-    let i = as-zone (goal.at.add_zone-requires c).After-kind-kind h.by_index.2 c.if-kind-eq-KIND_ZONE.true in ((c.zone_part.ensures _ _ i.2).0, h.holds.1)
+    let i = as-zone (goal.at.add_zone-requires c).After-kind-kind h.placed.2 c.if-kind-eq-KIND_ZONE.true in ((c.zone_part.ensures _ _ i.2).0, h.holds.1)
 
 pub returns-then-kind-eq-KIND_ZONE : goal.returns-then-kind-eq-KIND_ZONE
 returns-then-kind-eq-KIND_ZONE c =
@@ -55,31 +55,31 @@ returns-then-kind-eq-KIND_ZONE c =
 pub overflow_cast-bytes : goal.overflow_cast-bytes
 overflow_cast-bytes c =
     let h = c.requires in
-    omega (arith, c.size.ensures _ _ h.by_index.2, few (goal.at.overflow_cast-bytes c).After-kind-kind h.by_index.2)
+    omega (arith, c.size.ensures _ _ h.placed.2, few (goal.at.overflow_cast-bytes c).After-kind-kind h.placed.2)
 
 pub overflow_mul-bytes : goal.overflow_mul-bytes
 overflow_mul-bytes c =
     let h = c.requires in
-    omega (arith, c.size.ensures _ _ h.by_index.2, few (goal.at.overflow_mul-bytes c).After-kind-kind h.by_index.2)
+    omega (arith, c.size.ensures _ _ h.placed.2, few (goal.at.overflow_mul-bytes c).After-kind-kind h.placed.2)
 
 pub group-requires : goal.group-requires
 group-requires c =
     let h = c.requires in
-    let i = as-direct (goal.at.group-requires c).After-kind-kind h.by_index.2 c.if-kind-eq-KIND_RUN.false c.if-kind-eq-KIND_ZONE.false in record {
+    let i = as-direct (goal.at.group-requires c).After-kind-kind h.placed.2 c.if-kind-eq-KIND_RUN.false c.if-kind-eq-KIND_ZONE.false in record {
       holds = h.holds.0;
-      by_index = (_, _, i.0, i.2);
+      placed = (_, _, i.0, i.2);
     }
 
 pub add_blocks-requires : goal.add_blocks-requires
 add_blocks-requires c =
     let h = c.requires in
-    let i = as-direct (goal.at.add_blocks-requires c).After-kind-kind h.by_index.2 c.if-kind-eq-KIND_RUN.false c.if-kind-eq-KIND_ZONE.false in
+    let i = as-direct (goal.at.add_blocks-requires c).After-kind-kind h.placed.2 c.if-kind-eq-KIND_RUN.false c.if-kind-eq-KIND_ZONE.false in
     let ok = (read_at h.holds.0 i.2).ok.1 in
     let e = c.group.ensures _ _ _ i.2 in (
       omega (arith, e, ok.1),
       omega (arith, e, ok.2),
       omega arith,
-      omega (arith, c.size.ensures _ _ h.by_index.2, few (goal.at.add_blocks-requires c).After-kind-kind h.by_index.2),
+      omega (arith, c.size.ensures _ _ h.placed.2, few (goal.at.add_blocks-requires c).After-kind-kind h.placed.2),
       within_more 4 (omega arith) h.holds.1,
     )
 

@@ -15,14 +15,14 @@ pub add_segment-requires : goal.add_segment-requires
 add_segment-requires c =
     let i = c.loop-p.invariant in record {
       holds = (i.holds, tally-within i);
-      by_index = (i.b, (here (goal.at.add_segment-requires c).In-loop-p).x, (here (goal.at.add_segment-requires c).In-loop-p).stands);
+      placed = (i.b, (here (goal.at.add_segment-requires c).In-loop-p).x, (here (goal.at.add_segment-requires c).In-loop-p).stands);
     }
 
 pub size-p-requires : goal.size-p-requires
 size-p-requires c =
     let i = c.loop-p.invariant in record {
       holds = i.holds;
-      by_index = (i.b, (here (goal.at.size-p-requires c).In-loop-p).x, (here (goal.at.size-p-requires c).In-loop-p).stands);
+      placed = (i.b, (here (goal.at.size-p-requires c).In-loop-p).x, (here (goal.at.size-p-requires c).In-loop-p).stands);
     }
 
 pub overflow_add-p : goal.overflow_add-p

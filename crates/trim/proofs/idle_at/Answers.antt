@@ -8,7 +8,7 @@ pub returns-then-kind_at-ne-KIND_ZONE : goal.returns-then-kind_at-ne-KIND_ZONE
 returns-then-kind_at-ne-KIND_ZONE c = λ b x s. no-zone x (λ k. c.if-kind_at-ne-KIND_ZONE.true (c.kind_at.ensures b x s ∙ k))
 
 pub zone_idle-requires : goal.zone_idle-requires
-zone_idle-requires c = let h = c.requires in (h.lent, kind-here h.by_index.2 (sym (c.kind_at.ensures _ _ h.by_index.2) ∙ omega arith))
+zone_idle-requires c = let h = c.requires in (h.lent, kind-here h.placed.2 (sym (c.kind_at.ensures _ _ h.placed.2) ∙ omega arith))
 
 pub returns : goal.returns
 returns c = λ b x s. c.zone_idle.ensures ∙ kind-idle s (sym (c.kind_at.ensures b x s) ∙ omega arith)

@@ -13,7 +13,7 @@ loop-p-init c = trim_start c.requires c.spare_none.ensures
 pub idle_at-requires : goal.idle_at-requires
 idle_at-requires c = let i = c.loop-p.invariant in record {
   lent = i.lent;
-  by_index = (_, _, stands i c.loop-p-test.true);
+  placed = (_, _, stands i c.loop-p-test.true);
 }
 
 pub give_zone-len-requires : goal.give_zone-len-requires
@@ -22,7 +22,7 @@ give_zone-len-requires c =
     let h = c.loop-p-test.true in record {
       lent = (i.lent, i.sweep.size);
       apart = i.sweep.apart;
-      by_index = (_, _, between i h (sym (c.idle_at.ensures _ _ (stands i h)) ∙ c.if-idle_at.true));
+      placed = (_, _, between i h (sym (c.idle_at.ensures _ _ (stands i h)) ∙ c.if-idle_at.true));
     }
 
 pub overflow_add-p : goal.overflow_add-p
@@ -50,14 +50,14 @@ pub size_at-len-requires : goal.size_at-len-requires
 size_at-len-requires c =
     let i = c.loop-p.invariant in record {
       lent = (i.lent, i.sweep.size);
-      by_index = (_, _, stands i c.loop-p-test.true);
+      placed = (_, _, stands i c.loop-p-test.true);
     }
 
 pub run_at-before-requires : goal.run_at-before-requires
 run_at-before-requires c =
     let i = c.loop-p.invariant in record {
       lent = (i.lent, i.sweep.size);
-      by_index = (_, _, stands i c.loop-p-test.true);
+      placed = (_, _, stands i c.loop-p-test.true);
     }
 
 pub overflow_add-p-in-loop-p : goal.overflow_add-p-in-loop-p

@@ -13,7 +13,7 @@ overflow_cast-p c = let h = c.requires in omega (arith, page-low h.0 _ h.1)
 pub list_without-requires : goal.list_without-requires
 list_without-requires c = let h = c.requires in record {
   lent = h.0;
-  class_lt_class_count = (omega (arith, class_low h.0 _ h.1, c.zone_class-class.ensures), page-low h.0 _ h.1);
+  in_range = (omega (arith, class_low h.0 _ h.1, c.zone_class-class.ensures), page-low h.0 _ h.1);
 }
 
 pub returns : goal.returns

@@ -1,11 +1,8 @@
 -- `slots::are_legal` meets its contract. The loop's invariant: the slots from `i` on are legal behind `class` where all are. Assumes nothing.
-use mathlib.Core.Path.{refl, ◌∙◌}
+use mathlib.Core.Path.{◌∙◌}
 use native.Mathlib.Omega.{arith}
 use Rattle.header.proofs.Scans.{legal-end, legal-zero, legal-large, legal-falls, legal-next}
 use Rattle.header.proofs.slots.are_legal.Goals as goal
-
-pub loop-i-init : goal.loop-i-init
-loop-i-init c = (omega arith, refl)
 
 pub returns-then-slot-eq0 : goal.returns-then-slot-eq0
 returns-then-slot-eq0 c =

@@ -4,7 +4,7 @@ use mathlib.Core.List.{List}
 use mathlib.Core.Path.{sym, ◌∙◌}
 use native.Mathlib.Omega.{arith}
 use lib.ListN.{length}
-use Rattle.lemmas.proofs.Every.{count-nil, count-pass, count-fail, count-done}
+use Rattle.lemmas.proofs.Every.{count-nil, count-pass, count-fail}
 use Rattle.header.specs.Slots.{holds}
 use Rattle.header.proofs.slots.count_between.Goals as goal
 use Rattle.header.proofs.slots.count_between.Goals.{then-holds, else-holds}
@@ -27,6 +27,3 @@ loop-i-preserved c =
         | else-holds w ↦ w.n-is ∙ count-fail test s i 0 h (found ∙ w.if-holds.false) was.2
       ],
     )
-
-pub returns : goal.returns
-returns c = count-done _ _ _ c.loop-i-test.false c.loop-i.invariant.2

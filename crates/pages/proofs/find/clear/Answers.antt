@@ -16,15 +16,15 @@ returns-then-kind-ne-KIND_ZONE c = λ b x s. let k = c.kind-kind.ensures b x s i
 pub zone_part-requires : goal.zone_part-requires
 zone_part-requires c =
     let h = c.requires in
-    let z = stands-zone h.by_index.2 (sym (c.kind-kind.ensures _ _ h.by_index.2) ∙ omega arith) in record {
+    let z = stands-zone h.placed.2 (sym (c.kind-kind.ensures _ _ h.placed.2) ∙ omega arith) in record {
       holds = h.holds;
-      by_index = (h.by_index.0, z.0, z.2);
+      placed = (h.placed.0, z.0, z.2);
     }
 
 pub is_idle-requires : goal.is_idle-requires
 is_idle-requires c =
     let h = c.requires in
-    let z = stands-zone h.by_index.2 (sym (c.kind-kind.ensures _ _ h.by_index.2) ∙ omega arith) in (c.zone_part.ensures h.by_index.0 z.0 z.2).0
+    let z = stands-zone h.placed.2 (sym (c.kind-kind.ensures _ _ h.placed.2) ∙ omega arith) in (c.zone_part.ensures h.placed.0 z.0 z.2).0
 
 pub returns : goal.returns
 returns c = λ b x s.

@@ -15,7 +15,7 @@ loop-at-init c = search-start _ _ _ c.requires
 pub next_run-requires : goal.next_run-requires
 next_run-requires c = let i = c.loop-at.invariant in record {
   holds = c.requires;
-  by_index = (i.behind, i.walk.left, i.walk.passed);
+  placed = (i.behind, i.walk.left, i.walk.passed);
 }
 
 pub overflow_add-looked : goal.overflow_add-looked

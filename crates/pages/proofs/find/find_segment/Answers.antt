@@ -11,14 +11,14 @@ loop-p-init c = walk_start 0 c.requires
 pub size-len-requires : goal.size-len-requires
 size-len-requires c = let k = next c.loop-p.invariant c.loop-p-test.true in record {
   holds = c.requires;
-  by_index = (c.loop-p.before, k.x, k.stands);
+  placed = (c.loop-p.before, k.x, k.stands);
 }
 
 pub kind-kind-requires : goal.kind-kind-requires
 kind-kind-requires c =
     let k = next c.loop-p.invariant c.loop-p-test.true in record {
       holds = c.requires;
-      by_index = (c.loop-p.before, k.x, k.stands);
+      placed = (c.loop-p.before, k.x, k.stands);
     }
 
 pub overflow_add-p : goal.overflow_add-p

@@ -24,14 +24,14 @@ loop-p-init c = trim_start c.requires
 pub size-len-requires : goal.size-len-requires
 size-len-requires c = let k = here c.loop-p.invariant c.loop-p-test.true in record {
   holds = c.requires;
-  by_index = (_, k.x, k.stands);
+  placed = (_, k.x, k.stands);
 }
 
 pub clear-requires : goal.clear-requires
 clear-requires c =
     let k = here c.loop-p.invariant c.loop-p-test.true in record {
       holds = c.requires;
-      by_index = (_, k.x, k.stands);
+      placed = (_, k.x, k.stands);
     }
 
 pub overflow_add-free : goal.overflow_add-free

@@ -5,16 +5,16 @@ use Rattle.pages.proofs.Walk.{read_at}
 use Rattle.pages.proofs.find.group.Goals as goal
 
 pub overflow_mul-result : goal.overflow_mul-result
-overflow_mul-result c = let r = read_at c.requires.holds c.requires.by_index.3 in omega arith
+overflow_mul-result c = let r = read_at c.requires.holds c.requires.placed.3 in omega arith
 
 pub overflow_add-result : goal.overflow_add-result
-overflow_add-result c = let r = read_at c.requires.holds c.requires.by_index.3 in omega arith
+overflow_add-result c = let r = read_at c.requires.holds c.requires.placed.3 in omega arith
 
 pub offset_bounds-words-p : goal.offset_bounds-words-p
-offset_bounds-words-p c = let r = read_at c.requires.holds c.requires.by_index.3 in omega arith
+offset_bounds-words-p c = let r = read_at c.requires.holds c.requires.placed.3 in omega arith
 
 pub bounds-words-p : goal.bounds-words-p
-bounds-words-p c = let r = read_at c.requires.holds c.requires.by_index.3 in omega (arith, r.ok.0)
+bounds-words-p c = let r = read_at c.requires.holds c.requires.placed.3 in omega (arith, r.ok.0)
 
 pub returns : goal.returns
 returns c = λ b k g s. group-read (read_at c.requires.holds s)

@@ -7,8 +7,8 @@ use Rattle.pages.proofs.Search.{Seeking, seek-from, seek-past, seek_hit}
 use Rattle.pages.proofs.find.next_run.Goals as goal
 use Rattle.pages.proofs.find.next_run.Goals.{In-loop-p}
 
-walk : (c : In-loop-p) → Seeking c.args.words.now c.args.n (found (first_run c.args.page c.requires.by_index.1)) c.loop-p.p
-walk c = let q = c.requires.by_index in c.loop-p.invariant q.0 q.1 q.2
+walk : (c : In-loop-p) → Seeking c.args.words.now c.args.n (found (first_run c.args.page c.requires.placed.1)) c.loop-p.p
+walk c = let q = c.requires.placed in c.loop-p.invariant q.0 q.1 q.2
 
 segment : (c : In-loop-p) → Next (walk c).1
 segment c = next (walk c).1 c.loop-p-test.true
@@ -19,13 +19,13 @@ loop-p-init c = λ b l q. seek-from c.requires.holds q
 pub size-len-requires : goal.size-len-requires
 size-len-requires c = record {
   holds = c.requires.holds;
-  by_index = ((walk c).0, (segment c).x, (segment c).stands);
+  placed = ((walk c).0, (segment c).x, (segment c).stands);
 }
 
 pub kind-requires : goal.kind-requires
 kind-requires c = record {
   holds = c.requires.holds;
-  by_index = ((walk (goal.at.kind-requires c).In-loop-p).0, (segment (goal.at.kind-requires c).In-loop-p).x, (segment (goal.at.kind-requires c).In-loop-p).stands);
+  placed = ((walk (goal.at.kind-requires c).In-loop-p).0, (segment (goal.at.kind-requires c).In-loop-p).x, (segment (goal.at.kind-requires c).In-loop-p).stands);
 }
 
 pub returns-then-kind-eq-KIND_RUN : goal.returns-then-kind-eq-KIND_RUN

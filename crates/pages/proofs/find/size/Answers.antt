@@ -7,8 +7,8 @@ use Rattle.pages.proofs.find.size.Goals as goal
 use Rattle.pages.proofs.find.size.Goals.{After-kind}
 
 -- What the words say of the segment, from where its kind has been told.
-told : (c : After-kind) → Read c.args.words.now c.args.n c.args.p c.requires.by_index.1
-told c = let h = c.requires in read_at h.holds h.by_index.2
+told : (c : After-kind) → Read c.args.words.now c.args.n c.args.p c.requires.placed.1
+told c = let h = c.requires in read_at h.holds h.placed.2
 
 pub returns-then-kind-eq-KIND_ZONE : goal.returns-then-kind-eq-KIND_ZONE
 returns-then-kind-eq-KIND_ZONE c = λ b x s. sym (zone-size x (sym (c.kind.ensures _ _ s) ∙ c.if-kind-eq-KIND_ZONE.true))

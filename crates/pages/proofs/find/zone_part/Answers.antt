@@ -5,16 +5,16 @@ use Rattle.pages.proofs.Inverse.{zone-lent}
 use Rattle.pages.proofs.find.zone_part.Goals as goal
 
 pub overflow_mul-a : goal.overflow_mul-a
-overflow_mul-a c = let r = read_at c.requires.holds c.requires.by_index.2 in omega arith
+overflow_mul-a c = let r = read_at c.requires.holds c.requires.placed.2 in omega arith
 
 pub overflow_add-e : goal.overflow_add-e
-overflow_add-e c = let r = read_at c.requires.holds c.requires.by_index.2 in omega arith
+overflow_add-e c = let r = read_at c.requires.holds c.requires.placed.2 in omega arith
 
 pub offset_bounds-words-a : goal.offset_bounds-words-a
-offset_bounds-words-a c = let r = read_at c.requires.holds c.requires.by_index.2 in omega arith
+offset_bounds-words-a c = let r = read_at c.requires.holds c.requires.placed.2 in omega arith
 
 pub slice_bounds-result-end : goal.slice_bounds-result-end
-slice_bounds-result-end c = let r = read_at c.requires.holds c.requires.by_index.2 in omega arith
+slice_bounds-result-end c = let r = read_at c.requires.holds c.requires.placed.2 in omega arith
 
 pub returns : goal.returns
 returns c = λ b z s. zone-lent (read_at c.requires.holds s)

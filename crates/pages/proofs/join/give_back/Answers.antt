@@ -6,7 +6,7 @@ use Rattle.pages.proofs.join.give_back.Goals as goal
 pub run_behind-after-requires : goal.run_behind-after-requires
 run_behind-after-requires c = let h = c.requires in record {
   holds = h.holds;
-  by_index = (c.args.before, h.stands.0, h.stands.1, h.stands.2);
+  placed = (c.args.before, h.stands.0, h.stands.1, h.stands.2);
 }
 
 pub overflow_sub-a : goal.overflow_sub-a

@@ -4,7 +4,7 @@ use Prim.Native.Nat.{◌<◌}
 use mathlib.Core.Path.{sym}
 use native.Mathlib.Omega.{arith}
 use borrow.Author.Rules.{rules}
-use Rattle.lemmas.proofs.Below.{all_none, all_done}
+use Rattle.lemmas.proofs.Below.{all_none}
 use Rattle.zone.specs.Encoding.{slot_count}
 use Rattle.zone.proofs.Scans.{chunk-near, place-next}
 use Rattle.zone.proofs.slots.are_in_place.Goals as goal
@@ -18,15 +18,9 @@ chunk_small c =
 pub loop-i-init : goal.loop-i-init
 loop-i-init c = (omega arith, sym (all_none _))
 
-pub offset_bounds-slots-chunk : goal.offset_bounds-slots-chunk
-offset_bounds-slots-chunk c = let a = chunk_small c in search rules
-
 pub bounds-slots-chunk : goal.bounds-slots-chunk
 bounds-slots-chunk c = let a = chunk_small (goal.at.bounds-slots-chunk c).After-wide-chunk in search rules
 
 pub loop-i-preserved : goal.loop-i-preserved
 loop-i-preserved c =
     (omega arith, place-next c.args.slots.now c.wide.ensures c.wide-chunk.ensures c.loop-i.wrong c.loop-i.invariant.1)
-
-pub returns : goal.returns
-returns c = all_done _ _ _ (omega arith) c.loop-i.invariant.1

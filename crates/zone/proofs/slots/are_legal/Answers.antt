@@ -1,11 +1,9 @@
 -- `slots::are_legal` meets its contract, part by part. Assumes nothing.
-use mathlib.Core.Path.{sym, ap, ◌∙◌}
+use mathlib.Core.Path.{sym, ◌∙◌}
 use native.Mathlib.Omega.{arith}
 use borrow.Author.Tests.{lt-ltb, le-ltb}
-use Rattle.lemmas.specs.Every.{every}
 use Rattle.zone.specs.Encoding.{half}
-use Rattle.zone.specs.Decoding.{is_near}
-use Rattle.zone.proofs.Scans.{front, slots-full, slots-far, slots-uncounted, slots-placed}
+use Rattle.zone.proofs.Scans.{slots-full, slots-far, slots-uncounted, slots-placed}
 use Rattle.zone.proofs.slots.are_legal.Goals as goal
 
 pub returns-then-upper-ge-HALF : goal.returns-then-upper-ge-HALF
@@ -18,11 +16,6 @@ returns-then-lower-ge-FAR c =
 pub returns-then-lower-upper : goal.returns-then-lower-upper
 returns-then-lower-upper c =
     slots-uncounted c.args.slots.now c.args.touched c.args.chained (omega arith) (λ e. omega (arith, e, c.survey-upper.ensures.0, c.survey-lower.ensures.0))
-
-pub are_in_place-requires : goal.are_in_place-requires
-are_in_place-requires c =
-    let near = sym c.survey-lower.ensures.2 ∙ lt-ltb c.survey-lower.result.seen _ (omega arith) in
-    (omega arith, omega arith, ap (every is_near) (sym (front c.args.slots.now c.args.chained)) ∙ near)
 
 pub returns : goal.returns
 returns c =

@@ -4,7 +4,7 @@ use mathlib.Core.List.{List}
 use mathlib.Core.Path.{sym, ◌∙◌}
 use native.Mathlib.Omega.{arith}
 use lib.ListN.{length}
-use Rattle.lemmas.proofs.Every.{every-nil, every-done, count-nil, count-pass, count-fail, count-done}
+use Rattle.lemmas.proofs.Every.{every-nil, count-nil, count-pass, count-fail}
 use Rattle.lemmas.proofs.Bits.{or-below-more}
 use Rattle.zone.specs.Decoding.{is_live, is_bare, is_near}
 use Rattle.zone.proofs.slots.survey.Goals as goal
@@ -29,9 +29,3 @@ loop-i-preserved c =
       or-below-more 16 s i c.loop-i.seen h was.3,
       or-below-more 28 s i c.loop-i.seen h was.4,
     )
-
-pub returns : goal.returns
-returns c =
-    let end = c.loop-i-test.false in
-    let was = c.loop-i.invariant in
-    (count-done is_live _ _ end was.2, every-done is_bare _ _ end was.3, every-done is_near _ _ end was.4, omega arith)
