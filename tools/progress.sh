@@ -96,7 +96,7 @@ follow_line() {
     fi
     if [[ $1 == 'rt: must-fail '* ]]; then
         tried=$((tried + 1))
-    elif [[ $1 =~ ^rt:\ [a-z0-9_]+\ (NOT\ PROVED|proved)$ ]]; then
+    elif [[ $1 =~ ^rt:\ [a-z0-9_]+\ (NOT\ PROVED$|proved$|is\ kept:) ]]; then
         proved=$((proved + 1))
     elif [ "$edits" -eq 0 ] && [[ $1 =~ ^rt:\ chose\ --jobs\ [0-9]+\ for\ ([a-z0-9_]+)$ ]]; then
         follow_begins "${BASH_REMATCH[1]}"

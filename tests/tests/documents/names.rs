@@ -8,7 +8,7 @@ use std::path::{Path, PathBuf};
 
 /// Words in backticks that are no names of the tree: of the bench program's lines and answers, of C and Rattle, of the kit and of shells;
 /// files that are built; and the signs of the cases.
-pub const FOREIGN: [&str; 35] = [
+pub const FOREIGN: [&str; 34] = [
     "?",
     ">",
     ".out",
@@ -17,13 +17,12 @@ pub const FOREIGN: [&str; 35] = [
     "requires",
     "&[u32]",
     "std",
-    "io",
-    "libc",
     "libnostrimel.a",
     "axioms=3",
     "native=",
     "sum=",
     "rattle-kit-13f",
+    "rattle-kit-5b-plain",
     "memset",
     "search",
     "omega",
