@@ -4,9 +4,9 @@
 usage: python3 tools/respell.py    at the top of the repository
 
 - A word of ours in camel case becomes one in snake case: `accountEncoding` is `account_encoding`. Types and modules keep their capitals.
-- A law on the number at a place is called after `get_or`, as the library's are: `getD-zeros` is `get_or-zeros`.
+- A law on the number at a place is called after `get_or`, as the library's are, where port.py left its name: `getD-zeros` is `get_or-zeros`.
 - The crate `slab` is `calls`, since the kit has a library of that name.
-- The names in must-fail edits follow, and so do the forms of clauses that port.py turns in the sources.
+- The names in must-fail edits follow; what else has to change in an edit is turned by hand.
 Strings, functions of src/ and exported names are left alone: no function or exported name of ours is in camel case.
 """
 import os
