@@ -35,7 +35,8 @@
  * Nothing is asked of what the words hold. Whatever stands in them, every call ends, and reads and writes nothing but what it was
  * lent; words that are no valid state are refused by NOSTRIMEL_NO_STATE. docs/LAYOUT.md says what the words mean.
  *
- * What the library needs: memset, and nothing else from outside (no heap, no input or output). It keeps nothing in static memory.
+ * What the library needs: memset, and nothing else from outside (no heap, no input or output). It keeps nothing in static memory
+ * but constants.
  *
  * How many words. An arena of N pages has its state in the first NOSTRIMEL_WORDS(N) words. More may be lent; the words behind are
  * never read or changed. A word is stored as the processor stores a uint32_t, which on x86-64 is the lowest byte first.
@@ -44,8 +45,8 @@
  *   - Memory: four bytes a word, which is 4,352 bytes and 2,080 for each page. So the metadata are about half as large as the
  *     arena: 54,272 bytes for 24 pages (98,304 bytes), 536,832 for 256 (1,048,576).
  *   - Time: each call but nostrimel_init reads all of its state's words before it does anything, since any of them may be wrong. On
- *     one machine most calls took one to four microseconds at 24 pages and 6 to 52 at 256, by how many chunks were live;
- *     docs/PERFORMANCE.md has the others.
+ *     one machine, and made by an older compiler, most calls took one to four microseconds at 24 pages and 6 to 52 at 256, by how many
+ *     chunks were live; docs/PERFORMANCE.md has the others.
  *   - Stack: NOSTRIMEL_STACK_BYTES are enough for any call.
  */
 #ifndef NOSTRIMEL_H
@@ -88,7 +89,7 @@ extern "C" {
 
 /*
  * Bytes of stack that a call uses at most. That is measured and not proved: in twenty thousand calls of all kinds, on painted stacks,
- * none used more than 1,824, a request the most (tests/c/stack.c, which fails where a call uses more than this).
+ * none used more than 816, a request and a reset the most (tests/c/stack.c, which fails where a call uses more than this).
  */
 #define NOSTRIMEL_STACK_BYTES 4096u
 

@@ -61,7 +61,7 @@ fn libraries() -> Result<PathBuf, String> {
     fs::create_dir_all(&folder).map_err(|error| format!("target/staticlib: {error}"))?;
     for library in LIBRARIES {
         let file = file_of(library);
-        let made = rt(&root, "lib", library)?.join(&file);
+        let made = built(&root, "lib", library)?.join(&file);
         fs::copy(made, folder.join(&file))
             .map_err(|error| format!("rt lib left no crates/{library}/out/{file}: {error}"))?;
     }
@@ -86,7 +86,7 @@ fn program() -> Result<PathBuf, String> {
         };
     }
     let root = watched_repository();
-    let program = rt(&root, "run", PROGRAM)?.join(PROGRAM);
+    let program = built(&root, "run", PROGRAM)?.join(PROGRAM);
     match program.is_file() {
         true => Ok(program),
         false => Err(format!("rt run left no {}", program.display())),
@@ -116,13 +116,14 @@ fn watched_repository() -> PathBuf {
     root
 }
 
-/// Has the kit prove and write something of a crate, and gives the folder that has it. What `rt`
-/// prints is kept from cargo, which would take lines of it for this program's.
-fn rt(root: &Path, word: &str, name: &str) -> Result<PathBuf, String> {
+/// Has the kit prove and write something of a crate, for every x86-64 processor, and gives the
+/// folder that has it. What `rt` prints is kept from cargo, which would take lines of it for this
+/// program's.
+fn built(root: &Path, word: &str, name: &str) -> Result<PathBuf, String> {
     let folder = root.join("crates").join(name);
     let command = format!("rt {word} in crates/{name}");
     let done = Command::new("rt")
-        .arg(word)
+        .args([word, "--cpu", "x86-64"])
         .current_dir(&folder)
         .stdin(Stdio::null())
         .output()

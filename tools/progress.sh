@@ -33,9 +33,12 @@ all_edits() {
     find crates -path '*/must-fail/*.edit' ! -path 'crates/*/out/*'
 }
 
+# What is built runs on every x86-64 processor; left to itself rt compiles for those of x86-64-v2.
+processor=x86-64
+
 # Has a crate's static library proved and compiled, and puts it into target/staticlib: the crate, a title, and the file for what rt prints.
 kept_library() {
-    follow "$2" kept "$3" env -C "crates/$1" rt lib && mkdir -p target/staticlib && cp "crates/$1/out/lib$1.a" target/staticlib/
+    follow "$2" kept "$3" env -C "crates/$1" rt lib --cpu "$processor" && mkdir -p target/staticlib && cp "crates/$1/out/lib$1.a" target/staticlib/
 }
 
 # A sum of all that a built file comes from, and of the file itself: the crates without their edits, and their list.

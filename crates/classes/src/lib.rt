@@ -23,8 +23,7 @@ fn place(size: u32) -> usize
     ((size + 7) / 8 - 1) as usize
 }
 
-// The entry at a place. The compiler lays a constant out on the stack where it is read, but for what the read cannot reach: read by
-// quarters, that is 256 bytes and not all of the table.
+// The entry at a place, read by quarters: no arm can reach more than 256 bytes of the table.
 fn entry(at: usize) -> u8
     requires { at < entry_count }
     ensures { result ≡ get_or class_table at 0 }

@@ -8,7 +8,7 @@ use std::path::{Path, PathBuf};
 
 /// Words in backticks that are no names of the tree: of the bench program's lines and answers, of C and Rattle, of the kit and of shells;
 /// files that are built; and the signs of the cases.
-pub const FOREIGN: [&str; 34] = [
+pub const FOREIGN: [&str; 35] = [
     "?",
     ">",
     ".out",
@@ -24,13 +24,14 @@ pub const FOREIGN: [&str; 34] = [
     "rattle-kit-13f",
     "rattle-kit-5b-plain",
     "memset",
-    "search",
-    "omega",
     "N",
     "logic-built",
     "logic-built=trusted",
     "libraries-built",
     "libraries-built=trusted",
+    "statements=trusted",
+    "rt",
+    "x86-64",
     "->",
     "0+8192",
     "8192|40960",

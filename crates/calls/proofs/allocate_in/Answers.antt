@@ -31,12 +31,21 @@ lent : (c : Start) → take figure_words c.args.meta.now ≡ figures_of (account
 lent c = figures-are c.args.meta.now c.requires.account
 
 pub returns-then-not-group_ok : goal.returns-then-not-group_ok
-returns-then-not-group_ok c = let k = arena-denied c.requires (call (account_in c.args.meta.now) c.args.group c.args.size) _
-    (c.denied_by.ensures ∙ bad-group (account_in c.args.meta.now) c.args.group c.args.size (sym c.group_ok.ensures ∙ c.if-not-group_ok.true)) (ap is_refused c.denied_by.ensures) in record { value = k.0; meta_after = k.1 }
+returns-then-not-group_ok c =
+    let a = account_in c.args.meta.now in
+    let d = c.denied_by.ensures in
+    let k = arena-denied c.requires (call a c.args.group c.args.size) _
+    (d ∙ bad-group a c.args.group c.args.size (sym c.group_ok.ensures ∙ c.if-not-group_ok.true)) (ap is_refused d) in
+    record { value = k.0; meta_after = k.1 }
 
 pub returns-then-not-size_ok : goal.returns-then-not-size_ok
-returns-then-not-size_ok c = let k = arena-denied c.requires (call (account_in c.args.meta.now) c.args.group c.args.size) _
-    (c.denied_by-then-not-size_ok.ensures ∙ bad-size (account_in c.args.meta.now) c.args.group c.args.size (legal-group (goal.at.returns-then-not-size_ok c).After-size_ok) (sym c.size_ok.ensures ∙ c.if-not-size_ok.true)) (ap is_refused c.denied_by-then-not-size_ok.ensures) in record { value = k.0; meta_after = k.1 }
+returns-then-not-size_ok c =
+    let a = account_in c.args.meta.now in
+    let group = legal-group (goal.at.returns-then-not-size_ok c).After-size_ok in
+    let d = c.denied_by-then-not-size_ok.ensures in
+    let k = arena-denied c.requires (call a c.args.group c.args.size) _
+    (d ∙ bad-size a c.args.group c.args.size group (sym c.size_ok.ensures ∙ c.if-not-size_ok.true)) (ap is_refused d) in
+    record { value = k.0; meta_after = k.1 }
 
 pub room_for-room-requires : goal.room_for-room-requires
 room_for-room-requires c = let u = legal-size c in (size-least _ u, size-most _ u, c.class_for-class.ensures)
@@ -53,17 +62,30 @@ slice_bounds-within-end-2 c = sym (length-take-le figure_words c.args.meta.now (
 -- What the test of the ceiling is told.
 pub within-requires : goal.within-requires
 within-requires c =
-    let k = within-needs (account_in c.args.meta.now) (arena-valid c.requires) c.args.group c.args.size (legal-group (goal.at.within-requires c).After-size_ok) (legal-size (goal.at.within-requires c).After-class_for-class) _ (lent (goal.at.within-requires c).Start) _ (ap (λ g. g - 1) c.wide-index.ensures) _ c.room_for-room.ensures in
+    let group = legal-group (goal.at.within-requires c).After-size_ok in
+    let size = legal-size (goal.at.within-requires c).After-class_for-class in
+    let words = lent (goal.at.within-requires c).Start in
+    let index = ap (λ g. g - 1) c.wide-index.ensures in
+    let k = within-needs (account_in c.args.meta.now) (arena-valid c.requires) c.args.group c.args.size group size _ words _ index _ c.room_for-room.ensures in
     record { record_there = k.0; bounded_bytes = k.1 }
 
 within-told : (c : After-within) → c.within.result ≡ within (ceiling_of (account_in c.args.meta.now) c.args.group) c.args.group c.args.size (page_map (account_in c.args.meta.now).state)
 within-told c =
     c.within.ensures
-    ∙ within-is (account_in c.args.meta.now) (arena-valid c.requires) c.args.group c.args.size (sym c.group_ok.ensures ∙ c.if-not-group_ok.false) (sym c.size_ok.ensures ∙ c.if-not-size_ok.false) _ (figures-are c.args.meta.now c.requires.account) _ (ap (λ g. g - 1) c.wide-index.ensures) _ c.room_for-room.ensures
+    ∙ within-is (account_in c.args.meta.now) (arena-valid c.requires) c.args.group c.args.size
+    (sym c.group_ok.ensures ∙ c.if-not-group_ok.false) (sym c.size_ok.ensures ∙ c.if-not-size_ok.false)
+    _ (figures-are c.args.meta.now c.requires.account) _ (ap (λ g. g - 1) c.wide-index.ensures) _ c.room_for-room.ensures
 
 pub returns-then-not-within : goal.returns-then-not-within
-returns-then-not-within c = let k = arena-denied c.requires (call (account_in c.args.meta.now) c.args.group c.args.size) _
-    (c.denied_by-then-not-within.ensures ∙ over-ceiling (account_in c.args.meta.now) c.args.group c.args.size (legal-group (goal.at.returns-then-not-within c).After-size_ok) (legal-size (goal.at.returns-then-not-within c).After-class_for-class) (sym (within-told (goal.at.returns-then-not-within c).After-within) ∙ c.if-not-within.true)) (ap is_refused c.denied_by-then-not-within.ensures) in record { value = k.0; meta_after = k.1 }
+returns-then-not-within c =
+    let a = account_in c.args.meta.now in
+    let group = legal-group (goal.at.returns-then-not-within c).After-size_ok in
+    let size = legal-size (goal.at.returns-then-not-within c).After-class_for-class in
+    let told = within-told (goal.at.returns-then-not-within c).After-within in
+    let d = c.denied_by-then-not-within.ensures in
+    let k = arena-denied c.requires (call a c.args.group c.args.size) _
+    (d ∙ over-ceiling a c.args.group c.args.size group size (sym told ∙ c.if-not-within.true)) (ap is_refused d) in
+    record { value = k.0; meta_after = k.1 }
 
 pub grant_in-requires : goal.grant_in-requires
 grant_in-requires c = record {

@@ -59,9 +59,12 @@ supply-answer-requires c =
 pub returns-then-is_refused : goal.returns-then-is_refused
 returns-then-is_refused c =
     let e = c.words_for-e.ensures in
-    let r = c.supply-answer.ensures in record {
-      value = arena-answer c.requires.arena.0 _ e (call c.args.group c.args.size) (asks c.args.group c.args.size) (accepted _ _ _ c.requires.arena.1) _ r.0;
-      meta_after = arena-refused c.requires.arena.0 _ e (call c.args.group c.args.size) (asks c.args.group c.args.size) (accepted _ _ _ c.requires.arena.1) _ r.1 (arena-not c.requires.arena.0 _ e (call c.args.group c.args.size) (asks c.args.group c.args.size) (accepted _ _ _ c.requires.arena.1) _ r.0 _ c.is_refused.ensures c.if-is_refused.true);
+    let r = c.supply-answer.ensures in
+    let q = call c.args.group c.args.size in
+    let f = asks c.args.group c.args.size in
+    let h = c.requires.arena in record {
+      value = arena-answer h.0 _ e q f (accepted _ _ _ h.1) _ r.0;
+      meta_after = arena-refused h.0 _ e q f (accepted _ _ _ h.1) _ r.1 (arena-not h.0 _ e q f (accepted _ _ _ h.1) _ r.0 _ c.is_refused.ensures c.if-is_refused.true);
     }
 
 pub overflow_sub-index : goal.overflow_sub-index
@@ -82,8 +85,13 @@ add-requires c =
 pub returns : goal.returns
 returns c =
     let e = c.words_for-e.ensures in
-    let r = c.supply-answer.ensures in record {
-      value = arena-answer c.requires.arena.0 _ e (call c.args.group c.args.size) (asks c.args.group c.args.size) (accepted _ _ _ c.requires.arena.1) _ r.0;
-      meta_after = arena-stepped c.requires.arena.0 _ e (call c.args.group c.args.size) (asks c.args.group c.args.size) (accepted _ _ _ c.requires.arena.1) _ r.1 _
-          (grant-done (account_in c.args.meta.now) (arena-valid c.requires.arena.0) c.args.group c.args.size c.requires.arena.1 (done (goal.at.returns c).After-wide-index) _ (lent (goal.at.returns c).After-wide-index) _ (ap (λ g. g - 1) c.wide-index.ensures) _ c.requires.size_told.1 _ c.add.ensures);
+    let r = c.supply-answer.ensures in
+    let q = call c.args.group c.args.size in
+    let f = asks c.args.group c.args.size in
+    let h = c.requires.arena in
+    let p = (goal.at.returns c).After-wide-index in
+    let index = ap (λ g. g - 1) c.wide-index.ensures in record {
+      value = arena-answer h.0 _ e q f (accepted _ _ _ h.1) _ r.0;
+      meta_after = arena-stepped h.0 _ e q f (accepted _ _ _ h.1) _ r.1 _
+          (grant-done (account_in c.args.meta.now) (arena-valid h.0) c.args.group c.args.size h.1 (done p) _ (lent p) _ index _ c.requires.size_told.1 _ c.add.ensures);
     }

@@ -49,7 +49,12 @@ cap-requires c =
     set-needs c.args.meta.now c.args.group c.args.ceiling (good (goal.at.cap-requires c).After-group_ok) (legal (goal.at.cap-requires c).Else-not-group_ok) _ refl _ (ap (λ g. g - 1) c.wide-index.ensures)
 
 pub returns-then-ceiling-le-MOST_BYTES : goal.returns-then-ceiling-le-MOST_BYTES
-returns-then-ceiling-le-MOST_BYTES c = let k = set-done c.args.meta.now c.args.group c.args.ceiling (good (goal.at.returns-then-ceiling-le-MOST_BYTES c).After-group_ok) (legal (goal.at.returns-then-ceiling-le-MOST_BYTES c).Else-not-group_ok) c.if-ceiling-le-MOST_BYTES.true _ _ (ap (λ g. g - 1) c.wide-index.ensures) c.cap.ensures in record { value = k.0; meta_after = k.1 }
+returns-then-ceiling-le-MOST_BYTES c =
+    let lent = good (goal.at.returns-then-ceiling-le-MOST_BYTES c).After-group_ok in
+    let group = legal (goal.at.returns-then-ceiling-le-MOST_BYTES c).Else-not-group_ok in
+    let index = ap (λ g. g - 1) c.wide-index.ensures in
+    let k = set-done c.args.meta.now c.args.group c.args.ceiling lent group c.if-ceiling-le-MOST_BYTES.true _ _ index c.cap.ensures in
+    record { value = k.0; meta_after = k.1 }
 
 pub returns : goal.returns
 returns c = let k = set-too-large _ _ _ (good (goal.at.returns c).After-group_ok) (legal (goal.at.returns c).Else-not-group_ok) c.if-ceiling-le-MOST_BYTES.false in record { value = k.0; meta_after = k.1 }
