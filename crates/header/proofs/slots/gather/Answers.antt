@@ -13,6 +13,3 @@ loop-i-preserved c = gathered-keep _ _ _ _ _ c.loop-i.invariant c.loop-i-test.tr
 
 pub returns : goal.returns
 returns c = gathered-done _ _ _ _ _ c.loop-i.invariant c.loop-i-test.false
-
--- same_length : tie.Need-same-length invariant-loop decreases-loop
--- same_length c = c.before.loop.invariant.size
