@@ -14,6 +14,7 @@ ghost use Rattle.account.specs.Decoding.{tally_fits, figures_fit, account_in, is
 
 use figures::layout::{AT_CEILING, AT_GREATEST, AT_HELD, AT_REST};
 use model::numbers::{FIGURE_WORDS, GROUPS, HEADER_WORDS, MOST_BYTES, PAGE_BYTES};
+use pages::find::Pages;
 
 // ---- the check
 
@@ -23,21 +24,13 @@ fn record_fits(figures: &[u32], tally: &[u32], index: usize, most: u32) -> bool
     requires { (length figures.now ≡ figure_words) × (length tally.now ≡ most_group + most_group) × (index < most_group) }
     ensures { result ≡ tally_fits figures.now tally.now most index }
 {
-    if figures[index] != tally[index] {
-        return false;
-    }
     let held = figures[AT_HELD + index];
-    if held != tally[GROUPS + index] {
-        return false;
-    }
     let greatest = figures[AT_GREATEST + index];
-    if greatest < held {
-        return false;
-    }
-    if most < greatest {
-        return false;
-    }
-    figures[AT_CEILING + index] <= MOST_BYTES
+    figures[index] == tally[index]
+        && held == tally[GROUPS + index]
+        && held <= greatest
+        && greatest <= most
+        && figures[AT_CEILING + index] <= MOST_BYTES
 }
 
 // Whether every group's do.
@@ -45,14 +38,7 @@ fn records_fit(figures: &[u32], tally: &[u32], most: u32) -> bool
     requires { (length figures.now ≡ figure_words) × (length tally.now ≡ most_group + most_group) }
     ensures { result ≡ all_below (tally_fits figures.now tally.now most) most_group }
 {
-    let mut i: usize = 0;
-    while i < GROUPS {
-        if !record_fits(figures, tally, i, most) {
-            return false;
-        }
-        i += 1;
-    }
-    true
+    (0..GROUPS).all(|i| record_fits(figures, tally, i, most))
 }
 
 // Whether the figures are those of the state behind them. What each group holds is added up once.
@@ -63,7 +49,11 @@ fn figures_fit(figures: &[u32], state: &[u32]) -> bool
     let n = metadata::pages(state);
     let e = metadata::words_for(n);
     let mut tally = [0u32; GROUPS + GROUPS];
-    tally::tally(&state[HEADER_WORDS..e], n, &mut tally);
+    let pages = Pages {
+        words: &state[HEADER_WORDS..e],
+        count: n,
+    };
+    tally::tally(&pages, &mut tally);
     if !records_fit(figures, &tally, n as u32 * PAGE_BYTES) {
         return false;
     }

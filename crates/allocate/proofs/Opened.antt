@@ -6,9 +6,9 @@ use mathlib.Core.List.{List, [], ◌∷◌, Memᴰ}
 use mathlib.Core.Option.{some}
 use native.Mathlib.Omega.{arith}
 use lib.ListN.{length, get_or, set, drop}
+use Rattle.std.specs.Prelude.{Some, None}
 use Rattle.model.specs.Numbers.{page_bytes, zone_pages, most_pages}
-use Rattle.model.specs.declared.Answer.TheVariants.{Granted, Denied}
-use Rattle.model.specs.declared.Refusal.TheVariants.{NoRoom}
+use Rattle.model.specs.declared.Answer.TheVariants.{Granted}
 use Rattle.model.specs.Arena.{Segment, zone}
 use Rattle.model.specs.Zone.{Zone, new_zone}
 use Rattle.model.specs.State.{State, list_of, arranged, put_zone}
@@ -19,29 +19,27 @@ use Rattle.model.specs.Allocate.{sought, opened, zone_from, from_spare, chunk_fr
 use Rattle.model.proofs.Trimmed.{trimmed-empty}
 use Rattle.model.proofs.Sought.{sought-from}
 use Rattle.model.proofs.ValidAllocate.{chunk-valid}
-use Rattle.header.specs.declared.Front.TheVariants.{Page, Nothing}
 use Rattle.header.specs.Front.{front_of}
 use Rattle.header.specs.Keys.{keys_of}
 use Rattle.header.specs.Encoding.{list_slots}
 use Rattle.header.proofs.Kept.{fits-spare-pop}
 use Rattle.pages.specs.declared.Choice.{Choice}
-use Rattle.pages.specs.declared.Choice.TheVariants.{Chosen, Missed}
+use Rattle.pages.specs.declared.Run.{Run}
 use Rattle.metadata.specs.Encoding.{encode}
 use Rattle.metadata.specs.Decoding.{decode}
 use Rattle.steps.specs.Lent.{Encodes, ZoneHere, Good}
-use Rattle.steps.specs.Outcomes.{Makes}
 use Rattle.steps.specs.Moves.{fronted, spared, rezoned, carved}
 use Rattle.steps.proofs.Lent.{lent-decoded}
 use Rattle.steps.proofs.Kept.{had-room}
 use Rattle.allocate.specs.Asked.{Asked}
 use Rattle.allocate.specs.Finds.{Finds}
-use Rattle.allocate.proofs.Sourced.{none-sought, none-words, Sourced, sourced}
+use Rattle.allocate.proofs.Sourced.{Sourced, sourced}
 use Rattle.allocate.proofs.Found.{front-page, front-nothing}
 use Rattle.steps.proofs.Zones.{zone-there}
 use Rattle.allocate.proofs.Places.{Free, free}
 use Rattle.allocate.proofs.Between.{follows, between}
 
-module _ {w : List ℕ} {n c g : ℕ} (h : Asked w n c g) (empty : front_of (list_of (decode w) c) ≡ Nothing) where
+module _ {w : List ℕ} {n c g : ℕ} (h : Asked w n c g) (empty : front_of (list_of (decode w) c) ≡ None) where
   abbrev s : State
   s = decode w
 
@@ -76,7 +74,7 @@ module _ {w : List ℕ} {n c g : ℕ} (h : Asked w n c g) (empty : front_of (lis
 
   -- The first zone of the empty list ------------------------------------------------------------------------------------------------
 
-  module _ {p : ℕ} (front : front_of s.spare ≡ Page p) where
+  module _ {p : ℕ} (front : front_of s.spare ≡ Some p) where
     abbrev ps : List ℕ
     ps = (front-page s.spare p front).0
 
@@ -117,34 +115,28 @@ module _ {w : List ℕ} {n c g : ℕ} (h : Asked w n c g) (empty : front_of (lis
 
   -- Pages from the runs -------------------------------------------------------------------------------------------------------------
 
-  module _ (bare : front_of s.spare ≡ Nothing) where
+  module _ (bare : front_of s.spare ≡ None) where
     zone-rule : chunk_from c g s (list_of s c) ≡ (let l = sought zone_pages s in zone_from c g s l.looked l.chosen)
     zone-rule = ap (chunk_from c g s) none_open ∙ ap (from_spare c g s) (front-nothing s.spare bare)
 
     some-pages : 0 < zone_pages
     some-pages = omega arith
 
-    -- There are none.
-    pub no-zone : {v : List ℕ} {r : Choice} {j : ℕ} → r ≡ Missed j → Finds s (sought zone_pages s) r v → Makes (chunk_from c g s (list_of s c)) (Denied NoRoom j) v
-    no-zone told e =
-        let rule = zone-rule ∙ ap (λ l. zone_from c g s l.looked l.chosen) (none-sought h.good zone_pages told e) in
-        (ap (λ o. o.answer) (sym rule), none-words h.good zone_pages told e ∙ ap (λ o. encode o.after) (sym rule))
-
-    module _ {v : List ℕ} {r : Choice} {p k j : ℕ} (told : r ≡ Chosen p k j) (e : Finds s (sought zone_pages s) r v) where
-      from : Sourced h.good zone_pages v p k j
+    module _ {v : List ℕ} {r : Choice} {f : Run} (told : r.run ≡ Some f) (e : Finds s (sought zone_pages s) r v) where
+      from : Sourced h.good zone_pages v f.at f.len r.looked
       from = sourced h.good zone_pages told e
 
       abbrev t : State
       t = decode v
 
       abbrev m' : List (Segment Zone)
-      m' = carve (record { page = p; size = k }) zone_pages (zone new) t.segments
+      m' = carve (record { page = f.at; size = f.len }) zone_pages (zone new) t.segments
 
-      open-rule : chunk_from c g s (list_of s c) ≡ opened c t m' p t.spare j
+      open-rule : chunk_from c g s (list_of s c) ≡ opened c t m' f.at t.spare r.looked
       open-rule =
           zone-rule ∙ ap (λ l. zone_from c g s l.looked l.chosen) from.is
-          ∙ ap (λ x. zone_from c g s j (some (record { state = from.source.state; free = x }))) from.free
-          ∙ ap (λ u. opened c u (carve (record { page = p; size = k }) zone_pages (zone new) u.segments) p u.spare j) (sym from.decoded)
+          ∙ ap (λ x. zone_from c g s r.looked (some (record { state = from.source.state; free = x }))) from.free
+          ∙ ap (λ u. opened c u (carve (record { page = f.at; size = f.len }) zone_pages (zone new) u.segments) f.at u.spare r.looked) (sym from.decoded)
 
       -- The class's list is empty in the state that the pages are taken from, too.
       open-bare : list_of t c ≡ []
@@ -155,24 +147,24 @@ module _ {w : List ℕ} {n c g : ℕ} (h : Asked w n c g) (empty : front_of (lis
       pub open-good : Good v n
       open-good = from.good
 
-      pub open_free : Free t.segments zone_pages p k
-      open_free = free t.segments zone_pages p k some-pages from.claimed
+      pub open_free : Free t.segments zone_pages f.at f.len
+      open_free = free t.segments zone_pages f.at f.len some-pages from.claimed
 
-      pub open-page : p < most_pages
+      pub open-page : f.at < most_pages
       open-page = omega (arith, open_free.inside, open_free.enough, open-good.lent.fits.most)
 
-      pub open-answer : Granted (p * page_bytes) j ≡ (chunk_from c g s (list_of s c)).answer
+      pub open-answer : Granted (f.at * page_bytes) r.looked ≡ (chunk_from c g s (list_of s c)).answer
       open-answer = ap (λ o. o.answer) (sym open-rule)
 
       abbrev t₁ : State
-      t₁ = carved (record { page = p; size = k }) zone_pages (zone new) t
+      t₁ = carved (record { page = f.at; size = f.len }) zone_pages (zone new) t
 
-      module _ {w₁ : List ℕ} (f : w₁ ≡ encode (carved (record { page = p; size = k }) zone_pages (zone new) (decode v))) where
+      module _ {w₁ : List ℕ} (y : w₁ ≡ encode (carved (record { page = f.at; size = f.len }) zone_pages (zone new) (decode v))) where
         pub open-words : Encodes w₁ t₁
-        open-words = between t (opened c t m' p t.spare j).after open-good.lent.fits (result-valid (opened c t m' p t.spare j) open-rule) f
+        open-words = between t (opened c t m' f.at t.spare r.looked).after open-good.lent.fits (result-valid (opened c t m' f.at t.spare r.looked) open-rule) y
 
         pub open-room : length (keys_of (decode w₁).lists) < list_slots
-        open-room = list-room t open-bare (classes open-good) p m' t.spare open-rule t₁ refl open-words
+        open-room = list-room t open-bare (classes open-good) f.at m' t.spare open-rule t₁ refl open-words
 
-        pub opened-words : {w₂ : List ℕ} → w₂ ≡ encode (fronted c p (decode w₁)) → w₂ ≡ encode (chunk_from c g s (list_of s c)).after
-        opened-words e₂ = list_put t open-bare (classes open-good) p m' t.spare open-rule t₁ refl open-words refl refl e₂
+        pub opened-words : {w₂ : List ℕ} → w₂ ≡ encode (fronted c f.at (decode w₁)) → w₂ ≡ encode (chunk_from c g s (list_of s c)).after
+        opened-words e₂ = list_put t open-bare (classes open-good) f.at m' t.spare open-rule t₁ refl open-words refl refl e₂

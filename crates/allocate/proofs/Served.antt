@@ -6,6 +6,7 @@ use mathlib.Core.Bool.{Bool, true, false, cond}
 use mathlib.Core.List.{List, [], ◌∷◌, Memᴰ}
 use native.Mathlib.Omega.{arith}
 use lib.ListN.{set}
+use Rattle.std.specs.Prelude.{Some}
 use Rattle.lemmas.specs.Times.{Distinct, remove}
 use Rattle.lemmas.proofs.Sets.{set_same}
 use Rattle.lemmas.proofs.Distinct.{remove-here, remove_absent}
@@ -21,7 +22,6 @@ use Rattle.model.proofs.Sizes.{chunk-begins}
 use Rattle.model.proofs.Zones.{grants}
 use Rattle.model.proofs.Moves.{put-new}
 use Rattle.model.proofs.ValidAllocate.{chunk-valid}
-use Rattle.header.specs.declared.Front.TheVariants.{Page}
 use Rattle.header.specs.Front.{front_of}
 use Rattle.metadata.specs.Encoding.{encode}
 use Rattle.metadata.specs.Decoding.{decode}
@@ -33,7 +33,7 @@ use Rattle.allocate.proofs.Found.{front-page}
 use Rattle.steps.proofs.Zones.{zone-at, zone-there}
 use Rattle.allocate.proofs.Between.{follows, between}
 
-module _ {w : List ℕ} {n c g : ℕ} (h : Asked w n c g) {p : ℕ} (front : front_of (list_of (decode w) c) ≡ Page p) where
+module _ {w : List ℕ} {n c g : ℕ} (h : Asked w n c g) {p : ℕ} (front : front_of (list_of (decode w) c) ≡ Some p) where
   abbrev s : State
   s = decode w
 

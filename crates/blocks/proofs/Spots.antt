@@ -2,45 +2,44 @@
 use Prim.Native.Nat.{ℕ, ◌+◌, ◌-◌, ◌*◌, ◌/◌, ◌≤◌, ◌<◌}
 use mathlib.Core.Path.{◌≡◌, sym, ap, ◌∙◌, subst}
 use mathlib.Core.List.{List}
-use mathlib.Core.Option.{none}
 use native.Mathlib.Omega.{arith}
+use Rattle.std.specs.Prelude.{Option, Some, None}
 use Rattle.model.specs.Numbers.{page_bytes, zone_bytes, class_count, most_pages}
-use Rattle.model.specs.Arena.{Segment, run, direct, zone, pages, total}
+use Rattle.model.specs.Arena.{Segment, direct, zone, pages, total}
 use Rattle.model.specs.Zone.{Zone}
 use Rattle.model.specs.State.{State}
-use Rattle.model.specs.PageMap.{page_map, block_at}
 use Rattle.model.specs.Valid.{Valid}
-use Rattle.zone.specs.Encoding.{kind_zone}
-use Rattle.pages.specs.Encoding.{kind_direct, kind_of}
+use Rattle.pages.specs.declared.Kind.TheVariants as kind
 use Rattle.pages.specs.declared.Spot.{Spot}
-use Rattle.pages.specs.declared.Spot.TheVariants.{Segment as At, Nowhere}
-use Rattle.pages.specs.Places.{Stands, spot_from}
+use Rattle.pages.specs.declared.Start.{Start}
+use Rattle.pages.specs.Places.{kind_in, Stands, spot_from}
 use Rattle.pages.proofs.Spots.{Spotted, spotted}
-use Rattle.pages.proofs.Inverse.{stands-zone, stands-direct}
+use Rattle.pages.proofs.Inverse.{run-by-kind, stands-zone, stands-direct}
+use Rattle.lemmas.proofs.Cases.{clash}
 use Rattle.metadata.specs.Decoding.{decode}
 use Rattle.steps.specs.Lent.{Good}
-use Rattle.blocks.specs.declared.Place.{Place}
-use Rattle.blocks.specs.declared.Place.TheVariants.{Whole, Chunk, Nothing}
-use Rattle.blocks.specs.Places.{Tells}
+use Rattle.blocks.specs.declared.Block.{Block}
+use Rattle.blocks.specs.declared.Block.TheVariants.{Whole, Chunk}
+use Rattle.blocks.specs.Places.{TellsBlock, Tells}
 use Rattle.steps.proofs.Zones.{stands-inside, zone-valid}
 use Rattle.blocks.proofs.Standing.{block-past, found-whole, whole-off, run_none}
 
--- The segment at page a, of kind k and len pages behind a run of b pages, holds the byte o.
-pub record Held (s : State) (o a k len b : ℕ) : Type 0 where
+-- The segment that was found holds the byte o.
+pub record Held (s : State) (o : ℕ) (f : Spot) : Type 0 where
   pub x : Segment Zone
-  pub stands : Stands s.segments a b x
-  pub kind : kind_of x ≡ k
-  pub size : pages x ≡ len
-  pub low : a * page_bytes ≤ o
-  pub high : o < (a + len) * page_bytes
-  pub few : a + len ≤ most_pages
+  pub stands : Stands s.segments f.start.at f.start.before x
+  pub kind : kind_in x ≡ f.kind
+  pub size : pages x ≡ f.len
+  pub low : f.start.at * page_bytes ≤ o
+  pub high : o < (f.start.at + f.len) * page_bytes
+  pub few : f.start.at + f.len ≤ most_pages
 
-module _ {w : List ℕ} {n : ℕ} (good : Good w n) (o : ℕ) (r : Spot) (is : r ≡ spot_from (o / page_bytes) 0 0 (decode w).segments) where
+module _ {w : List ℕ} {n : ℕ} (good : Good w n) (o : ℕ) (r : Option Spot) (is : r ≡ spot_from (o / page_bytes) 0 0 (decode w).segments) where
   told : Spotted (decode w).segments (o / page_bytes) r
   told = subst (Spotted (decode w).segments (o / page_bytes)) (sym is) (spotted (decode w).segments (o / page_bytes))
 
-  pub held : (a k len b : ℕ) → r ≡ At a k len b → Held (decode w) o a k len b
-  held a k len b e = let f = subst (Spotted (decode w).segments (o / page_bytes)) e told in record {
+  pub held : (s : Spot) → r ≡ Some s → Held (decode w) o s
+  held s e = let f = subst (Spotted (decode w).segments (o / page_bytes)) e told in record {
     x = f.0;
     stands = f.1;
     kind = f.2;
@@ -50,41 +49,39 @@ module _ {w : List ℕ} {n : ℕ} (good : Good w n) (o : ℕ) (r : Spot) (is : r
     few = omega (arith, stands-inside f.1, f.3, good.valid.most);
   }
 
-  pub nowhere : r ≡ Nowhere → Tells (decode w) o Nothing
+  pub nowhere : r ≡ None → Tells (decode w) o None
   nowhere e = let f : total (decode w).segments ≤ o / page_bytes = subst (Spotted (decode w).segments (o / page_bytes)) e told in block-past (decode w) o (omega arith)
 
-module _ {s : State} {o a k len b : ℕ} (h : Held s o a k len b) where
-  pub held-zone : k ≡ kind_zone → ((z : Zone) × Stands s.segments a b (zone z)) × (o - a * page_bytes < zone_bytes)
+module _ {s : State} {o : ℕ} {f : Spot} (h : Held s o f) where
+  abbrev away : ℕ
+  away = o - f.start.at * page_bytes
+
+  pub held-zone : f.kind ≡ kind.Zone → ((z : Zone) × Stands s.segments f.start.at f.start.before (zone z)) × (o - f.start.at * page_bytes < zone_bytes)
   held-zone e = let i = stands-zone h.stands (h.kind ∙ e) in ((i.0, i.2), omega (arith, h.high, h.size, ap (λ x. pages x) i.1))
 
-  pub held-run : (k ≡ kind_zone → ⊥) → (k ≡ kind_direct → ⊥) → Tells s o Nothing
-  held-run f g = go h.x h.stands h.kind h.size
-    where
-      go : (x : Segment Zone) → Stands s.segments a b x → kind_of x ≡ k → pages x ≡ len → block_at (page_map s) o ≡ none
-      go (run m) t u v = run_none s t o (o - a * page_bytes) (omega (arith, h.low)) (omega (arith, h.high, h.low))
-      go (direct m i) t u v = absurd (g (sym u))
-      go (zone z) t u v = absurd (f (sym u))
+  pub held-run : f.kind ≡ kind.Run → Tells s o None
+  held-run e = run_none s (subst (λ y. Stands s.segments f.start.at f.start.before y) (run-by-kind h.x (h.kind ∙ e)) h.stands) o away (omega (arith, h.low)) (omega (arith, h.high, h.low, h.size))
 
-  pub held-direct : k ≡ kind_direct → (g : ℕ) × Stands s.segments a b (direct len g)
+  pub held-direct : f.kind ≡ kind.Direct → (g : ℕ) × Stands s.segments f.start.at f.start.before (direct f.len g)
   held-direct e =
-      let i = stands-direct h.stands (λ u. omega (arith, h.kind)) (λ u. omega (arith, h.kind)) in
-      (i.0, subst (λ j. Stands s.segments a b (direct j i.0)) h.size i.2)
+      let i = stands-direct h.stands (λ u. clash (cc (h.kind, e))) (λ u. clash (cc (h.kind, e))) in
+      (i.0, subst (λ j. Stands s.segments f.start.at f.start.before (direct j i.0)) h.size i.2)
 
-  pub held-inside : k ≡ kind_direct → (o - a * page_bytes ≡ 0 → ⊥) → Tells s o Nothing
-  held-inside e f = let t = held-direct e in whole-off s t.1 o (o - a * page_bytes) (omega (arith, h.low)) (omega (arith, h.high, h.low)) f
+  pub held-inside : f.kind ≡ kind.Direct → (o - f.start.at * page_bytes ≡ 0 → ⊥) → Tells s o None
+  held-inside e i = let t = held-direct e in whole-off s t.1 o away (omega (arith, h.low)) (omega (arith, h.high, h.low)) i
 
-  pub held_whole : k ≡ kind_direct → o - a * page_bytes ≡ 0 → (g : ℕ) → ((b k i : ℕ) → Stands s.segments a b (direct k i) → g ≡ i) → Tells s o (Whole a len b g)
-  held_whole e f g i =
+  pub held_whole : f.kind ≡ kind.Direct → o - f.start.at * page_bytes ≡ 0 → (g : ℕ) → ((b k i : ℕ) → Stands s.segments f.start.at b (direct k i) → g ≡ i) → Tells s o (Some (Whole f.start f.len g))
+  held_whole e i g j =
       let t = held-direct e in
-      subst (λ j. Tells s o (Whole a len b j)) (sym (i b len t.0 t.1)) (found-whole s t.1 o (omega (arith, h.low)) (omega (arith, h.high, h.low)))
+      subst (λ q. Tells s o (Some (Whole f.start f.len q))) (sym (j _ _ t.0 t.1)) (found-whole s t.1 o (omega (arith, h.low)) (omega (arith, h.high, h.low)))
 
-  pub held-chunk : (r : Place) → Tells s (a * page_bytes + (o - a * page_bytes)) r → Tells s o r
-  held-chunk r t = subst (λ j. Tells s j r) (let e : a * page_bytes + (o - a * page_bytes) ≡ o = omega (arith, h.low) in e) t
+  pub held-chunk : (r : Option Block) → Tells s (f.start.at * page_bytes + (o - f.start.at * page_bytes)) r → Tells s o r
+  held-chunk r t = subst (λ j. Tells s j r) (let e : f.start.at * page_bytes + (o - f.start.at * page_bytes) ≡ o = omega (arith, h.low) in e) t
 
 -- What is told of a direct block or a chunk, for the answer to a query.
-module _ {s : State} (v : Valid s) {o : ℕ} where
-  pub whole-few : (p k b g : ℕ) → Tells s o (Whole p k b g) → k ≤ most_pages
-  whole-few p k b g t = omega (arith, stands-inside t.1, v.most)
+module _ {s : State} (v : Valid s) (o : ℕ) where
+  pub whole-few : {b : Block} → TellsBlock s o b → {p : Start} {k g : ℕ} → b ≡ Whole p k g → k ≤ most_pages
+  whole-few t {p} {k} {g} e = let i = subst (TellsBlock s o) e t in omega (arith, stands-inside i.1, v.most)
 
-  pub class-few : (p b c i g : ℕ) → Tells s o (Chunk p b c i g) → c < class_count
-  class-few p b c i g t = omega (arith, t.1.2, (zone-valid s p b t.1.0 t.1.1 v).class)
+  pub class-few : {b : Block} → TellsBlock s o b → {p : Start} {c i g : ℕ} → b ≡ Chunk p c i g → c < class_count
+  class-few t {p} {c} {i} {g} e = let u = subst (TellsBlock s o) e t in omega (arith, u.1.2, (zone-valid s p.at p.before u.1.0 u.1.1 v).class)

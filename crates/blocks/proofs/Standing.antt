@@ -7,6 +7,7 @@ use native.Mathlib.Nat.{div-add-mod'}
 use lib.Dec.{ltb, eqb}
 use lib.ListN.{get_or, get_or-eq_default}
 use borrow.Author.Tests.{ltb-true, ltb-false, eqb-true, eqb-false, eq-eqb, ne_eqb}
+use Rattle.std.specs.Prelude.{Some, None}
 use Rattle.lemmas.proofs.Cases.{bool}
 use Rattle.model.specs.Numbers.{page_bytes, zone_bytes}
 use Rattle.model.specs.Sizes.{room, chunks}
@@ -22,7 +23,7 @@ use Rattle.model.proofs.Blocks.{live-chunk}
 use Rattle.pages.specs.Places.{Stands}
 use Rattle.pages.proofs.Spots.{stands-locate}
 use Rattle.steps.proofs.Zones.{zone-is, zone-valid}
-use Rattle.blocks.specs.declared.Place.TheVariants.{Whole, Chunk, Nothing}
+use Rattle.blocks.specs.declared.Block.TheVariants.{Whole, Chunk}
 use Rattle.blocks.specs.Places.{Tells}
 
 -- The block d bytes behind the start of a segment.
@@ -70,7 +71,7 @@ module _ (s : State) (v : Valid s) {p b : ℕ} (z : Zone) (t : Stands s.segments
   room-is : r ≡ room z.class
   room-is = er ∙ ap room class-is
 
-  pub found-off : (d % r ≡ 0 → ⊥) → Tells s (p * page_bytes + d) Nothing
+  pub found-off : (d % r ≡ 0 → ⊥) → Tells s (p * page_bytes + d) None
   found-off f = chunk-off s v z t d h (λ e. f (ap (λ k. d % k) room-is ∙ e))
 
   whole_is : d % r ≡ 0 → d % room z.class ≡ 0
@@ -81,12 +82,12 @@ module _ (s : State) (v : Valid s) {p b : ℕ} (z : Zone) (t : Stands s.segments
     group-is = (λ i. get_or ((sym (zone-is s p b z t)) i).owners (d / (sym room-is) i) 0) ∙ sym eg
 
     -- The chunk that holds the byte is not live: no block begins there, whether or not the chunk does.
-    pub found-dead : g ≡ 0 → Tells s (p * page_bytes + d) Nothing
+    pub found-dead : g ≡ 0 → Tells s (p * page_bytes + d) None
     found-dead f = bool (eqb (d % r) 0)
         (λ u. chunk-dead s v z t d h (whole_is (eqb-true (d % r) 0 u)) (group-is ∙ f))
         (λ u. found-off (eqb-false (d % r) 0 u))
 
-    pub found-live : d % r ≡ 0 → (g ≡ 0 → ⊥) → Tells s (p * page_bytes + d) (Chunk p b c (d / r) g)
+    pub found-live : d % r ≡ 0 → (g ≡ 0 → ⊥) → Tells s (p * page_bytes + d) (Some (Chunk (record { at = p; before = b }) c (d / r) g))
     found-live e f =
         let live : 0 < get_or z.owners (d / room z.class) 0 = omega (arith, group-is, bool (ltb 0 g) (λ u. ltb-true 0 g u) (λ u. absurd (f (omega (arith, ltb-false 0 g u))))) in (
           chunk-live s v z t d h (whole_is e) live ∙ (λ i. some (chunk ((sym class-is) i) (d / (sym room-is) i) (group-is i))),
@@ -95,7 +96,7 @@ module _ (s : State) (v : Valid s) {p b : ℕ} (z : Zone) (t : Stands s.segments
         )
 
 -- A direct block begins at its segment's first byte.
-pub found-whole : (s : State) {p b k g : ℕ} (t : Stands s.segments p b (direct k g)) (o : ℕ) → o ≡ p * page_bytes → 0 < k → Tells s o (Whole p k b g)
+pub found-whole : (s : State) {p b k g : ℕ} (t : Stands s.segments p b (direct k g)) (o : ℕ) → o ≡ p * page_bytes → 0 < k → Tells s o (Some (Whole (record { at = p; before = b }) k g))
 found-whole s {p} {b} {k} {g} t o e h = (block_here s t o 0 (omega arith) (omega arith), t, sym e)
 
 pub whole-off : (s : State) {p b k g : ℕ} (t : Stands s.segments p b (direct k g)) (o d : ℕ) → o ≡ p * page_bytes + d → d < k * page_bytes → (d ≡ 0 → ⊥) → block_at (page_map s) o ≡ none

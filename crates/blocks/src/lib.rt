@@ -9,115 +9,94 @@ ghost use Rattle.model.specs.Trim.{query_at};
 ghost use Rattle.pages.specs.Places.{Stands};
 ghost use Rattle.metadata.specs.Decoding.{decode};
 ghost use Rattle.steps.specs.Lent.{Good};
-ghost use Rattle.blocks.specs.Places.{Tells};
+ghost use Rattle.blocks.specs.Places.{Tells, block_answer};
 
+use model::Refusal;
 use model::numbers::PAGE_BYTES;
-use model::{Answer, Refusal};
-use pages::Spot;
-use zone::layout::{KIND_DIRECT, KIND_ZONE};
+use pages::{Kind, Spot, Start};
 
-// The live block that begins at a byte: a direct block, or a chunk; where its segment begins, and the pages of the run that ends
-// there (0: none).
-#[derive(Clone, Copy)]
-pub enum Place {
+// A live block: a direct block, or a chunk; and where its segment begins.
+#[derive(Clone, Copy, PartialEq, Eq, Debug)]
+pub enum Block {
     Whole {
-        at: usize,
+        start: Start,
         len: usize,
-        before: usize,
         group: u32,
     },
     Chunk {
-        at: usize,
-        before: usize,
+        start: Start,
         class: u32,
         chunk: u32,
         group: u32,
     },
-    Nothing,
 }
 
-// The live chunk that begins `away` bytes behind the start of the zone at page `at`.
-fn find_chunk(words: &[u32], n: usize, at: usize, before: usize, away: u32) -> Place
+// What a query tells of a block: its group, and the bytes that it was given.
+#[derive(Clone, Copy, PartialEq, Eq, Debug)]
+pub struct Told {
+    pub group: u32,
+    pub room: u32,
+}
+
+// The live chunk that begins `away` bytes behind the start of the zone.
+fn find_chunk(words: &[u32], n: usize, start: Start, away: u32) -> Option<Block>
     requires good { Good words.now n }
-    requires inside_zone { ((z : Zone) × Stands (decode words.now).segments at before (zone z)) × (away < zone_bytes) }
-    ensures { Tells (decode words.now) (at * page_bytes + away) result }
+    requires inside_zone { ((z : Zone) × Stands (decode words.now).segments start.at start.before (zone z)) × (away < zone_bytes) }
+    ensures { Tells (decode words.now) (start.at * page_bytes + away) result }
 {
-    let class = steps::zone_class(words, at);
+    let class = steps::zone_class(words, start.at);
     let room = zone::sizes::room(class);
     if away % room != 0 {
-        return Place::Nothing;
+        return None;
     }
     let chunk = away / room;
-    let group = steps::zone_owner(words, at, chunk);
+    let group = steps::zone_owner(words, start.at, chunk);
     if group == 0 {
-        return Place::Nothing;
+        return None;
     }
-    Place::Chunk {
-        at: at,
-        before: before,
-        class: class,
-        chunk: chunk,
-        group: group,
-    }
+    Some(Block::Chunk {
+        start,
+        class,
+        chunk,
+        group,
+    })
 }
 
 // The live block that begins at the offset. The segments are walked once.
-pub fn find_block(words: &[u32], n: usize, offset: u32) -> Place
+pub fn find_block(words: &[u32], n: usize, offset: u32) -> Option<Block>
     requires { Good words.now n }
     ensures { Tells (decode words.now) offset result }
 {
     let page = (offset / PAGE_BYTES) as usize;
-    let Spot::Segment {
-        at,
-        kind,
-        len,
-        before,
-    } = steps::find_segment(words, n, page)
-    else {
-        return Place::Nothing;
+    let Some(Spot { start, kind, len }) = steps::find_segment(words, n, page) else {
+        return None;
     };
-    let away = offset - (at as u32) * PAGE_BYTES;
-    if kind == KIND_ZONE {
-        return find_chunk(words, n, at, before, away);
-    }
-    if kind != KIND_DIRECT {
-        return Place::Nothing;
-    }
-    if away != 0 {
-        return Place::Nothing;
-    }
-    let group = steps::group_at(words, n, at);
-    Place::Whole {
-        at: at,
-        len: len,
-        before: before,
-        group: group,
+    let away = offset - start.at as u32 * PAGE_BYTES;
+    match kind {
+        Kind::Run => None,
+        Kind::Zone => find_chunk(words, n, start, away),
+        Kind::Direct if away != 0 => None,
+        Kind::Direct => {
+            let group = steps::group_at(words, n, start.at);
+            Some(Block::Whole { start, len, group })
+        }
     }
 }
 
 // The group and the room of the live block that begins at the offset, or refusal 7.
-pub fn describe(words: &[u32], n: usize, offset: u32) -> Answer
+pub fn describe(words: &[u32], n: usize, offset: u32) -> Result<Told, Refusal>
     requires { Good words.now n }
-    ensures { result ≡ (query_at offset (decode words.now)).answer }
+    ensures { block_answer result ≡ (query_at offset (decode words.now)).answer }
 {
     match find_block(words, n, offset) {
-        Place::Whole {
-            at,
-            len,
-            before,
+        Some(Block::Whole { len, group, .. }) => Ok(Told {
             group,
-        } => {
-            let pages = len as u32;
-            let room = pages * PAGE_BYTES;
-            Answer::Block(group, room)
-        }
-        Place::Chunk {
-            at,
-            before,
-            class,
-            chunk,
+            room: len as u32 * PAGE_BYTES,
+        }),
+        Some(Block::Chunk { class, group, .. }) => Ok(Told {
             group,
-        } => Answer::Block(group, zone::sizes::room(class)),
-        Place::Nothing => Answer::Refused(Refusal::NoBlock),
+            room: zone::sizes::room(class),
+        }),
+        None => Err(Refusal::NoBlock),
     }
 }

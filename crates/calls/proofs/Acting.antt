@@ -4,12 +4,14 @@ use Prim.Native.Nat.{ℕ, ◌+◌, ◌-◌, ◌*◌, ◌≤◌}
 use mathlib.Core.Path.{◌≡◌, refl, sym, ap, ◌∙◌, subst}
 use mathlib.Core.List.{List, ◌++◌, append_assoc}
 use mathlib.Core.Option.{none, some}
+use Rattle.std.specs.Prelude.{Option, None, Some, is_some}
+use Rattle.std.proofs.lemmas.Option.{none-some, same_Some}
 use mathlib.Core.Bool.{Bool, true, false}
 use native.Mathlib.Omega.{arith}
-use lib.ListN.{length, take, drop, length-append}
+use lib.ListN.{length, take, drop}
 use lib.Seq.{take_at, drop_at, drop-drop}
 use Rattle.lemmas.specs.Parts.{mid, put_mid}
-use Rattle.lemmas.proofs.Cases.{bool}
+use Rattle.lemmas.proofs.Cases.{bool, true-false}
 use Rattle.lemmas.proofs.Parts.{mid_at, put-at}
 use Rattle.model.specs.Numbers.{most_pages, figure_words, header_words, page_words}
 use Rattle.model.specs.declared.Refusal.TheVariants.{NoState}
@@ -39,9 +41,11 @@ use Rattle.account.specs.Encoding.{figures_of, account_encoding}
 use Rattle.account.specs.Decoding.{state_part, account_in, is_account, account_of}
 use Rattle.account.proofs.Accounts.{front_fits, passed, account-valid, account-begins, account-long, account_of-some, account_of-none}
 use Rattle.steps.specs.Lent.{Good}
+use Rattle.steps.specs.Outcomes.{Makes}
 use Rattle.steps.proofs.Kept.{good_of, good-decoded}
 use Rattle.calls.specs.Calls.{state_in, state_of, answer_of, meta_after, listed_of, text_after}
-use Rattle.calls.specs.Arena.{pages_of, Arena, room_told}
+use Rattle.calls.specs.Arena.{pages_of, Arena}
+use Rattle.calls.proofs.Returning.{room_told}
 use Rattle.calls.proofs.Words.{front_same, following, refused-same, unserved-answer, served-long, served-answer, served-words}
 
 -- A test that cannot come out so proves any.
@@ -57,34 +61,43 @@ module _ (w : List ℕ) where
   account-is : is_account w ≡ true → account_of w ≡ some (account_in w)
   account-is t = account_of-some w (account_in w) (account-valid w t) (account-begins w t)
 
-  pub pages-none : is_account w ≡ false → 0 ≡ pages_of (state_of w)
+  pub pages-none : is_account w ≡ false → None ≡ pages_of (state_of w)
   pages-none t = ap (λ y. pages_of (state_in y)) (sym (account_of-none w t))
 
-  pub pages-some : is_account w ≡ true → (n : ℕ) → n ≡ total (account_in w).state.segments → n ≡ pages_of (state_of w)
-  pages-some t n e = e ∙ ap (λ y. pages_of (state_in y)) (sym (account-is t))
+  pub pages-some : is_account w ≡ true → (n : ℕ) → n ≡ total (account_in w).state.segments → Some n ≡ pages_of (state_of w)
+  pages-some t n e = ap (λ k. Some k) e ∙ ap (λ y. pages_of (state_in y)) (sym (account-is t))
 
-  module _ (n : ℕ) (is : n ≡ pages_of (state_of w)) where
-    -- No pages: the words encode no account, and the call is refused.
-    no-account : n ≡ 0 → account_of w ≡ none
-    no-account z = bool (is_account w)
-        (λ t. absurd (omega (arith, is, pages-some t (total (account_in w).state.segments) refl, (account-valid w t).state.least)))
+  -- No pages: the words encode no account, and the call is refused.
+  module _ (is : None ≡ pages_of (state_of w)) where
+    no-account : account_of w ≡ none
+    no-account = bool (is_account w)
+        (λ t. absurd (none-some _ (is ∙ sym (pages-some t (total (account_in w).state.segments) refl))))
         (λ t. account_of-none w t)
 
-    pub refused-answer : n ≡ 0 → (a : Action) → refusal_of a NoState ≡ answer_of w (act a)
-    refused-answer z a = sym (unserved-answer w (no-account z) a)
+    pub refused-answer : (a : Action) → refusal_of a NoState ≡ answer_of w (act a)
+    refused-answer a = sym (unserved-answer w no-account a)
 
-    pub refused-words : n ≡ 0 → (a : Action) → w ≡ meta_after w (act a)
-    refused-words z a = sym (refused-same w (act a) (ap (λ r. is_refused r) (sym (refused-answer z a)) ∙ refusal-refused a NoState))
+    pub refused-words : (a : Action) → w ≡ meta_after w (act a)
+    refused-words a = sym (refused-same w (act a) (ap (λ r. is_refused r) (sym (refused-answer a)) ∙ refusal-refused a NoState))
 
-    pub refused-text : n ≡ 0 → (b : List ℕ) → b ≡ text_after w b
+    pub refused-text : (b : List ℕ) → b ≡ text_after w b
     unfolding text_after
-    refused-text z b = ap (λ y. listed_of y b) (sym (no-account z))
+    refused-text b = ap (λ y. listed_of y b) (sym no-account)
 
-    -- Some pages: they begin with those of a valid account.
-    pub arena-of : (n ≡ 0 → ⊥) → Arena w n
-    arena-of p = bool (is_account w)
-        (λ t. record { account = t; pages = is ∙ sym (pages-some t (total (account_in w).state.segments) refl) })
-        (λ t. absurd (p (is ∙ sym (pages-none t))))
+  -- Some pages: they begin with those of a valid account.
+  pub arena-of : (n : ℕ) → Some n ≡ pages_of (state_of w) → Arena w n
+  arena-of n is = bool (is_account w)
+      (λ t. record { account = t; pages = same_Some _ _ (is ∙ sym (pages-some t (total (account_in w).state.segments) refl)) })
+      (λ t. absurd (none-some _ (pages-none t ∙ sym is)))
+
+  -- The same by the test whether there are any.
+  pub none-told : (r : Option ℕ) → r ≡ pages_of (state_of w) → is_some r ≡ false → None ≡ pages_of (state_of w)
+  none-told None e t = e
+  none-told (Some n) e t = true-false refl t
+
+  pub some-told : (r : Option ℕ) → r ≡ pages_of (state_of w) → is_some r ≡ true → is_account w ≡ true
+  some-told None e t = true-false t refl
+  some-told (Some n) e t = (arena-of n e).account
 
 -- The words lent --------------------------------------------------------------------------------------------------------------------
 
@@ -148,26 +161,31 @@ module _ {w : List ℕ} {n : ℕ} (h : Arena w n) where
     pub told-room : (o : ℕ) (r : Answer) → r ≡ (query_at o (decode (mid figure_words (e - figure_words) w))).answer → room_told r ≡ room_told (described (block_at (page_map (account_in w).state) o))
     told-room o r q = ap room_told (q ∙ ap (λ s. (query_at o s).answer) arena-decoded)
 
+    -- The words of the state come back as v: behind the figures, which are as they were, and are lent for their step.
+    module _ (v : List ℕ) where
+      put_is : put_mid figure_words (e - figure_words) w v ≡ figures_of x ++ (v ++ drop e w)
+      put_is = ap (λ l. put_mid figure_words (e - figure_words) l v) whole ∙ put-at (figures_of x) (encode x.state) (drop e w) v figure_words (e - figure_words) F-long part-long
+
+      pub figures-there : take figure_words (put_mid figure_words (e - figure_words) w v) ≡ figures_of (account_in w)
+      figures-there = ap (take figure_words) put_is ∙ take_at (figures_of x) (v ++ drop e w) figure_words F-long
+
+      pub figures-count : figure_words ≡ length (take figure_words (put_mid figure_words (e - figure_words) w v))
+      figures-count = sym (ap length figures-there ∙ F-long)
+
+    -- What a rule f answers on the words lent is a refusal just if what it answers here is.
+    pub arena-told : (f : State → Outcome State) {r : Answer} → r ≡ (f (decode (mid figure_words (e - figure_words) w))).answer → is_refused (f (account_in w).state).answer ≡ is_refused r
+    arena-told f q = ap (λ s. is_refused (f s).answer) (sym arena-decoded) ∙ ap is_refused (sym q)
+
     -- A call that is one on the state alone, f. A lower function answers what f answers on the words lent, ..
     module _ (a : Action) (f : State → Outcome State) (is : serve (account_in w) a ≡ of_state (account_in w) (f (account_in w).state)) where
       pub arena-answer : (r : Answer) → r ≡ (f (decode (mid figure_words (e - figure_words) w))).answer → r ≡ answer_of w (act a)
       arena-answer r q = q ∙ ap (λ s. (f s).answer) arena-decoded ∙ ap (λ o. o.answer) (sym is) ∙ sym (served-answer w x arena-valid (account-begins w h.account) a)
-
-      -- It is a refusal there just if it is one here.
-      pub arena-done : (r : Answer) → r ≡ (f (decode (mid figure_words (e - figure_words) w))).answer → (b : Bool) → b ≡ is_refused r → b ≡ false → is_refused (f (account_in w).state).answer ≡ false
-      arena-done r q b p t = ap (λ s. is_refused (f s).answer) (sym arena-decoded) ∙ ap is_refused (sym q) ∙ sym p ∙ t
-
-      pub arena-not : (r : Answer) → r ≡ (f (decode (mid figure_words (e - figure_words) w))).answer → (b : Bool) → b ≡ is_refused r → b ≡ true → is_refused (f (account_in w).state).answer ≡ true
-      arena-not r q b p t = ap (λ s. is_refused (f s).answer) (sym arena-decoded) ∙ ap is_refused (sym q) ∙ sym p ∙ t
 
       -- .. and leaves there the words of the state that f leaves. Where the figures are then those of the account that follows, all words
       -- are those of that account, and the later ones as they were.
       module _ (v : List ℕ) (q : v ≡ encode (f (decode (mid figure_words (e - figure_words) w))).after) where
         left : v ≡ encode (following x a).state
         left = q ∙ ap (λ s. encode (f s).after) arena-decoded ∙ ap (λ o. encode o.after.state) (sym is)
-
-        put_is : put_mid figure_words (e - figure_words) w v ≡ figures_of x ++ (v ++ drop e w)
-        put_is = ap (λ l. put_mid figure_words (e - figure_words) l v) whole ∙ put-at (figures_of x) (encode x.state) (drop e w) v figure_words (e - figure_words) F-long part-long
 
         all_words_lem : (g : List ℕ) → g ≡ figures_of (following x a) → g ++ (v ++ drop e w) ≡ meta_after w (act a)
         unfolding account_encoding
@@ -181,24 +199,23 @@ module _ {w : List ℕ} {n : ℕ} (h : Arena w n) where
         next-figures : figures_of (accounted (account_in w) (f (account_in w).state).after) ≡ figures_of (following x a)
         next-figures = ap (λ o. figures_of o.after) (sym is)
 
-        -- The figures are lent for a step, ..
-        pub figures-there : take figure_words (put_mid figure_words (e - figure_words) w v) ≡ figures_of (account_in w)
-        figures-there = ap (take figure_words) put_is ∙ take_at (figures_of x) (v ++ drop e w) figure_words F-long
-
-        pub long-there : figure_words ≤ length (put_mid figure_words (e - figure_words) w v)
-        long-there = omega (arith, ap length put_is, length-append (figures_of x) (v ++ drop e w), F-long)
-
-        -- .. and come back as those of the account that follows; or they stay.
-        pub arena-stepped : (g : List ℕ) → g ≡ figures_of (accounted (account_in w) (f (account_in w).state).after) → g ++ drop figure_words (put_mid figure_words (e - figure_words) w v) ≡ meta_after w (act a)
-        arena-stepped g k = ap (λ l. g ++ l) (ap (drop figure_words) put_is ∙ drop_at (figures_of x) (v ++ drop e w) figure_words F-long) ∙ all_words_lem g (k ∙ next-figures)
+        -- The figures are stepped to those of the account that follows; or they stay.
+        arena-stepped : (g : List ℕ) → g ≡ figures_of (accounted (account_in w) (f (account_in w).state).after) → g ++ drop figure_words (put_mid figure_words (e - figure_words) w v) ≡ meta_after w (act a)
+        arena-stepped g k = ap (λ l. g ++ l) (ap (drop figure_words) (put_is v) ∙ drop_at (figures_of x) (v ++ drop e w) figure_words F-long) ∙ all_words_lem g (k ∙ next-figures)
 
         pub arena-still : figures_of (account_in w) ≡ figures_of (accounted (account_in w) (f (account_in w).state).after) → put_mid figure_words (e - figure_words) w v ≡ meta_after w (act a)
-        arena-still k = put_is ∙ all_words_lem (figures_of x) (k ∙ next-figures)
+        arena-still k = put_is v ∙ all_words_lem (figures_of x) (k ∙ next-figures)
 
-        -- A refusal leaves the figures.
-        pub arena-refused : is_refused (f (account_in w).state).answer ≡ true → put_mid figure_words (e - figure_words) w v ≡ meta_after w (act a)
-        arena-refused t =
-            put_is ∙ all_words_lem (figures_of x) (ap (λ y. figures_of y) (sym (serve-same x arena-valid a (ap (λ o. is_refused o.answer) is ∙ t))))
+      -- Both: where it is refused the figures stay, and so all words; where not, they are stepped, to g.
+      pub arena-refuses : {r : Answer} {v : List ℕ} → Makes (f (decode (mid figure_words (e - figure_words) w))) r v → is_refused r ≡ true →
+          (r ≡ answer_of w (act a)) × (put_mid figure_words (e - figure_words) w v ≡ meta_after w (act a))
+      arena-refuses {r} {v} m t =
+          let no = ap (λ o. is_refused o.answer) is ∙ arena-told f m.0 ∙ t in
+          (arena-answer r m.0, arena-still v m.1 (ap (λ y. figures_of y) (sym (serve-same x arena-valid a no) ∙ ap (λ o. o.after) is)))
+
+      pub arena-serves : {r : Answer} {v g : List ℕ} → Makes (f (decode (mid figure_words (e - figure_words) w))) r v → g ≡ figures_of (accounted (account_in w) (f (account_in w).state).after) →
+          (r ≡ answer_of w (act a)) × (g ++ drop figure_words (put_mid figure_words (e - figure_words) w v) ≡ meta_after w (act a))
+      arena-serves {r} {v} {g} m k = (arena-answer r m.0, arena-stepped v m.1 g k)
 
     -- The pages' words, for the listing.
     abbrev fixed : ℕ

@@ -6,6 +6,8 @@ use mathlib.Core.Bool.{true, false, cond}
 use mathlib.Core.List.{List}
 use native.Mathlib.Omega.{arith}
 use lib.Dec.{eqb}
+use borrow.Author.Tests.{eq-eqb, ne_eqb}
+use Rattle.std.specs.Prelude.{◌≢◌, Result, Ok, Err, MatchResult}
 use lib.ListN.{length, take}
 use lib.Seq.{get_or-take}
 use Rattle.lemmas.specs.ListFrom.{list_from}
@@ -14,9 +16,10 @@ use Rattle.lemmas.proofs.ListFrom.{length-list_from, get_or-list_from, is-list_f
 use Rattle.model.specs.Numbers.{most_group, figure_words}
 use Rattle.model.specs.declared.Holding.{Holding}
 use Rattle.model.specs.declared.Answer.TheVariants.{Refused}
-use Rattle.model.specs.declared.Refusal.TheVariants.{NoState}
+use Rattle.model.specs.declared.Refusal.{Refusal}
+use Rattle.model.specs.declared.Refusal.TheVariants.{NoState, BadList}
 use Rattle.model.specs.Holdings.{Account, holding_of, holdings_of, ceiling_at}
-use Rattle.model.specs.Calls.{holdings, act}
+use Rattle.model.specs.Calls.{holdings, act, plain_answer}
 use Rattle.figures.specs.Encoding.{at_held, at_greatest, record_in}
 use Rattle.figures.specs.Records.{records_in, filled}
 use Rattle.figures.proofs.Encoded.{record-encoded}
@@ -40,8 +43,10 @@ module _ (w : List ℕ) (l : List Holding) where
     account-is : account_of w ≡ some x
     account-is = account_of-some w x (account-valid w t) (account-begins w t)
 
-    pub good-answer : fetched_if (eqb (length l) most_group) ≡ answer_of w (act (holdings (length l)))
-    good-answer = sym (fetched-answer w x account-is (length l))
+    -- What the filling of the list brings is what the call answers.
+    pub good-answer : (r : Result Unit Refusal) → MatchResult r (λ _. length l ≡ most_group) (λ k. (length l ≢ most_group) × (k ≡ BadList)) → plain_answer r ≡ answer_of w (act (holdings (length l)))
+    good-answer (Ok u) h = ap fetched_if (sym (eq-eqb (length l) most_group h)) ∙ sym (fetched-answer w x account-is (length l))
+    good-answer (Err k) h = ap Refused h.1 ∙ ap fetched_if (sym (ne_eqb (length l) most_group h.0)) ∙ sym (fetched-answer w x account-is (length l))
 
     -- The records in the words are the account's.
     front : (i : ℕ) → i < most_group → record_in w i ≡ record_in (take figure_words w) i

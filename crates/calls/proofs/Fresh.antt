@@ -2,6 +2,7 @@
 use Prim.Native.Nat.{ℕ, ◌≤◌, ◌<◌}
 use mathlib.Core.Path.{◌≡◌, refl, sym, ap, ◌∙◌}
 use mathlib.Core.List.{List, ◌++◌}
+use mathlib.Core.Logic.{◌⊎◌, inl, inr}
 use mathlib.Core.Option.{some}
 use mathlib.Core.Bool.{Bool, true, false, ◌&&◌}
 use native.Mathlib.Omega.{arith}
@@ -46,6 +47,11 @@ module _ (w : List ℕ) (n : ℕ) where
 
   pub many-pages : most_pages < n → (Refused BadPages ≡ answer_of w (init n)) × (w ≡ meta_after w (init n))
   many-pages h = bad (refuted (leb 1 n && leb n most_pages) (λ t. omega (arith, leb-true n most_pages (and_right (leb 1 n) (leb n most_pages) t))))
+
+  -- As the code tests for both.
+  pub bad-pages : (n ≡ 0) ⊎ ((n ≡ 0 → ⊥) × (most_pages < n)) → (Refused BadPages ≡ answer_of w (init n)) × (w ≡ meta_after w (init n))
+  bad-pages (inl z) = no-pages z
+  bad-pages (inr h) = many-pages h.1
 
   module _ (there : (n ≡ 0 → ⊥)) (few : n ≤ most_pages) where
     legal : (leb 1 n && leb n most_pages) ≡ true

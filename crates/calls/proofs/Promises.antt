@@ -9,6 +9,7 @@ use mathlib.Core.Option.{Option, none, some}
 use native.Mathlib.Omega.{arith}
 use lib.ListN.{length, take, drop}
 use lib.Seq.{take_all}
+use Rattle.std.specs.Prelude.{unwrap_or}
 use Rattle.model.specs.Numbers.{page_bytes, most_bytes, most_group, large_size, most_pages}
 use Rattle.model.specs.declared.Refusal.TheVariants.{NoState, NoRoom, ShortBuffer}
 use Rattle.model.specs.declared.Holding.{Holding}
@@ -305,8 +306,8 @@ pub search-bounded : (w : List ℕ) (s : State) → state_of w ≡ some s → (n
 search-bounded w s e n = let v = (standing w s e).valid in (looked.search-bounded s v n, looked.second-bounded s v n)
 
 -- .. and a request at no more than twice that: at none, where the words encode no state. ..
-pub request-bounded : (w : List ℕ) (g n : ℕ) → (k : ℕ) × (looked_of (answer_of w (act (request g n))) ≡ some k) × (k ≤ 2 * most_looked (pages_of (state_of w)))
-request-bounded w g n = by-account (λ y. (k : ℕ) × (looked_of (answer_of w (act (request g n))) ≡ some k) × (k ≤ 2 * most_looked (pages_of (state_in y)))) w
+pub request-bounded : (w : List ℕ) (g n : ℕ) → (k : ℕ) × (looked_of (answer_of w (act (request g n))) ≡ some k) × (k ≤ 2 * most_looked (unwrap_or (pages_of (state_of w)) 0))
+request-bounded w g n = by-account (λ y. (k : ℕ) × (looked_of (answer_of w (act (request g n))) ≡ some k) × (k ≤ 2 * most_looked (unwrap_or (pages_of (state_in y)) 0))) w
     (λ e. (0, ap looked_of (unserved-answer w e (request g n)), omega arith))
     (λ x e h. let b = looked.request-bounded x.state h.valid.state (ceiling_of x g) g n in (b.0, ap looked_of (answered w x e (request g n)) ∙ b.1, b.2))
 

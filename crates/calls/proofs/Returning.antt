@@ -10,7 +10,8 @@ use lib.ListN.{length}
 use Rattle.lemmas.proofs.Cases.{bool, true-false}
 use Rattle.model.specs.Numbers.{most_group, figure_words}
 use Rattle.model.specs.declared.Operation.TheVariants.{Free}
-use Rattle.model.specs.declared.Answer.TheVariants.{Done}
+use Rattle.model.specs.declared.Answer.{Answer}
+use Rattle.model.specs.declared.Answer.TheVariants.{Granted, Denied, Refused, Done, Counted, Block as Told}
 use Rattle.model.specs.State.{State}
 use Rattle.model.specs.PageMap.{page_map, Block, group_of, room_of, block_at}
 use Rattle.model.specs.Holdings.{Account, accounted, holding_of, ceiling_at}
@@ -25,8 +26,16 @@ use Rattle.figures.specs.Steps.{taken}
 use Rattle.figures.proofs.Encoded.{length-figures, record-encoded}
 use Rattle.account.specs.Encoding.{figures_of}
 use Rattle.account.proofs.Next.{taken-figures}
-use Rattle.calls.specs.Arena.{room_told}
 use Rattle.calls.proofs.Caller.{caller, other-group, own-group, gains-other, gains-own}
+
+-- The room that an answer tells of a block, 0 where it tells of none.
+abbrev pub room_told : Answer → ℕ
+room_told (Granted o n) = 0
+room_told (Denied k n) = 0
+room_told (Refused k) = 0
+room_told Done = 0
+room_told (Counted n) = 0
+room_told (Told g r) = r
 
 module _ (x : Account) (v : ValidAccount x) (g o : ℕ) (done : is_refused (free g o x.state).answer ≡ false) where
   abbrev s : State

@@ -2,7 +2,7 @@
 // specs/Table.antt says what the entries are, src/entries.rt has them.
 #![tactic(auto)]
 
-ghost use Rattle.std.specs.Prelude.{◌≡◌, ◌<◌, get_or};
+ghost use Rattle.std.specs.Prelude.{◌≡◌, ◌<◌};
 ghost use Rattle.model.specs.Numbers.{large_size};
 ghost use Rattle.model.specs.Sizes.{class_of};
 ghost use Rattle.classes.specs.Table.{entry_count, entry_of, class_table, class_for};
@@ -12,9 +12,6 @@ mod entries;
 use entries::{ENTRY_COUNT, TABLE};
 use model::numbers::LARGE_SIZE;
 
-// A quarter of the table's entries.
-const QUARTER: usize = 256;
-
 // The place of a size's entry: the size in eighths, rounded up, less one.
 fn place(size: u32) -> usize
     requires { (0 < size) × (size < large_size) }
@@ -23,33 +20,12 @@ fn place(size: u32) -> usize
     ((size + 7) / 8 - 1) as usize
 }
 
-// The entry at a place, read by quarters: no arm can reach more than 256 bytes of the table.
-fn entry(at: usize) -> u8
-    requires { at < entry_count }
-    ensures { result ≡ get_or class_table at 0 }
-{
-    let rest = at % QUARTER;
-    let quarter = at / QUARTER;
-    match quarter {
-        0 => TABLE[rest],
-        1 => TABLE[QUARTER + rest],
-        2 => TABLE[2 * QUARTER + rest],
-        _ => TABLE[3 * QUARTER + rest],
-    }
-}
-
-fn wide(class: u8) -> u32
-    ensures { result ≡ class }
-{
-    class as u32
-}
-
 // The class of a size below 8,192.
 pub fn class_of_size(size: u32) -> u32
     requires { (0 < size) × (size < large_size) }
     ensures { result ≡ class_of size }
 {
-    wide(entry(place(size)))
+    class_in(&TABLE, size)
 }
 
 // The whole table, for a caller who has many sizes to look up.
@@ -65,18 +41,16 @@ pub fn class_in(table: &[u8], size: u32) -> u32
     requires chunk_sized { (0 < size) × (size < large_size) }
     ensures { result ≡ class_of size }
 {
-    wide(table[place(size)])
+    u32::from(table[place(size)])
 }
 
 // The class of the chunk that a request of this size takes, 0 where it takes none.
 pub fn class_for(size: u32) -> u32
     ensures { result ≡ class_for size }
 {
-    if size < 1 {
-        return 0;
+    if 0 < size && size < LARGE_SIZE {
+        class_of_size(size)
+    } else {
+        0
     }
-    if size < LARGE_SIZE {
-        return class_of_size(size);
-    }
-    0
 }

@@ -72,7 +72,7 @@ module _ (w : List ℕ) (n : ℕ) where
 
 module _ (w b : List ℕ) (l : Line) where
   -- The words after the line, and its reply.
-  abbrev ServedBy : ℕ → List ℕ → List ℕ → Type 0
+  abbrev pub ServedBy : ℕ → List ℕ → List ℕ → Type 0
   ServedBy r v m = (v ≡ words_after w l) × Replied b (reply_to w (length b) l) r m
 
   pub served-call : (c : Command) {q : Line} {a : Answer} {r : ℕ} {v m : List ℕ} → l ≡ q → Performs w (length b) q c → (a ≡ answer_of w c) × (v ≡ meta_after w c) → Wrote b 0 (answer_text a) r m × (r ≤ 0 + answer_room) → ServedBy r v m
@@ -118,11 +118,11 @@ module _ (w b : List ℕ) {a : Answer} {v : List ℕ} (h : (a ≡ answer_of w (a
   called-listed = subst (λ x. Listed b x v (reply_to w (length b) Listing)) (sym h.0) (subst (λ u. Listed b (answer_of w (act (listing (length b)))) u (reply_to w (length b) Listing)) (sym h.1) (listing-listed w b))
 
   -- The call counted k bytes.
-  pub listing-counted : {k r : ℕ} → a ≡ Counted k → r ≡ k → Replied b (reply_to w (length b) Listing) r v
-  listing-counted {k} {r} e q = go called-listed
+  pub listing-counted : {k : ℕ} → a ≡ Counted k → Replied b (reply_to w (length b) Listing) k v
+  listing-counted {k} e = go called-listed
     where
-      go : {t : List ℕ} → Listed b a v t → Replied b t r v
-      go (whole fits told put) = record { bytes = q ∙ count_same (sym e ∙ told); buffer = put; fits = λ _. omega (arith, count_same (sym e ∙ told)) }
+      go : {t : List ℕ} → Listed b a v t → Replied b t k v
+      go (whole fits told put) = record { bytes = count_same (sym e ∙ told); buffer = put; fits = λ _. omega (arith, count_same (sym e ∙ told)) }
       go (refused is kept said) = true-false is (cc)
 
   -- It counted none: the refusal's line was written.

@@ -2,6 +2,8 @@
 -- is performed and its answer written as a line, a listing that is not refused writes its text, and anything else writes `?` and
 -- changes nothing. w stands for the lent words, n for the bytes of the buffer that the reply is written into. Assumes nothing.
 use Rattle.std.specs.Prelude.{ℕ, ◌≤◌, ◌<◌, ◌≡◌, cond, List, [], length, drop}
+use Rattle.std.specs.Prelude as Prelude
+use Rattle.std.specs.Prelude.{Some, None}
 use Rattle.std.proofs.Math.Option.{Option, none, some}
 use Rattle.std.proofs.lemmas.List.Edits.{sets}
 use Rattle.model.specs.State.{State}
@@ -10,10 +12,8 @@ use Rattle.model.specs.Calls.{Command, is_refused, init, act, group, trim, query
 use Rattle.model.specs.Listing.{listing_text}
 use Rattle.uplink.specs.declared.Line.{Line}
 use Rattle.uplink.specs.declared.Line.TheVariants.{Init, Group, Trim, Query, Listing, Bad}
-use Rattle.uplink.specs.declared.Got.{Got}
-use Rattle.uplink.specs.declared.Got.TheVariants.{Whole, More}
 use Rattle.uplink.specs.Answers.{answer_text, bad_text, answer_room}
-use Rattle.uplink.specs.Fragments.{Held, Sound, held, step_from}
+use Rattle.uplink.specs.Fragments.{Held, step_from}
 use Rattle.calls.specs.Calls.{state_of, answer_of, meta_after}
 use Rattle.desk.specs.declared.Turn.{Turn}
 
@@ -61,22 +61,21 @@ pub record Replied (b reply : List ℕ) (r : ℕ) (m : List ℕ) : Type 0 where
 
 -- ---- one turn
 
--- The same where a turn's bytes brought a line or none.
-unfoldable pub reply_got : List ℕ → ℕ → Got → List ℕ
-reply_got w n (Whole l) = reply_to w n l
-reply_got w n More = []
+-- The same where a turn's bytes ended a line or none.
+unfoldable pub reply_got : List ℕ → ℕ → Prelude.Option Line → List ℕ
+reply_got w n (Some l) = reply_to w n l
+reply_got w n None = []
 
-unfoldable pub words_got : List ℕ → Got → List ℕ
-words_got w (Whole l) = words_after w l
-words_got w More = w
+unfoldable pub words_got : List ℕ → Prelude.Option Line → List ℕ
+words_got w (Some l) = words_after w l
+words_got w None = w
 
 -- What a turn over the fragment s from a position on answers and leaves, where k was held, the words were w, and the buffer was b:
--- the reader's step, and the line that it brought is served. v and m are the words and the buffer then.
-pub record TurnBy (k : Held) (w s : List ℕ) (from : ℕ) (b : List ℕ) (t : Turn) (v m : List ℕ) : Type 0 where
-  pub sound : Sound t.reader
-  pub after : held t.reader ≡ (step_from from k (drop from s)).after
+-- the reader's step, and the line that it ended is served. h is held then, and v and m are the words and the buffer.
+pub record TurnBy (k : Held) (w s : List ℕ) (from : ℕ) (b : List ℕ) (t : Turn) (h : Held) (v m : List ℕ) : Type 0 where
+  pub after : h ≡ (step_from from k (drop from s)).after
   pub next : t.next ≡ (step_from from k (drop from s)).next
   pub within : from ≤ length s → t.next ≤ length s
   pub onward : from < length s → from < t.next
-  pub words : v ≡ words_got w (step_from from k (drop from s)).got
-  pub reply : Replied b (reply_got w (length b) (step_from from k (drop from s)).got) t.len m
+  pub words : v ≡ words_got w (step_from from k (drop from s)).line
+  pub reply : Replied b (reply_got w (length b) (step_from from k (drop from s)).line) t.len m

@@ -2,13 +2,16 @@
 -- words behind those are zero. And the words of the figures of a start. Assumes nothing.
 use Prim.Native.Nat.{ℕ, ◌+◌, ◌-◌, ◌≤◌, ◌<◌}
 use mathlib.Core.Path.{◌≡◌, sym, ap, ◌∙◌}
-use mathlib.Core.List.{List}
+use mathlib.Core.List.{List, [], ◌++◌}
 use native.Mathlib.Omega.{arith}
-use lib.ListN.{length, get_or, set, length-set}
-use lib.Seq.{get_or-set_same, get_or-set_other}
+use lib.ListN.{length, get_or, take, drop, replicate, length-append, length-drop, length-replicate, drop_of_length-le}
+use lib.Seq.{length-take-le}
 use borrow.Author.Tests.{lt-ltb, le-ltb}
-use Rattle.lemmas.proofs.Cases.{by-lt, by-eq}
+use Rattle.lemmas.specs.ListFrom.{list_from}
+use Rattle.lemmas.specs.Parts.{mid, put_mid}
+use Rattle.lemmas.proofs.Cases.{by-lt}
 use Rattle.lemmas.proofs.ListFrom.{length-list_from, get_or-list_from, is-list_from}
+use Rattle.lemmas.proofs.Parts.{length-mid, length-put}
 use Rattle.model.specs.Numbers.{most_bytes, most_group, figure_words}
 use Rattle.model.specs.declared.Holding.{Holding}
 use Rattle.figures.specs.Encoding.{at_held, at_greatest, at_ceiling, at_rest, figure_word, figures_encoding, no_holding, largest, record_in, ceiling_in}
@@ -95,38 +98,40 @@ module _ (h : ℕ → Holding) (c : ℕ → ℕ) (w : List ℕ) (long : length w
   pub is-figures : w ≡ figures_encoding h c
   is-figures = all_words_lem h c w long at-index
 
--- ---- the figures of a start, word after word
+-- ---- the figures of a start, part after part: no figures, the largest ceilings, and zeros behind them
 
-pub first-none : (i : ℕ) → i < at_ceiling → 0 ≡ figure_word no_holding largest i
-unfolding figure_word
-first-none i l = by-lt i at_held (λ a. rw (lt-ltb i at_held a)) (λ a. by-lt i at_greatest
-    (λ b. rw (le-ltb i at_held a, lt-ltb i at_greatest b))
-    (λ b. rw (le-ltb i at_held a, le-ltb i at_greatest b, lt-ltb i at_ceiling l)))
+-- The parts f, c and z as they are filled, in words that were w.
+module _ (w f c z : List ℕ) (long : length w ≡ figure_words) (figures : f ≡ replicate (length (take at_ceiling w)) 0) where
+  abbrev u : List ℕ
+  u = f ++ drop at_ceiling w
 
-pub first-ceiling : (i : ℕ) → at_ceiling ≤ i → i < at_rest → most_bytes ≡ figure_word no_holding largest i
-unfolding figure_word
-first-ceiling i a l = rw (le-ltb i at_held (omega arith), le-ltb i at_greatest (omega arith), le-ltb i at_ceiling a, lt-ltb i at_rest l)
+  abbrev v : List ℕ
+  v = put_mid at_ceiling most_group u c
 
-pub first_rest : (i : ℕ) → at_rest ≤ i → 0 ≡ figure_word no_holding largest i
-first_rest i l = sym (word-rest no_holding largest i l)
+  module _ (ceilings : c ≡ replicate (length (mid at_ceiling most_group u)) most_bytes) (zeros : z ≡ replicate (length (mid at_rest (length v - at_rest) v)) 0) where
+    f-is : f ≡ replicate at_ceiling 0
+    f-is = figures ∙ ap (λ n. replicate n 0) (length-take-le at_ceiling w (omega arith))
 
--- The words that are set up already, of the words w.
-pub record Begun (w : List ℕ) (i : ℕ) : Type 0 where
-  pub long : length w ≡ figure_words
-  pub below : i ≤ figure_words
-  pub words : (j : ℕ) → j < i → get_or w j 0 ≡ figure_word no_holding largest j
+    u-long : length u ≡ figure_words
+    u-long = omega (arith, length-append f (drop at_ceiling w), length-drop at_ceiling w, ap length f-is, length-replicate {A = ℕ} at_ceiling 0)
 
-pub begun-none : (w : List ℕ) → length w ≡ figure_words → Begun w 0
-begun-none w l = record { long = l; below = omega arith; words = λ j k. absurd (omega arith) }
+    c-is : c ≡ replicate most_group most_bytes
+    c-is = ceilings ∙ ap (λ n. replicate n most_bytes) (length-mid at_ceiling most_group u (omega (arith, u-long)))
 
-pub begun_more : (w : List ℕ) (i v : ℕ) → Begun w i → i < figure_words → v ≡ figure_word no_holding largest i → Begun (set w i v) (i + 1)
-begun_more w i v b l e = record {
-  long = length-set w i v ∙ b.long;
-  below = omega arith;
-  words = λ j k. by-eq j i
-      (λ q. ap (λ n. get_or (set w i v) n 0) q ∙ get_or-set_same w i v 0 (omega (arith, b.long)) ∙ e ∙ ap (figure_word no_holding largest) (sym q))
-      (λ q. get_or-set_other w i j v 0 q ∙ b.words j (omega arith));
-}
+    v-long : length v ≡ figure_words
+    v-long = length-put at_ceiling most_group u c (omega (arith, u-long)) (ap length c-is ∙ length-replicate {A = ℕ} most_group most_bytes) ∙ u-long
 
-pub begun_all : (w : List ℕ) (i : ℕ) → Begun w i → figure_words ≤ i → w ≡ figures_encoding no_holding largest
-begun_all w i b l = all_words_lem no_holding largest w b.long (λ j k. b.words j (omega arith))
+    z-is : z ≡ replicate (figure_words - at_rest) 0
+    z-is =
+        let k : length v - at_rest ≡ figure_words - at_rest = omega (arith, v-long) in
+        zeros ∙ ap (λ n. replicate n 0) (length-mid at_rest (length v - at_rest) v (omega (arith, v-long)) ∙ k)
+
+    none : drop (figure_words - at_rest) (drop most_group (drop at_ceiling w)) ≡ []
+    none = drop_of_length-le (drop most_group (drop at_ceiling w)) {i = figure_words - at_rest} (omega (arith, length-drop most_group (drop at_ceiling w), length-drop at_ceiling w))
+
+    pub started : put_mid at_rest (length v - at_rest) v z ≡ figures_encoding no_holding largest
+    unfolding figures_encoding list_from figure_word
+    started =
+        ap (λ k. put_mid at_rest (k - at_rest) v z) v-long
+        ∙ (λ i. put_mid at_rest (figure_words - at_rest) (put_mid at_ceiling most_group (f-is i ++ drop at_ceiling w) (c-is i)) (z-is i))
+        ∙ ap (λ l. replicate at_ceiling 0 ++ (replicate most_group most_bytes ++ (replicate (figure_words - at_rest) 0 ++ l))) none

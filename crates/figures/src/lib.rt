@@ -2,41 +2,27 @@
 // them.
 #![tactic(auto)]
 
-ghost use Rattle.std.specs.Prelude.{◌≡◌, ◌+◌, ◌≤◌, ◌<◌, leb, eqb, length};
+ghost use Rattle.std.specs.Prelude.{◌≡◌, ◌≢◌, ◌+◌, ◌≤◌, ◌<◌, leb, length, MatchResult};
 ghost use Rattle.model.specs.Numbers.{most_bytes, most_group, figure_words};
-ghost use Rattle.figures.specs.Encoding.{figure_word, figures_encoding, no_holding, largest, record_in, ceiling_in};
+ghost use Rattle.figures.specs.Encoding.{figures_encoding, no_holding, largest, record_in, ceiling_in};
+ghost use Rattle.model.specs.declared.Refusal.TheVariants.{BadList};
 ghost use Rattle.figures.specs.Records.{filled};
 
 pub mod layout;
 pub mod steps;
 
 use layout::{AT_CEILING, AT_GREATEST, AT_HELD, AT_REST};
-use model::Holding;
-use model::numbers::{FIGURE_WORDS, GROUPS, MOST_BYTES};
-
-// The word at an index, of the figures of a start.
-fn first_word(index: usize) -> u32
-    ensures { result ≡ figure_word no_holding largest index }
-{
-    if index < AT_CEILING {
-        return 0;
-    }
-    if index < AT_REST {
-        return MOST_BYTES;
-    }
-    0
-}
+use model::numbers::{GROUPS, MOST_BYTES};
+use model::{Holding, Refusal};
 
 // Sets the words up for a start: nothing is held, or has been, and every ceiling is the largest.
 pub fn set_up(words: &mut [u32])
     requires { length words.old ≡ figure_words }
     ensures { words.new ≡ figures_encoding no_holding largest }
 {
-    let mut at: usize = 0;
-    while at < FIGURE_WORDS {
-        words[at] = first_word(at);
-        at += 1;
-    }
+    words[..AT_CEILING].fill(0);
+    words[AT_CEILING..AT_REST].fill(MOST_BYTES);
+    words[AT_REST..].fill(0);
 }
 
 // Whether the group at the index stays within its ceiling, if it gets a block of so many bytes.
@@ -60,19 +46,17 @@ fn holding_at(words: &[u32], index: usize) -> Holding
     }
 }
 
-// Fills the list with the groups' records, group 1 first, if it has as many as there are groups; else answers false and leaves it.
-pub fn fill(words: &[u32], list: &mut [Holding]) -> bool
+// Fills the list with the groups' records, group 1 first, if it has as many as there are groups; else refuses and leaves it.
+pub fn fill(words: &[u32], list: &mut [Holding]) -> Result<(), Refusal>
     requires { figure_words ≤ length words.now }
-    ensures { (result ≡ eqb (length list.old) most_group)
-        × (list.new ≡ filled words.now list.old) }
+    ensures answer { MatchResult result (λ _. length list.old ≡ most_group) (λ refusal. (length list.old ≢ most_group) × (refusal ≡ BadList)) }
+    ensures list_after { list.new ≡ filled words.now list.old }
 {
     if list.len() != GROUPS {
-        return false;
+        return Err(Refusal::BadList);
     }
-    let mut i: usize = 0;
-    while i < GROUPS {
-        list[i] = holding_at(words, i);
-        i += 1;
+    for (i, record) in list.iter_mut().enumerate() {
+        *record = holding_at(words, i);
     }
-    true
+    Ok(())
 }

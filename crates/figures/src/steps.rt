@@ -1,21 +1,11 @@
 // The figures of one group, stepped: a block more, a block less, none left, another ceiling. Each function is lent the words of the
 // figures and no others, and stores into those of the group at the index alone.
-ghost use Rattle.std.specs.Prelude.{◌≡◌, ◌+◌, ◌≤◌, ◌<◌, max, length};
+ghost use Rattle.std.specs.Prelude.{◌≡◌, ◌+◌, ◌≤◌, ◌<◌, length};
 ghost use Rattle.model.specs.Numbers.{most_group, most_bytes, figure_words};
 ghost use Rattle.figures.specs.Encoding.{record_in};
 ghost use Rattle.figures.specs.Steps.{added, taken, cleared, capped};
 
 use crate::layout::{AT_CEILING, AT_GREATEST, AT_HELD};
-
-// The greater of two numbers.
-fn greater(a: u32, b: u32) -> u32
-    ensures { result ≡ max a b }
-{
-    if a < b {
-        return b;
-    }
-    a
-}
 
 // The group holds one block more, of so many bytes; its greatest is raised, if it holds more now than ever.
 pub fn add(words: &mut [u32], index: usize, room: u32)
@@ -25,7 +15,7 @@ pub fn add(words: &mut [u32], index: usize, room: u32)
 {
     let blocks = words[index] + 1;
     let held = words[AT_HELD + index] + room;
-    let greatest = greater(words[AT_GREATEST + index], held);
+    let greatest = words[AT_GREATEST + index].max(held);
     words[index] = blocks;
     words[AT_HELD + index] = held;
     words[AT_GREATEST + index] = greatest;

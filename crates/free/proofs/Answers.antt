@@ -1,36 +1,27 @@
 -- The answers to a return, by the tests that the code makes. Assumes nothing.
-use Prim.Native.Nat.{ℕ, ◌-◌, ◌*◌, ◌/◌, ◌<◌}
-use mathlib.Core.Path.{◌≡◌, refl, sym, ap, ◌∙◌}
-use mathlib.Core.Bool.{true, false}
-use mathlib.Core.Option.{none, some}
+use Prim.Native.Nat.{ℕ, ◌-◌, ◌*◌, ◌/◌}
+use mathlib.Core.Path.{◌≡◌, sym, ap, ◌∙◌}
+use mathlib.Core.Bool.{true}
+use mathlib.Core.Option.{some}
 use native.Mathlib.Omega.{arith}
 use borrow.Author.Tests.{eq-eqb, ne_eqb}
+use Rattle.std.specs.Prelude.{Some}
 use Rattle.model.specs.Numbers.{page_bytes}
-use Rattle.model.specs.declared.Refusal.TheVariants.{BadGroup, NoBlock, OtherGroup}
+use Rattle.model.specs.declared.Refusal.TheVariants.{OtherGroup}
 use Rattle.model.specs.declared.Answer.TheVariants.{Done}
 use Rattle.model.specs.Sizes.{room}
-use Rattle.model.specs.Arena.{Segment, direct, pages}
-use Rattle.model.specs.Zone.{Zone}
 use Rattle.model.specs.State.{State, arranged, zone_at}
 use Rattle.model.specs.PageMap.{page_map, whole, chunk, Block, group_of, block_at}
 use Rattle.model.specs.Pages.{release}
 use Rattle.model.specs.Calls.{refuses, answers, group_ok}
 use Rattle.model.specs.Free.{chunk_back, freed, free}
-use Rattle.pages.specs.Places.{Stands, run_pages}
 use Rattle.steps.specs.Moves.{released}
-use Rattle.blocks.specs.declared.Place.TheVariants.{Whole, Chunk}
+use Rattle.blocks.specs.declared.Block.TheVariants.{Whole, Chunk}
 use Rattle.blocks.specs.Places.{Tells}
 use Rattle.steps.proofs.Zones.{zone-is}
-use Rattle.free.specs.Back.{LiveChunk}
 
 module _ (s : State) (g o : ℕ) where
-  pub free-bad : group_ok g ≡ false → free g o s ≡ refuses s BadGroup
-  free-bad t = rw t
-
   module _ (ok : group_ok g ≡ true) where
-    pub free-none : block_at (page_map s) o ≡ none → free g o s ≡ refuses s NoBlock
-    free-none e = rw (ok, e)
-
     pub free_other : (b : Block) → block_at (page_map s) o ≡ some b → (group_of b ≡ g → ⊥) → free g o s ≡ refuses s OtherGroup
     free_other b e f = rw (ok, e, ne_eqb (group_of b) g f)
 
@@ -39,13 +30,10 @@ module _ (s : State) (g o : ℕ) where
 
 -- The block that was found comes back.
 module _ (s : State) {o p b g : ℕ} where
-  pub whole-freed : (k : ℕ) → Tells s o (Whole p k b g) → freed o (whole k g) s ≡ released p s
+  pub whole-freed : (k : ℕ) → Tells s o (Some (Whole (record { at = p; before = b }) k g)) → freed o (whole k g) s ≡ released p s
   whole-freed k t = ap (λ q. arranged s (release q s.segments) s.lists s.spare) (sym t.2)
 
-  pub whole-stands : (k : ℕ) → Tells s o (Whole p k b g) → (x : Segment Zone) × Stands s.segments p b x × (pages x ≡ k) × (run_pages x ≡ 0)
-  whole-stands k t = (direct k g, t.1, refl, refl)
-
-  module _ (c i : ℕ) (t : Tells s o (Chunk p b c i g)) where
+  module _ (c i : ℕ) (t : Tells s o (Some (Chunk (record { at = p; before = b }) c i g))) where
     zone-here : zone_at p s.segments ≡ t.1.0
     zone-here = zone-is s p b t.1.0 t.1.1
 
@@ -54,6 +42,3 @@ module _ (s : State) {o p b g : ℕ} where
       where
         page : (o - i * room c) / page_bytes ≡ p
         page = let e : o - i * room c ≡ p * page_bytes = omega (arith, t.2) in ap (λ k. k / page_bytes) e ∙ omega arith
-
-    pub chunk-lives : 0 < g → LiveChunk s p b i
-    chunk-lives h = record { z = t.1.0; stands = t.1.1; live = omega (arith, t.1.3) }

@@ -1,11 +1,10 @@
 -- A live chunk of a zone that stands in lent words, and the words when it is on its zone's chain. Assumes nothing.
 use Prim.Native.Nat.{ℕ, ◌+◌, ◌-◌, ◌*◌, ◌/◌, ◌<◌}
 use mathlib.Core.Path.{◌≡◌, refl, sym, ap, ◌∙◌, subst}
-use mathlib.Core.List.{List, [], ◌∷◌}
-use mathlib.Core.Bool.{Bool, true, false, cond}
+use mathlib.Core.List.{List, ◌∷◌}
+use mathlib.Core.Bool.{Bool, true, cond}
 use native.Mathlib.Omega.{arith}
 use lib.ListN.{length, get_or, set}
-use lib.Seq.{set-get_or}
 use Rattle.model.specs.Numbers.{page_bytes, class_count, most_pages}
 use Rattle.model.specs.Sizes.{room}
 use Rattle.model.specs.Arena.{zone, total}
@@ -111,9 +110,6 @@ module _ {w : List ℕ} {n p b i : ℕ} (good : Good w n) (live : LiveChunk (dec
     pub mid-front : full (zone_at p (decode w).segments) ≡ true → (c : ℕ) → c ≡ (zone_at p (decode w).segments).class → (u : List ℕ) → u ≡ encode (fronted c p (decode v)) →
         u ≡ encode (chained (zone_at p (decode w).segments).class i p (zone_at p (decode w).segments) (decode w))
     mid-front t c k u f = f ∙ (λ j. encode (fronted (k j) p (mid-decoded j))) ∙ ap (λ x. encode (relists x)) (sym t)
-
-    pub mid-stays : full (zone_at p (decode w).segments) ≡ false → v ≡ encode (chained (zone_at p (decode w).segments).class i p (zone_at p (decode w).segments) (decode w))
-    mid-stays t = e ∙ (λ j. encode (arranged s (put_zone p z' s.segments) (sym (set-get_or s.lists z.class []) j) s.spare)) ∙ ap (λ x. encode (relists x)) (sym t)
 
   -- The chunk is on the chain and the zone on its list: a valid state again.
   module _ {v : List ℕ} (e : v ≡ encode (chained (zone_at p (decode w).segments).class i p (zone_at p (decode w).segments) (decode w))) where

@@ -25,11 +25,11 @@ module _ (limit c : ℕ) (w : List ℕ) (i : ℕ) where
   unfolding legal_slots
   legal-end h = rw (drop_of_length-le w h)
 
-  -- Behind a zero there are zeros only.
-  pub legal-zero : i < length w → get_or w i 0 ≡ 0 → every is_zero (take (length w - (i + 1)) (drop (i + 1) w)) ≡ legal_slots limit c (drop i w)
-  unfolding legal_slots
+  -- From a zero on there are zeros only.
+  pub legal-zero : i < length w → get_or w i 0 ≡ 0 → every is_zero (take (length w - i) (drop i w)) ≡ legal_slots limit c (drop i w)
+  unfolding legal_slots every
   legal-zero h e =
-      ap (every is_zero) (take_all (length w - (i + 1)) _ (simp length-drop (omega arith)))
+      ap (every is_zero) (take_all (length w - i) _ (simp length-drop (omega arith)))
       ∙ (rw (next_word w i 0 h, e))
 
   next-entry : i < length w → (get_or w i 0 ≡ 0 → ⊥) → drop i w ≡ suc (get_or w i 0 - 1) ∷ drop (i + 1) w
@@ -57,6 +57,14 @@ shift-more w i v h = rw (take_set_next w i v h, drop-set-next w i v, next_word w
 pub shift-done : (w : List ℕ) (i v : ℕ) → length w ≤ i → shifted_in i v w ≡ w
 unfolding pushed
 shift-done w i v h = rw (drop_of_length-le w h) (append-nil (take i w) ∙ take_all i w h)
+
+-- The slots from an index on, shifted by themselves, are put back.
+pub shift-put : (w u : List ℕ) (k v : ℕ) → u ≡ shifted_in 0 v (mid k (length w - k) w) → put_mid k (length w - k) w u ≡ shifted_in k v w
+shift-put w u k v e =
+    let b : length (drop k w) ≤ length w - k = simp length-drop (omega arith) in
+    let m : mid k (length w - k) w ≡ drop k w = take_all (length w - k) (drop k w) b in
+    let d : drop (length w - k) (drop k w) ≡ [] = drop_of_length-le (drop k w) b in
+    cc (append-nil u)
 
 -- ---- gathering: the first e slots are those of the first i that are not v, and from i on all is as it was
 

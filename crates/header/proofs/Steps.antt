@@ -5,7 +5,9 @@ use mathlib.Core.List.{List, [], ◌∷◌, ◌++◌, map, append-nil, Memᴰ}
 use native.Mathlib.Nat.{not-suc-le-zero, le_of_suc-le-suc}
 use native.Mathlib.Numerals.{add-one}
 use native.Mathlib.Omega.{arith}
+use lib.Dec.{ltb}
 use lib.ListN.{length, get_or, set, drop, replicate, length-append, drop_of_length-le, get_or-eq_default}
+use borrow.Author.Tests.{lt-ltb, le-ltb}
 use Rattle.lemmas.specs.Every.{count}
 use Rattle.lemmas.specs.Times.{times, remove}
 use Rattle.lemmas.specs.Parts.{mid, put_mid}
@@ -15,7 +17,9 @@ use Rattle.lemmas.proofs.Every.{count-le-length}
 use Rattle.lemmas.proofs.Parts.{length-mid, get_or-mid}
 use Rattle.lemmas.proofs.Zeros.{zeros-add, get_or-zeros}
 use Rattle.model.specs.Numbers.{class_count, most_pages, header_words}
-use Rattle.header.specs.declared.Front.TheVariants.{Page, Nothing}
+use Rattle.std.specs.Prelude.{Option, Some, None}
+use Rattle.std.specs.Option.{SomeIff, MatchOption}
+use Rattle.std.specs.Bool.{then_some}
 use Rattle.header.specs.Keys.{key, class_in, keys_from, keys_of, put_at, place_of, key_limit}
 use Rattle.header.specs.Slots.{slots, holds, shifted_in, closed_up}
 use Rattle.header.specs.Encoding.{magic, header_encoding, Encodes, spare_slots, list_slots, rest_words, at_spare, at_lists, at_rest}
@@ -41,33 +45,30 @@ slot_at (suc m) [] (q ∷ b) h = refl
 slot_at (suc m) (x ∷ a) b h = slot_at m a b (le_of_suc-le-suc h)
 
 -- The front of a class's list l, from the slot where its keys begin.
-front_below : (c x : ℕ) (l behind : List ℕ) → x ≡ slot_of (map (key c) l ++ behind) → x ≤ key c 0 → Nothing ≡ front_of l
+front_below : (c x : ℕ) (l behind : List ℕ) → x ≡ slot_of (map (key c) l ++ behind) → x ≤ key c 0 → None ≡ front_of l
 unfolding slot_of
 front_below c x [] behind e h = refl
 front_below c x (p ∷ l) behind e h = absurd (omega arith)
 
-front_above : (c x : ℕ) (l behind : List ℕ) → x ≡ slot_of (map (key c) l ++ behind) → Below most_pages l → key c most_pages < x → Nothing ≡ front_of l
+front_above : (c x : ℕ) (l behind : List ℕ) → x ≡ slot_of (map (key c) l ++ behind) → Below most_pages l → key c most_pages < x → None ≡ front_of l
 unfolding slot_of
 front_above c x [] behind e g h = refl
 front_above c x (p ∷ l) behind e g h = absurd (let a = g p (Memᴰ.head refl) in omega arith)
 
 front-own : (c x : ℕ) (l behind : List ℕ) → x ≡ slot_of (map (key c) l ++ behind) → ((q : ℕ) → Memᴰ q behind → c < class_in q) → key c 0 < x → x ≤ key c most_pages
-    → Page (x - key c 0 - 1) ≡ front_of l
+    → Some (x - key c 0 - 1) ≡ front_of l
 unfolding slot_of
 front-own c x [] [] e g h k = absurd (omega arith)
 front-own c x [] (q ∷ behind) e g h k = absurd (let a = g q (Memᴰ.head refl) in omega arith)
-front-own c x (p ∷ l) behind e g h k = ap Page (omega arith)
+front-own c x (p ∷ l) behind e g h k = ap Some (omega arith)
 
--- The front of a list by itself.
-front-none : (x : ℕ) (l : List ℕ) → x ≡ slot_of l → x ≡ 0 → Nothing ≡ front_of l
+-- The front of a list by itself: its slot less one.
+front-slot : (x : ℕ) (l : List ℕ) (found : Option ℕ) → x ≡ slot_of l → SomeIff found (1 ≤ x) (x - 1) → found ≡ front_of l
 unfolding slot_of
-front-none x [] e h = refl
-front-none x (p ∷ l) e h = absurd (omega arith)
-
-front-some : (x : ℕ) (l : List ℕ) → x ≡ slot_of l → (x ≡ 0 → ⊥) → Page (x - 1) ≡ front_of l
-unfolding slot_of
-front-some x [] e h = absurd (h e)
-front-some x (p ∷ l) e h = ap Page (omega arith)
+front-slot x [] None e h = refl
+front-slot x [] (Some y) e h = absurd (let a = h.0 in omega arith)
+front-slot x (p ∷ l) None e h = absurd (h (omega arith))
+front-slot x (p ∷ l) (Some y) e h = ap Some (let a = h.1 in omega arith)
 
 -- The stores that take the front off the empty list.
 popped : (m n : ℕ) (l rest : List ℕ) → length l ≤ spare_slots → set (set (m ∷ n ∷ (slots spare_slots l ++ rest)) 2 (get_or (m ∷ n ∷ (slots spare_slots l ++ rest)) 3 0)) 3 0 ≡ m ∷ n ∷ (slots spare_slots (drop 1 l) ++ rest)
@@ -80,8 +81,8 @@ popped m n (x ∷ y ∷ z ∷ l) rest h = absurd (omega arith)
 module _ {w : List ℕ} {n : ℕ} {spare : List ℕ} {lists : List (List ℕ)} (h : Encodes w n spare lists) where
   -- ---- what the words hold
 
-  pub header-length : length w ≡ header_words
-  header-length = cc (length-header n spare lists)
+  pub header_length : length w ≡ header_words
+  header_length = cc (length-header n spare lists)
 
   lists-words : mid at_lists list_slots w ≡ slots list_slots (keys_of lists)
   lists-words = cc (lists-part n spare lists)
@@ -100,7 +101,7 @@ module _ {w : List ℕ} {n : ℕ} {spare : List ℕ} {lists : List (List ℕ)} (
   pub lists-most : (low high : ℕ) {k : ℕ} → k ≡ count (holds low high) (mid at_lists list_slots w) → k ≤ list_slots
   lists-most low high e =
       let a = count-le-length (holds low high) (mid at_lists list_slots w) in
-      let b = lists-size w header-length in
+      let b = lists-size w header_length in
       omega arith
 
   pub spare-most : (low high : ℕ) {k : ℕ} → k ≡ count (holds low high) (mid at_spare spare_slots w) → k ≤ spare_slots
@@ -151,30 +152,38 @@ module _ {w : List ℕ} {n : ℕ} {spare : List ℕ} {lists : List (List ℕ)} (
         ∙ sym (get_or-mid at_rest rest_words w 0 0 (omega arith))
         ∙ ap (λ (t : List ℕ). get_or t 0 0) (ap (mid at_rest rest_words) h.words ∙ rest_part n spare lists)
         ∙ get_or-zeros rest_words 0
-        ∙ sym (get_or-eq_default (mid at_lists list_slots w) 0 (let a = lists-size w header-length in omega arith))
+        ∙ sym (get_or-eq_default (mid at_lists list_slots w) 0 (let a = lists-size w header_length in omega arith))
         ∙ slot)
 
     module _ (low k : ℕ) (is : low ≡ key c 0) (e : k ≡ count (holds 0 low) (mid at_lists list_slots w)) where
-      pub first_below : get_or w (at_lists + k) 0 ≤ low → Nothing ≡ front_of (get_or lists c [])
+      pub first_below : get_or w (at_lists + k) 0 ≤ low → None ≡ front_of (get_or lists c [])
       first_below l = front_below c _ (get_or lists c []) _ (place-slot low k is e) (omega arith)
 
-      pub first_above : (high : ℕ) → high ≡ key c most_pages → high < get_or w (at_lists + k) 0 → Nothing ≡ front_of (get_or lists c [])
+      pub first_above : (high : ℕ) → high ≡ key c most_pages → high < get_or w (at_lists + k) 0 → None ≡ front_of (get_or lists c [])
       first_above high g l =
           front_above c _ _ _ (place-slot low k is e) (h.fits.list-pages c) (omega arith)
 
-      pub first-own : (high : ℕ) → high ≡ key c most_pages → low < get_or w (at_lists + k) 0 → get_or w (at_lists + k) 0 ≤ high → Page (get_or w (at_lists + k) 0 - low - 1) ≡ front_of (get_or lists c [])
+      pub first-own : (high : ℕ) → high ≡ key c most_pages → low < get_or w (at_lists + k) 0 → get_or w (at_lists + k) 0 ≤ high → Some (get_or w (at_lists + k) 0 - low - 1) ≡ front_of (get_or lists c [])
       first-own high g l m =
-          ap (λ x. Page (get_or w (at_lists + k) 0 - x - 1)) is
+          ap (λ x. Some (get_or w (at_lists + k) 0 - x - 1)) is
           ∙ front-own c _ (get_or lists c []) _ (place-slot low k is e) (λ q. behind-above c lists there) (omega arith) (omega arith)
+
+      -- The page that the slot tells, kept if the class has it.
+      pub first-front : (found kept : Option ℕ) → SomeIff found (low + 1 ≤ get_or w (at_lists + k) 0) (get_or w (at_lists + k) 0 - (low + 1))
+          → MatchOption found (kept ≡ None) (λ p. kept ≡ then_some (ltb p most_pages) p) → kept ≡ front_of (get_or lists c [])
+      first-front None kept s m = m ∙ first_below (by-lt low (get_or w (at_lists + k) 0) (λ l. absurd (s (omega arith))) (λ l. l))
+      first-front (Some p) kept s m =
+          let a = s.0 in
+          let b = s.1 in
+          by-lt p most_pages
+          (λ l. m ∙ ap (λ t. then_some t p) (lt-ltb p most_pages l) ∙ ap Some (omega arith) ∙ first-own _ refl (omega arith) (omega arith))
+          (λ l. m ∙ ap (λ t. then_some t p) (le-ltb p most_pages l) ∙ first_above _ refl (omega arith))
 
   spare-slot : get_or w 2 0 ≡ slot_of spare
   spare-slot = cc (get_or-mid at_spare spare_slots w 0 0 (omega arith), spare-words, slot_at spare_slots [] spare h.fits.few)
 
-  pub spare-none : get_or w 2 0 ≡ 0 → Nothing ≡ front_of spare
-  spare-none = front-none _ spare spare-slot
-
-  pub spare-some : (get_or w 2 0 ≡ 0 → ⊥) → Page (get_or w 2 0 - 1) ≡ front_of spare
-  spare-some = front-some _ spare spare-slot
+  pub spare-front : {found : Option ℕ} → SomeIff found (1 ≤ get_or w 2 0) (get_or w 2 0 - 1) → found ≡ front_of spare
+  spare-front = front-slot _ spare _ spare-slot
 
   -- ---- the steps
 

@@ -1,12 +1,11 @@
 -- The front of a list, as the code answers it. Assumes nothing.
-use Rattle.std.specs.Prelude.{ℕ, Bool, List, [], ◌∷◌, ltb}
+use Rattle.std.specs.Prelude.{ℕ, Bool, List, [], ◌∷◌, ltb, Option, Some, None}
 use Rattle.lemmas.specs.Times.{times}
-use Rattle.header.specs.declared.Front.{Front}
-use Rattle.header.specs.declared.Front.TheVariants.{Page, Nothing}
 
-abbrev pub front_of : List ℕ → Front
-front_of [] = Nothing
-front_of (p ∷ l) = Page p
+-- The page at the front of a list, if there is one.
+abbrev pub front_of : List ℕ → Option ℕ
+front_of [] = None
+front_of (p ∷ l) = Some p
 
 -- Whether p stands in the list.
 abbrev pub stands : ℕ → List ℕ → Bool

@@ -1,7 +1,7 @@
 // The header, the first 1,024 metadata words: the number of pages, the empty list and the class lists. Each function is lent
-// these words and no others. Where words are read or stepped they are a header (`Header`), which is what the check accepts
+// these words and no others. Where words are read (`Lists`) or stepped they are a header (`Header`), which is what the check accepts
 // (`check-header`, `header-iff`), and what each step leaves (the `fits-` laws).
-#![tactic(auto)]
+#![tactic(auto, using(crate::proofs::Steps::header_length))]
 
 ghost use Rattle.std.specs.Prelude.{◌≡◌, [], ◌∷◌, ◌≤◌, ◌<◌, length, get_or, set, drop, replicate};
 ghost use Rattle.lemmas.specs.Times.{remove};
@@ -16,11 +16,11 @@ mod slots;
 use layout::{AT_LISTS, AT_MAGIC, AT_PAGES, AT_REST, AT_SPARE, KEY_LIMIT, MAGIC};
 use model::numbers::{HEADER_WORDS, MOST_PAGES};
 
-// What stands at the front of a list: a zone's start page, or nothing.
+// The words of a header, lent for reading.
 #[derive(Clone, Copy)]
-pub enum Front {
-    Page(u32),
-    Nothing,
+pub struct Lists<'a> {
+    pub words: &'a [u32],
+    ghost legal: { Header words.now },
 }
 
 // ---- the whole header
@@ -29,26 +29,16 @@ pub enum Front {
 pub fn check(words: &[u32]) -> bool
     ensures { result ≡ is_header words.now }
 {
-    if words.len() != HEADER_WORDS {
-        return false;
-    }
-    if words[AT_MAGIC] != MAGIC {
+    if words.len() != HEADER_WORDS || words[AT_MAGIC] != MAGIC {
         return false;
     }
     let pages = words[AT_PAGES];
-    if pages == 0 {
+    if pages == 0 || MOST_PAGES < pages {
         return false;
     }
-    if MOST_PAGES < pages {
-        return false;
-    }
-    if !slots::are_legal(&words[AT_SPARE..AT_LISTS], MOST_PAGES) {
-        return false;
-    }
-    if !slots::are_legal(&words[AT_LISTS..AT_REST], KEY_LIMIT) {
-        return false;
-    }
-    scan::is_zero(&words[AT_REST..HEADER_WORDS])
+    slots::are_legal(&words[AT_SPARE..AT_LISTS], MOST_PAGES)
+        && slots::are_legal(&words[AT_LISTS..AT_REST], KEY_LIMIT)
+        && scan::is_zero(&words[AT_REST..HEADER_WORDS])
 }
 
 // Sets the words up as the header of n pages with empty lists, whatever they held.
@@ -61,15 +51,79 @@ pub fn set_up(words: &mut [u32], n: u32)
     words[AT_PAGES] = n;
 }
 
-// The arena's pages.
-pub fn pages(words: &[u32]) -> u32
-    requires { Header words.now }
-    ensures { result ≡ pages_in words.now }
-{
-    words[AT_PAGES]
+// ---- reading
+
+impl<'a> Lists<'a> {
+    // The arena's pages.
+    pub fn pages(&self) -> u32
+        ensures { result ≡ pages_in self.now.words.now }
+    {
+        self.words[AT_PAGES]
+    }
+
+    // The front of the class's list. Its keys begin behind those of the lower classes; behind the last slot stands a zero.
+    pub fn first(&self, class: u32) -> Option<u32>
+        requires { class < class_count }
+        ensures { result ≡ front_of (get_or (lists_in self.now.words.now) class []) }
+    {
+        let low = key(class, 0);
+        let at = slots::count_between(&self.words[AT_LISTS..AT_REST], 0, low);
+        self.words[AT_LISTS + at]
+            .checked_sub(low + 1)
+            .filter(|&page| page < MOST_PAGES)
+    }
+
+    // How many zones the class's list has.
+    pub fn count(&self, class: u32) -> u32
+        requires { class < class_count }
+        ensures { result ≡ length (get_or (lists_in self.now.words.now) class []) }
+    {
+        let keys = &self.words[AT_LISTS..AT_REST];
+        slots::count_between(keys, key(class, 0), key(class, MOST_PAGES)) as u32
+    }
+
+    // Whether the zone that starts at the page stands on the class's list.
+    pub fn contains(&self, class: u32, page: u32) -> bool
+        requires { (class < class_count) × (page < most_pages) }
+        ensures { result ≡ stands page (get_or (lists_in self.now.words.now) class []) }
+    {
+        let low = key(class, page);
+        0 < slots::count_between(&self.words[AT_LISTS..AT_REST], low, low + 1)
+    }
+
+    // How many zones all class lists have.
+    pub fn listed(&self) -> u32
+        ensures { result ≡ length (keys_of (lists_in self.now.words.now)) }
+    {
+        slots::count_between(&self.words[AT_LISTS..AT_REST], 0, KEY_LIMIT) as u32
+    }
+
+    // The front of the empty list.
+    pub fn spare_first(&self) -> Option<u32>
+        ensures { result ≡ front_of (spare_in self.now.words.now) }
+    {
+        self.words[AT_SPARE].checked_sub(1)
+    }
+
+    // How many zones the empty list has.
+    pub fn spare_count(&self) -> u32
+        ensures { result ≡ length (spare_in self.now.words.now) }
+    {
+        slots::count_between(&self.words[AT_SPARE..AT_LISTS], 0, MOST_PAGES) as u32
+    }
+
+    // Whether the zone that starts at the page stands on the empty list.
+    pub fn spare_contains(&self, page: u32) -> bool
+        requires { page < most_pages }
+        ensures { result ≡ stands page (spare_in self.now.words.now) }
+    {
+        0 < slots::count_between(&self.words[AT_SPARE..AT_LISTS], page, page + 1)
+    }
 }
 
 // ---- the class lists
+
+// The steps keep `Header` as a `requires`: a view that carries it would be built for one call, and owe it again at the call's end.
 
 // The key of a page and a class. At page 0 it is the class's lowest, at 256 the next class's.
 fn key(class: u32, page: u32) -> u32
@@ -77,55 +131,6 @@ fn key(class: u32, page: u32) -> u32
     ensures { result ≡ key class page }
 {
     MOST_PAGES * class + page
-}
-
-// The front of the class's list. Its keys begin behind those of the lower classes; behind the last slot stands a zero.
-pub fn first(words: &[u32], class: u32) -> Front
-    requires { Header words.now × (class < class_count) }
-    ensures { result ≡ front_of (get_or (lists_in words.now) class []) }
-{
-    let low = key(class, 0);
-    let at = slots::count_between(&words[AT_LISTS..AT_REST], 0, low);
-    let slot = words[AT_LISTS + at];
-    if slot <= low {
-        return Front::Nothing;
-    }
-    if key(class, MOST_PAGES) < slot {
-        return Front::Nothing;
-    }
-    Front::Page(slot - low - 1)
-}
-
-// How many zones the class's list has.
-pub fn count(words: &[u32], class: u32) -> u32
-    requires { Header words.now × (class < class_count) }
-    ensures { result ≡ length (get_or (lists_in words.now) class []) }
-{
-    let n = slots::count_between(
-        &words[AT_LISTS..AT_REST],
-        key(class, 0),
-        key(class, MOST_PAGES),
-    );
-    n as u32
-}
-
-// Whether the zone that starts at the page stands on the class's list.
-pub fn contains(words: &[u32], class: u32, page: u32) -> bool
-    requires { Header words.now × (class < class_count) × (page < most_pages) }
-    ensures { result ≡ stands page (get_or (lists_in words.now) class []) }
-{
-    let low = key(class, page);
-    let n = slots::count_between(&words[AT_LISTS..AT_REST], low, low + 1);
-    0 < n
-}
-
-// How many zones all class lists have.
-pub fn listed(words: &[u32]) -> u32
-    requires { Header words.now }
-    ensures { result ≡ length (keys_of (lists_in words.now)) }
-{
-    let n = slots::count_between(&words[AT_LISTS..AT_REST], 0, KEY_LIMIT);
-    n as u32
 }
 
 // Puts the page at the front of the class's list. There is room for one more.
@@ -146,36 +151,6 @@ pub fn remove(words: &mut [u32], class: u32, page: u32)
 }
 
 // ---- the empty list
-
-// The front of the empty list.
-pub fn spare_first(words: &[u32]) -> Front
-    requires { Header words.now }
-    ensures { result ≡ front_of (spare_in words.now) }
-{
-    let slot = words[AT_SPARE];
-    if slot == 0 {
-        return Front::Nothing;
-    }
-    Front::Page(slot - 1)
-}
-
-// How many zones the empty list has.
-pub fn spare_count(words: &[u32]) -> u32
-    requires { Header words.now }
-    ensures { result ≡ length (spare_in words.now) }
-{
-    let n = slots::count_between(&words[AT_SPARE..AT_LISTS], 0, MOST_PAGES);
-    n as u32
-}
-
-// Whether the zone that starts at the page stands on the empty list.
-pub fn spare_contains(words: &[u32], page: u32) -> bool
-    requires { Header words.now × (page < most_pages) }
-    ensures { result ≡ stands page (spare_in words.now) }
-{
-    let n = slots::count_between(&words[AT_SPARE..AT_LISTS], page, page + 1);
-    0 < n
-}
 
 // Puts the page at the front of the empty list. There is room for one more.
 pub fn spare_push(words: &mut [u32], page: u32)

@@ -19,6 +19,10 @@ use Rattle.model.specs.Text.{line, lines}
 use Rattle.model.specs.Listing.{section, live_count, run_lines, direct_lines, zone_lines, listing_text}
 use Rattle.zone.specs.Live.{is_group, live_chunks}
 use Rattle.pages.specs.Encoding.{kind_of, Writable}
+use Rattle.pages.specs.declared.Kind.{Kind}
+use Rattle.pages.specs.declared.Kind.TheVariants as kind
+use Rattle.pages.specs.Places.{kind_in, kind_by, kind_number}
+use Rattle.pages.proofs.Laws.{kind-told, kind-number}
 use Rattle.text.specs.Writing.{named, joined}
 use Rattle.text.proofs.Left.{Left, left-all}
 use Rattle.text.proofs.Lines.{section-named}
@@ -43,6 +47,20 @@ module _ (k p : ℕ) (x : Segment Zone) where
       go : (t : Bool) → length (cond t (row_of p x ∷ []) []) ≡ cond t 1 0
       go true = refl
       go false = refl
+
+-- The kind that a number stands for.
+kind-back : (k : Kind) → kind_by (kind_number k) ≡ k
+kind-back kind.Run = refl
+kind-back kind.Direct = refl
+kind-back kind.Zone = refl
+
+-- The same by the kind that the code has.
+module _ (k : Kind) (p : ℕ) (x : Segment Zone) where
+  pub rows-of-kind : kind_in x ≡ k → rows_at (kind_number k) p x ≡ row_of p x ∷ []
+  rows-of-kind e = rows-here (kind_number k) p x (sym (kind-number x) ∙ ap kind_number e)
+
+  pub rows-of-another : (kind_in x ≡ k → ⊥) → rows_at (kind_number k) p x ≡ []
+  rows-of-another f = rows_none (kind_number k) p x (λ e. f (sym (kind-told x) ∙ ap kind_by e ∙ kind-back k))
 
 pub lines-one : (row : List ℕ) → lines (row ∷ []) ≡ line row
 unfolding lines

@@ -1,25 +1,22 @@
 -- The walks over the segments: the one that counts the rows of a kind, and the one that writes them. Assumes nothing.
 use Prim.Native.Nat.{ℕ, ◌+◌, ◌≤◌, ◌<◌}
 use mathlib.Core.Path.{◌≡◌, refl, sym, ap, ◌∙◌}
-use mathlib.Core.Bool.{cond}
 use mathlib.Core.List.{List, [], ◌∷◌, ◌++◌, append_assoc, append-nil}
 use native.Mathlib.Omega.{arith}
-use lib.Dec.{eqb}
 use lib.ListN.{length, length-append}
 use lib.Seq.{length-sets}
 use Rattle.model.specs.Numbers.{most_pages}
 use Rattle.model.specs.Arena.{Segment, pages}
 use Rattle.model.specs.Zone.{Zone}
 use Rattle.model.specs.Text.{lines}
-use Rattle.pages.specs.Encoding.{kind_of}
 use Rattle.pages.specs.Decoding.{segments_of, Holds}
-use Rattle.pages.specs.Places.{run_pages}
+use Rattle.pages.specs.declared.Kind.{Kind}
+use Rattle.pages.specs.Places.{kind_in, kind_number, run_pages}
 use Rattle.pages.proofs.Walk.{Walk, Next, walk_start, next, past, at-it, walk_end}
 use Rattle.text.specs.Writing.{Bounded, Wrote}
 use Rattle.text.proofs.Left.{wrote_then, wrote_as}
 use Rattle.listing.specs.Rows.{rows_at, rows_of}
-use Rattle.listing.proofs.Rows.{count_at, lines-append}
-use Rattle.lemmas.proofs.Cases.{one-most}
+use Rattle.listing.proofs.Rows.{rows-of-kind, rows-of-another, lines-append}
 
 -- ---- counting
 
@@ -40,25 +37,27 @@ module _ {k : ℕ} {w : List ℕ} {n a p : ℕ} (i : Counting k w n a p) where
   pub count_next : p < n → Next i.walk
   count_next h = next i.walk h
 
-  module _ (h : p < n) (kind : ℕ) (is : kind ≡ kind_of (count_next h).x) (o : ℕ) (same : o ≡ cond (eqb kind k) 1 0) where
-    one : o ≡ length (rows_at k p (count_next h).x)
-    one = cc (count_at k p (count_next h).x)
-
-    pub count-few : o ≤ 1
-    count-few = omega (arith, one-most (eqb kind k))
-
-    pub count-more : (len : ℕ) → len ≡ pages (count_next h).x → Counting k w n (a + o) (p + len)
-    unfolding rows_of
-    count-more len el = rw el (record {
-      b = run_pages (count_next h).x;
-      walk = past i.walk (count_next h) (a + o) (omega (arith, one, length-append (rows_at k p (count_next h).x) (rows_of k (p + pages (count_next h).x) (count_next h).rest)));
-      few = omega (arith, count-few, i.few, (count_next h).read.ok.0);
-      most = i.most;
-    })
+  -- Past the segment at the page there are a' rows.
+  count-more : (h : p < n) (a' : ℕ) → a' ≡ a + length (rows_at k p (count_next h).x) → a' ≤ a + 1 → (len : ℕ) → len ≡ pages (count_next h).x → Counting k w n a' (p + len)
+  unfolding rows_of
+  count-more h a' more most len el = rw el (record {
+    b = run_pages (count_next h).x;
+    walk = past i.walk (count_next h) a' (omega (arith, more, length-append (rows_at k p (count_next h).x) (rows_of k (p + pages (count_next h).x) (count_next h).rest)));
+    few = omega (arith, most, i.few, (count_next h).read.ok.0);
+    most = i.most;
+  })
 
   pub count-end : n ≤ p → a ≡ length (rows_of k 0 (segments_of w))
   unfolding rows_of
   count-end h = omega (arith, walk_end i.walk h)
+
+-- By what the code has found out of the segment's kind.
+module _ {k : Kind} {w : List ℕ} {n a p : ℕ} (i : Counting (kind_number k) w n a p) (h : p < n) where
+  pub count-here : kind_in (count_next i h).x ≡ k → (len : ℕ) → len ≡ pages (count_next i h).x → Counting (kind_number k) w n (a + 1) (p + len)
+  count-here e len el = count-more i h (a + 1) (omega (arith, ap length (rows-of-kind k p (count_next i h).x e))) (omega arith) len el
+
+  pub count_none : (kind_in (count_next i h).x ≡ k → ⊥) → (len : ℕ) → len ≡ pages (count_next i h).x → Counting (kind_number k) w n a (p + len)
+  count_none f len el = count-more i h a (omega (arith, ap length (rows-of-another k p (count_next i h).x f))) (omega arith) len el
 
 -- ---- writing
 

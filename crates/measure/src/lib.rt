@@ -1,8 +1,9 @@
 // What the benchmarks and the damage test call, which are no Rattle: the check by itself, and the class of a size by itself.
 #![tactic(auto)]
 
-ghost use Rattle.std.specs.Prelude.{◌≡◌, ◌<◌, length, if◌then◌else◌};
+ghost use Rattle.std.specs.Prelude.{◌≡◌, ℕ, ◌<◌, length, if◌then◌else◌};
 ghost use Rattle.model.specs.Numbers.{large_size};
+ghost use Rattle.model.specs.Sizes.{class_of};
 ghost use Rattle.account.specs.Decoding.{is_account};
 ghost use Rattle.measure.specs.Classes.{size_from, class_sum};
 
@@ -15,10 +16,7 @@ use model::numbers::LARGE_SIZE;
 pub extern "C" fn nostrimel_check(words: &[u32]) -> u32
     ensures { result ≡ (if is_account words.now then 1 else 0) }
 {
-    if account::check(words) {
-        return 1;
-    }
-    0
+    u32::from(account::check(words))
 }
 
 // Any number as a size that takes a chunk, 1 to 8,191.
@@ -28,18 +26,25 @@ fn size_from(number: u32) -> u32
     1 + number % (LARGE_SIZE - 1)
 }
 
-// The classes of many sizes, added up so that none can be left out. By arithmetic ..
+// The classes of many sizes, added up so that none can be left out, by any way to find the class of a size.
+fn class_sum<F: Fn(u32) -> u32>(numbers: &[u32], find_class: F) -> u32
+    requires callable { (n : ℕ) → 0 < n → n < large_size → F.pre find_class n }
+    requires exact { (n c : ℕ) → 0 < n → n < large_size → F.post find_class n c → c ≡ class_of n }
+    ensures { result ≡ class_sum numbers.now (length numbers.now) }
+{
+    let mut sum: u32 = 0;
+    for number in numbers {
+        sum = std::num::wrapping_add_u32(sum, find_class(size_from(*number)));
+    }
+    sum
+}
+
+// By arithmetic ..
 #[unsafe(no_mangle)]
 pub extern "C" fn nostrimel_classes_by_rows(numbers: &[u32]) -> u32
     ensures { result ≡ class_sum numbers.now (length numbers.now) }
 {
-    let mut sum: u32 = 0;
-    let mut i = 0;
-    while i < numbers.len() {
-        sum = std::num::wrapping_add_u32(sum, rows::class_of_size(size_from(numbers[i])));
-        i += 1;
-    }
-    sum
+    class_sum(numbers, rows::class_of_size)
 }
 
 // .. by the table, as a request looks one up ..
@@ -47,13 +52,7 @@ pub extern "C" fn nostrimel_classes_by_rows(numbers: &[u32]) -> u32
 pub extern "C" fn nostrimel_classes_by_table(numbers: &[u32]) -> u32
     ensures { result ≡ class_sum numbers.now (length numbers.now) }
 {
-    let mut sum: u32 = 0;
-    let mut i = 0;
-    while i < numbers.len() {
-        sum = std::num::wrapping_add_u32(sum, classes::class_of_size(size_from(numbers[i])));
-        i += 1;
-    }
-    sum
+    class_sum(numbers, classes::class_of_size)
 }
 
 // .. and by one table for all of them.
@@ -62,11 +61,5 @@ pub extern "C" fn nostrimel_classes_by_shared_table(numbers: &[u32]) -> u32
     ensures { result ≡ class_sum numbers.now (length numbers.now) }
 {
     let table = classes::table();
-    let mut sum: u32 = 0;
-    let mut i = 0;
-    while i < numbers.len() {
-        sum = std::num::wrapping_add_u32(sum, classes::class_in(&table, size_from(numbers[i])));
-        i += 1;
-    }
-    sum
+    class_sum(numbers, |size| classes::class_in(&table, size))
 }

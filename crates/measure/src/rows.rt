@@ -8,23 +8,13 @@ pub fn class_of_size(size: u32) -> u32
     requires { (0 < size) × (size < large_size) }
     ensures { result ≡ class_of size }
 {
-    if size < 128 {
-        return (size + 7) / 8 - 1;
+    match size {
+        0..128 => (size + 7) / 8 - 1,
+        128..256 => (size + 15) / 16 + 7,
+        256..512 => (size + 31) / 32 + 15,
+        512..1024 => (size + 63) / 64 + 23,
+        1024..2048 => (size + 127) / 128 + 31,
+        2048..4096 => (size + 255) / 256 + 39,
+        _ => (size + 511) / 512 + 47,
     }
-    if size < 256 {
-        return (size + 15) / 16 + 7;
-    }
-    if size < 512 {
-        return (size + 31) / 32 + 15;
-    }
-    if size < 1024 {
-        return (size + 63) / 64 + 23;
-    }
-    if size < 2048 {
-        return (size + 127) / 128 + 31;
-    }
-    if size < 4096 {
-        return (size + 255) / 256 + 39;
-    }
-    (size + 511) / 512 + 47
 }

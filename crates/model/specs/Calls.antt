@@ -1,6 +1,6 @@
 -- Calls, answers and the numbers of refusals (document 01, "Calls" and "Numbers for no"). The types that the code shares,
 -- `Call` (a group and what it asks), `Answer` and `Refusal`, are declared in src/. Assumes nothing.
-use Rattle.std.specs.Prelude.{ℕ, ◌≡◌, List, [], ◌∷◌, Bool, true, false, ◌&&◌, leb}
+use Rattle.std.specs.Prelude.{ℕ, ◌≡◌, List, [], ◌∷◌, Bool, true, false, ◌&&◌, leb, Result, Ok, Err}
 use Rattle.std.proofs.Math.Option.{Option, none, some}
 use Rattle.model.specs.Numbers.{most_group, most_bytes}
 use Rattle.model.specs.declared.Call.{Call}
@@ -8,6 +8,8 @@ use Rattle.model.specs.declared.Operation.{Operation}
 use Rattle.model.specs.declared.Operation.TheVariants.{Allocate, Free, Reset}
 use Rattle.model.specs.declared.Refusal.{Refusal}
 use Rattle.model.specs.declared.Refusal.TheVariants.{BadPages, FewWords, NoState, BadGroup, BadSize, NoRoom, NoBlock, OtherGroup, BadList, OverCeiling, ShortBuffer}
+use Rattle.model.specs.declared.Grant.{Grant}
+use Rattle.model.specs.declared.Denial.{Denial}
 use Rattle.model.specs.declared.Answer.{Answer}
 use Rattle.model.specs.declared.Answer.TheVariants.{Granted, Denied, Refused, Done, Counted, Block}
 
@@ -63,6 +65,19 @@ is_refused (Refused k) = true
 is_refused Done = false
 is_refused (Counted n) = false
 is_refused (Block g r) = false
+
+-- What a call answers for what its parts bring: a request's grant or denial; a count, or a refusal; nothing, or a refusal.
+abbrev pub request_answer : Result Grant Denial → Answer
+request_answer (Ok g) = Granted g.offset g.looked
+request_answer (Err d) = Denied d.refusal d.looked
+
+abbrev pub count_answer : Result ℕ Refusal → Answer
+count_answer (Ok n) = Counted n
+count_answer (Err k) = Refused k
+
+abbrev pub plain_answer : Result Unit Refusal → Answer
+plain_answer (Ok u) = Done
+plain_answer (Err k) = Refused k
 
 -- The offset that an answer grants.
 abbrev pub grant_of : Answer → Option ℕ

@@ -10,16 +10,15 @@ use Rattle.lemmas.proofs.Cases.{bool}
 use Rattle.model.specs.Numbers.{page_bytes}
 use Rattle.model.specs.Arena.{Segment, pages, bytes, Place, locate}
 use Rattle.model.specs.Zone.{Zone}
-use Rattle.pages.specs.Encoding.{kind_of}
+use Rattle.std.specs.Prelude as rust
 use Rattle.pages.specs.declared.Spot.{Spot}
-use Rattle.pages.specs.declared.Spot.TheVariants.{Segment as At, Nowhere}
-use Rattle.pages.specs.Places.{run_pages, spot_from}
+use Rattle.pages.specs.Places.{kind_in, run_pages, spot_from}
 
 -- What the search finds is told by the place of the byte t of the arena: the kind and the pages of the segment that holds it, and the page
 -- at which that begins, so many bytes before t; or nothing.
-abbrev pub Tells : ℕ → Option (Place Zone) → Spot → Type 0
-Tells t none s = s ≡ Nowhere
-Tells t (some a) s = (p b : ℕ) × (s ≡ At p (kind_of a.segment) (pages a.segment) b) × (p * page_bytes + a.away ≡ t)
+abbrev pub Tells : ℕ → Option (Place Zone) → rust.Option Spot → Type 0
+Tells t none s = s ≡ rust.None
+Tells t (some a) s = (p b : ℕ) × (s ≡ rust.Some (record { start = record { at = p; before = b }; kind = kind_in a.segment; len = pages a.segment })) × (p * page_bytes + a.away ≡ t)
 
 past_bytes : (p k o : ℕ) → k * page_bytes ≤ o → (p + k + (o - k * page_bytes) / page_bytes ≡ p + o / page_bytes) × ((p + k) * page_bytes + (o - k * page_bytes) ≡ p * page_bytes + o)
 past_bytes p k o h = (omega arith)

@@ -1,13 +1,14 @@
 -- The walk of the check over the segments' words. Assumes nothing.
 use Prim.Native.Nat.{ℕ, zero, suc, ◌+◌, ◌-◌, ◌*◌, ◌≤◌, ◌<◌}
-use mathlib.Core.Path.{◌≡◌, refl, sym, ap, ◌∙◌}
+use mathlib.Core.Path.{◌≡◌, sym, ap, ◌∙◌}
 use mathlib.Core.List.{List}
 use mathlib.Core.Bool.{Bool, true, false, ◌&&◌, not}
 use native.Mathlib.Omega.{arith}
+use Rattle.std.proofs.Common.{◌⊎◌, inl, inr}
 use lib.Dec.{leb, eqb}
 use lib.ListN.{length, get_or, take, drop, length-drop}
 use lib.Seq.{take_all, drop-drop, get_or-drop}
-use borrow.Author.Tests.{le-leb, lt-leb, eq-eqb, ne_eqb, eqb-true}
+use borrow.Author.Tests.{le-leb, lt-leb, eq-eqb, ne_eqb}
 use Rattle.model.specs.Numbers.{most_pages, page_words}
 use Rattle.pages.specs.Legal.{size_at, legal_from, legal_segments}
 use Rattle.pages.specs.Encoding.{kind_run}
@@ -64,7 +65,7 @@ module _ {w : List ℕ} {n p : ℕ} {b : Bool} (i : Checking w n p b) (h : p < n
       touching : (z : Bool) → (leb 1 len && not (true && eqb (get_or w (page_words * p) 0) 1) && z) ≡ false
       touching z = rw (eq-eqb _ 1 k, le-leb 1 len (omega arith))
 
-  pub check-more : (len ≡ 0 → ⊥) → (b ≡ true → get_or w (page_words * p) 0 ≡ kind_run → ⊥) → (r : Bool) → r ≡ eqb (get_or w (page_words * p) 0) 1 → Checking w n (p + len) r
+  pub check-more : (len ≡ 0 → ⊥) → (b ≡ true × (get_or w (page_words * p) 0 ≡ kind_run → ⊥)) ⊎ (b ≡ false) → (r : Bool) → r ≡ eqb (get_or w (page_words * p) 0) 1 → Checking w n (p + len) r
   check-more e t r q =
       let k = size-within e in
       record {
@@ -85,13 +86,12 @@ module _ {w : List ℕ} {n p : ℕ} {b : Bool} (i : Checking w n p b) (h : p < n
       rest : Bool
       rest = legal_from it.0 (n - p - len) (eqb (get_or w (page_words * p) 0) 1) (drop (page_words * len) (drop (page_words * p) w))
 
-      free : (a c : Bool) → (a ≡ true → c ≡ true → ⊥) → (a && c) ≡ false
-      free true true f = absurd (f refl refl)
-      free true false f = refl
-      free false c f = refl
+      free : (b ≡ true × (get_or w (page_words * p) 0 ≡ kind_run → ⊥)) ⊎ (b ≡ false) → (b && eqb (get_or w (page_words * p) 0) 1) ≡ false
+      free (inl one) = rw (one.0, ne_eqb _ 1 one.1)
+      free (inr first) = rw first
 
       passes : (leb 1 len && not (b && eqb (get_or w (page_words * p) 0) 1) && rest) ≡ rest
-      passes = rw (le-leb 1 len (omega arith), free b _ (λ x y. t x (eqb-true _ 1 y)))
+      passes = rw (le-leb 1 len (omega arith), free t)
 
 -- The size as the code has it, of the words that it lends.
 pub sized : {w : List ℕ} {n p len : ℕ} {b : Bool} → Checking w n p b → len ≡ size_at (n - p) (take (length w - page_words * p) (drop (page_words * p) w)) → len ≡ size_at (n - p) (drop (page_words * p) w)

@@ -7,7 +7,6 @@ use mathlib.Core.Bool.{true, false}
 use native.Mathlib.Omega.{arith}
 use native.Mathlib.Nat.{add-zero}
 use lib.Dec.{leb}
-use borrow.Author.Tests.{le-leb, lt-leb}
 use Rattle.lemmas.proofs.Cases.{bool, clash, true-false}
 use Rattle.model.specs.Numbers.{most_pages}
 use Rattle.model.specs.Arena.{Segment, run, direct, zone, pages}
@@ -15,24 +14,23 @@ use Rattle.model.specs.Zone.{Zone}
 use Rattle.model.specs.PageMap.{idle_zone}
 use Rattle.model.specs.Pages.{FreeRun, Search, onward, followed, first_fit, claim, with_run, joined}
 use Rattle.model.proofs.Claim.{onward-none, onward-more}
-use Rattle.zone.specs.Encoding.{kind_zone}
+use Rattle.std.specs.Option.{is_some}
+use Rattle.pages.specs.declared.Kind.TheVariants as kind
 use Rattle.pages.specs.declared.Choice.{Choice}
-use Rattle.pages.specs.declared.Choice.TheVariants.{Chosen, Missed}
-use Rattle.pages.specs.Encoding.{kind_run, kind_of}
 use Rattle.pages.specs.Decoding.{segments_of, Holds}
-use Rattle.pages.specs.Places.{choice_of, choice, run_pages, is_clear}
+use Rattle.pages.specs.Places.{kind_in, found, choice_of, choice, run_pages, is_clear}
 use Rattle.pages.proofs.Walk.{passed-total, Walk, walk_start, Next, next, past, at-it, walk_end}
 
 -- By its kind.
-pub clear-run : (x : Segment Zone) → kind_of x ≡ kind_run → true ≡ is_clear x
+pub clear-run : (x : Segment Zone) → kind_in x ≡ kind.Run → true ≡ is_clear x
 clear-run (run n) e = refl
-clear-run (direct n g) e = absurd (omega arith)
-clear-run (zone z) e = absurd (omega arith)
+clear-run (direct n g) e = clash (cc)
+clear-run (zone z) e = clash (cc)
 
-pub clear-no : (x : Segment Zone) → (kind_of x ≡ kind_run → ⊥) → (kind_of x ≡ kind_zone → ⊥) → false ≡ is_clear x
-clear-no (run n) e f = absurd (e refl)
-clear-no (direct n g) e f = refl
-clear-no (zone z) e f = absurd (f refl)
+pub clear-no : (x : Segment Zone) → kind_in x ≡ kind.Direct → false ≡ is_clear x
+clear-no (run n) e = clash (cc)
+clear-no (direct n g) e = refl
+clear-no (zone z) e = clash (cc)
 
 -- What trim would leave of the segments l, which begin at page p behind a free pages, is searched for `need` pages after k runs.
 abbrev pub rests : ℕ → ℕ × ℕ → ℕ → ℕ → List (Segment Zone) → Choice
@@ -45,18 +43,6 @@ ended q need a = first_fit q need (with_run {Z = Zone} a [])
 ended-few : (q need a : ℕ) → (ended q need a).looked ≤ a
 ended-few q need zero = omega arith
 ended-few q need (suc a) = bool (leb need (suc a)) (λ t. rw t (omega arith)) (λ t. rw t (omega arith))
-
-module _ (q need k : ℕ) where
-  pub look_none : {a : ℕ} → a ≡ 0 → Missed k ≡ choice (onward k (ended q need a))
-  look_none e = ap Missed (sym (add-zero k)) ∙ ap (λ a. choice (onward k (ended q need a))) (sym e)
-
-  pub look-short : (a : ℕ) → (a ≡ 0 → ⊥) → a < need → Missed (k + 1) ≡ choice (onward k (ended q need a))
-  look-short zero f h = absurd (f refl)
-  look-short (suc a) f h = rw (ended, lt-leb need (suc a) h)
-
-  pub look-long : (a : ℕ) → (a ≡ 0 → ⊥) → need ≤ a → Chosen q a (k + 1) ≡ choice (onward k (ended q need a))
-  look-long zero f h = absurd (f refl)
-  look-long (suc a) f h = rw (ended, le-leb need (suc a) h)
 
 -- What stands behind it is searched if it is too short.
 ended-first : (q need a : ℕ) (l : List (Segment Zone)) → first_fit q need (with_run a l) ≡ followed (ended q need a).chosen (ended q need a).looked (first_fit (q + a) need l)
@@ -120,29 +106,30 @@ module _ {need : ℕ} {w : List ℕ} {n : ℕ} {e : Choice} {a k p : ℕ} (i : T
             ∙ ap (λ l. choice (onward k l)) (sym (solid-more (p - a) need a here.x here.rest c)) ∙ at-it i.walk here
 
         -- It is chosen, ..
-        pub trim-hit : {f : Choice} {at long j : ℕ} → f ≡ choice (onward k ending) → f ≡ Chosen at long j → Chosen at long j ≡ e
-        trim-hit {f} {at} {long} {j} is told = go ending.chosen refl
+        pub trim-hit : {f : Choice} → f ≡ choice (onward k ending) → is_some f.run ≡ true → f ≡ e
+        trim-hit {f} is told = go ending.chosen refl
           where
-            go : (o : Option FreeRun) → ending.chosen ≡ o → Chosen at long j ≡ e
-            go none q = let z : Chosen at long j ≡ Missed (k + ending.looked) = sym told ∙ is ∙ ap (choice_of (k + ending.looked)) q in clash (cc)
-            go (some y) q = sym told ∙ is ∙ ap (choice_of (k + ending.looked)) q ∙ ap (λ o. choice (onward k (followed o ending.looked rest))) (sym q) ∙ whole
+            go : (o : Option FreeRun) → ending.chosen ≡ o → f ≡ e
+            go none q = true-false told (ap (λ c. is_some c.run) is ∙ ap (λ r. is_some (found r)) q)
+            go (some y) q = is ∙ ap (choice_of (k + ending.looked)) q ∙ ap (λ o. choice (onward k (followed o ending.looked rest))) (sym q) ∙ whole
 
         -- .. or the search goes on.
-        pub trim-past : {f : Choice} {j : ℕ} → f ≡ choice (onward k ending) → f ≡ Missed j → Trimming need w n e 0 j (p + len)
-        trim-past {f} {j} is told = go ending.chosen refl
+        pub trim-past : {f : Choice} → f ≡ choice (onward k ending) → is_some f.run ≡ false → Trimming need w n e 0 f.looked (p + len)
+        trim-past {f} is told = go ending.chosen refl
           where
-            go : (o : Option FreeRun) → ending.chosen ≡ o → Trimming need w n e 0 j (p + len)
-            go (some y) q = let z : Missed j ≡ Chosen y.page y.size (k + ending.looked) = sym told ∙ is ∙ ap (choice_of (k + ending.looked)) q in clash (cc)
+            j-is : f.looked ≡ k + ending.looked
+            j-is = ap (λ c. c.looked) is
+
+            go : (o : Option FreeRun) → ending.chosen ≡ o → Trimming need w n e 0 f.looked (p + len)
+            go (some y) q = true-false (ap (λ c. is_some c.run) is ∙ ap (λ r. is_some (found r)) q) told
             go none q =
-                let seen : Missed j ≡ Missed (k + ending.looked) = sym told ∙ is ∙ ap (choice_of (k + ending.looked)) q in
-                let j-is : j ≡ k + ending.looked = cc in
                 rw size (record {
                   behind = run_pages here.x;
-                  walk = past i.walk here (0, j) (at-it i.walk here ∙ sym whole
+                  walk = past i.walk here (0, f.looked) (at-it i.walk here ∙ sym whole
                       ∙ ap (λ o. choice (onward k (followed o ending.looked rest))) q
                       ∙ ap choice (onward-more rest k ending.looked)
                       ∙ ap (λ m. choice (onward m rest)) (sym j-is)
-                      ∙ ap (λ m. choice (onward j (first_fit m need (joined idle_zone 0 here.rest)))) (let m : p + pages here.x ≡ p + pages here.x - 0 = omega arith in m));
+                      ∙ ap (λ m. choice (onward f.looked (first_fit m need (joined idle_zone 0 here.rest)))) (let m : p + pages here.x ≡ p + pages here.x - 0 = omega arith in m));
                   inside = omega (arith, ended-few (p - a) need a, i.inside, j-is);
                 })
 

@@ -5,46 +5,43 @@ use mathlib.Core.Bool.{true}
 use mathlib.Core.List.{List}
 use native.Mathlib.Omega.{arith}
 use lib.ListN.{take, drop}
+use Rattle.lemmas.proofs.Cases.{clash}
 use lib.Seq.{take_at}
 use Rattle.model.specs.Numbers.{zone_pages, page_words}
 use Rattle.model.specs.Arena.{Segment, run, direct, zone, pages}
 use Rattle.model.specs.Zone.{Zone}
-use Rattle.zone.specs.Encoding.{kind_zone, zone_words, zone_encoding}
+use Rattle.zone.specs.Encoding.{zone_words, zone_encoding}
 use Rattle.zone.specs.Decoding.{is_zone, zone_of}
 use Rattle.zone.proofs.Encoded.{zone-decoded, encoding-zone}
 use Rattle.zone.proofs.Words.{length-encoding}
-use Rattle.pages.specs.Encoding.{kind_run, kind_of, segment_encoding}
-use Rattle.pages.specs.Places.{Stands, run_pages}
+use Rattle.pages.specs.declared.Kind.TheVariants as kind
+use Rattle.pages.specs.Encoding.{segment_encoding}
+use Rattle.pages.specs.Places.{kind_in, Stands, run_pages}
 use Rattle.pages.proofs.Walk.{Read}
 
-pub run-by-kind : (x : Segment Zone) → kind_of x ≡ kind_run → x ≡ run (pages x)
+pub run-by-kind : (x : Segment Zone) → kind_in x ≡ kind.Run → x ≡ run (pages x)
 run-by-kind (run n) e = refl
-run-by-kind (direct n g) e = absurd (omega arith)
-run-by-kind (zone z) e = absurd (omega arith)
+run-by-kind (direct n g) e = clash (cc)
+run-by-kind (zone z) e = clash (cc)
 
--- A run's pages are those of the run, and another segment has none.
-pub run-size : (x : Segment Zone) → kind_of x ≡ kind_run → pages x ≡ run_pages x
+-- A run's pages are those of the run.
+pub run-size : (x : Segment Zone) → kind_in x ≡ kind.Run → pages x ≡ run_pages x
 run-size x e = sym (cc (run-by-kind x e))
 
-pub no-run-size : (x : Segment Zone) → (kind_of x ≡ kind_run → ⊥) → 0 ≡ run_pages x
-no-run-size (run n) f = absurd (f refl)
-no-run-size (direct n g) f = refl
-no-run-size (zone z) f = refl
-
-pub direct-by-kind : (x : Segment Zone) → (kind_of x ≡ kind_zone → ⊥) → (kind_of x ≡ kind_run → ⊥) → ((g : ℕ) × (x ≡ direct (pages x) g))
+pub direct-by-kind : (x : Segment Zone) → (kind_in x ≡ kind.Zone → ⊥) → (kind_in x ≡ kind.Run → ⊥) → ((g : ℕ) × (x ≡ direct (pages x) g))
 direct-by-kind (run n) a b = absurd (b refl)
 direct-by-kind (direct n g) a b = (g, refl)
 direct-by-kind (zone z) a b = absurd (a refl)
 
-pub zone-by-kind : (x : Segment Zone) → kind_of x ≡ kind_zone → ((z : Zone) × (x ≡ zone z))
-zone-by-kind (run n) e = absurd (omega arith)
-zone-by-kind (direct n g) e = absurd (omega arith)
+pub zone-by-kind : (x : Segment Zone) → kind_in x ≡ kind.Zone → ((z : Zone) × (x ≡ zone z))
+zone-by-kind (run n) e = clash (cc)
+zone-by-kind (direct n g) e = clash (cc)
 zone-by-kind (zone z) e = (z, refl)
 
-pub stands-zone : {m : List (Segment Zone)} {p b : ℕ} {x : Segment Zone} → Stands m p b x → kind_of x ≡ kind_zone → ((z : Zone) × (x ≡ zone z) × Stands m p b (zone z))
+pub stands-zone : {m : List (Segment Zone)} {p b : ℕ} {x : Segment Zone} → Stands m p b x → kind_in x ≡ kind.Zone → ((z : Zone) × (x ≡ zone z) × Stands m p b (zone z))
 stands-zone {m} {p} {b} {x} s e = let i = zone-by-kind x e in (i.0, i.1, subst (λ y. Stands m p b y) i.1 s)
 
-pub stands-direct : {m : List (Segment Zone)} {p b : ℕ} {x : Segment Zone} → Stands m p b x → (kind_of x ≡ kind_zone → ⊥) → (kind_of x ≡ kind_run → ⊥)
+pub stands-direct : {m : List (Segment Zone)} {p b : ℕ} {x : Segment Zone} → Stands m p b x → (kind_in x ≡ kind.Zone → ⊥) → (kind_in x ≡ kind.Run → ⊥)
     → ((g : ℕ) × (x ≡ direct (pages x) g) × Stands m p b (direct (pages x) g))
 stands-direct {m} {p} {b} {x} s f g = let i = direct-by-kind x f g in (i.0, i.1, subst (λ y. Stands m p b y) i.1 s)
 

@@ -3,9 +3,11 @@ use Prim.Native.Nat.{ℕ, ◌+◌, ◌-◌, ◌*◌, ◌≤◌, ◌<◌}
 use mathlib.Core.Path.{◌≡◌, refl, ap}
 use mathlib.Core.List.{List, [], ◌∷◌, ◌++◌, append_assoc, append-nil}
 use mathlib.Core.Bool.{Bool, true, false}
+use Rattle.std.proofs.Common.{◌⊎◌, inl, inr}
 use native.Mathlib.Omega.{arith}
 use lib.ListN.{length, get_or, drop, length-append}
 use lib.Seq.{drop_at}
+use Rattle.lemmas.proofs.Cases.{clash}
 use Rattle.lemmas.proofs.Zeros.{length-zeros}
 use Rattle.model.specs.Numbers.{page_words, zone_pages}
 use Rattle.model.specs.Arena.{Segment, run, direct, zone, pages, total, Each}
@@ -14,6 +16,9 @@ use Rattle.model.specs.Valid.{ValidSegment}
 use Rattle.model.proofs.Arena.{total-append}
 use Rattle.zone.specs.Encoding.{zone_encoding, kind_zone}
 use Rattle.zone.proofs.Words.{length-encoding}
+use Rattle.pages.specs.declared.Kind.{Kind}
+use Rattle.pages.specs.declared.Kind.TheVariants as kind
+use Rattle.pages.specs.Places.{kind_in, kind_by, kind_number}
 use Rattle.pages.specs.Encoding.{kind_of, segment_encoding, segments_encoding, Writable}
 
 pub length-segment : (x : Segment Zone) → 0 < pages x → length (segment_encoding x) ≡ page_words * pages x
@@ -35,6 +40,28 @@ encoding-append (x ∷ a) b = cc (encoding-append a b, append_assoc (segment_enc
 pub encoding-one : (x : Segment Zone) → segments_encoding (x ∷ []) ≡ segment_encoding x
 unfolding segments_encoding
 encoding-one x = append-nil _
+
+-- The kind, and the number that stands for it.
+pub kind-told : (x : Segment Zone) → kind_by (kind_of x) ≡ kind_in x
+kind-told (run n) = refl
+kind-told (direct n g) = refl
+kind-told (zone z) = refl
+
+pub kind-number : (x : Segment Zone) → kind_number (kind_in x) ≡ kind_of x
+kind-number (run n) = refl
+kind-number (direct n g) = refl
+kind-number (zone z) = refl
+
+-- A segment of one of two kinds is none of the third.
+pub no_run : (x : Segment Zone) {k : Kind} → k ≡ kind_in x → (k ≡ kind.Direct) ⊎ (k ≡ kind.Zone) → kind_in x ≡ kind.Run → ⊥
+no_run x e (inl d) f = clash (cc)
+no_run x e (inr z) f = clash (cc)
+
+pub no_zone : (x : Segment Zone) {k : Kind} → k ≡ kind_in x → (k ≡ kind.Run) ⊎ (k ≡ kind.Direct) → kind_of x ≡ kind_zone → ⊥
+no_zone (run n) e f q = omega arith
+no_zone (direct n g) e f q = omega arith
+no_zone (zone z) e (inl r) q = clash (cc)
+no_zone (zone z) e (inr d) q = clash (cc)
 
 -- The first words.
 pub kind-is : (x : Segment Zone) (w : List ℕ) → get_or (segment_encoding x ++ w) 0 0 ≡ kind_of x
@@ -58,9 +85,9 @@ pub group-is : (n g : ℕ) (w : List ℕ) → get_or (segment_encoding (direct n
 unfolding segment_encoding
 group-is n g w = refl
 
-pub zone-size : (x : Segment Zone) → kind_of x ≡ kind_zone → pages x ≡ zone_pages
-zone-size (run n) h = absurd (omega arith)
-zone-size (direct n g) h = absurd (omega arith)
+pub zone-size : (x : Segment Zone) → kind_in x ≡ kind.Zone → pages x ≡ zone_pages
+zone-size (run n) h = clash (cc)
+zone-size (direct n g) h = clash (cc)
 zone-size (zone z) h = refl
 
 pub pages-most : (x : Segment Zone) (a b : List (Segment Zone)) (m : List (Segment Zone)) → m ≡ a ++ (x ∷ b) → total a + pages x ≤ total m

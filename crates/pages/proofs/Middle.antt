@@ -16,7 +16,7 @@ use Rattle.pages.specs.Encoding.{segment_encoding, segments_encoding, Writable}
 use Rattle.pages.specs.Decoding.{Encodes}
 use Rattle.pages.specs.Places.{Stands}
 use Rattle.pages.proofs.Laws.{length-segments, encoding-append, encoding-one, each_left, each_right}
-use Rattle.pages.proofs.Walk.{encodes-length}
+use Rattle.pages.proofs.Walk.{encodes-length, read_at}
 
 module _ {w : List ℕ} {m : List (Segment Zone)} {n : ℕ} (h : Encodes w m n) (a y c : List (Segment Zone)) (is : m ≡ a ++ (y ++ c)) (at k : ℕ) (starts : total a ≡ at) (size : total y ≡ k) where
   sound : Each Writable (a ++ (y ++ c))
@@ -55,7 +55,7 @@ pub edit-stands : {m : List (Segment Zone)} {p b : ℕ} {x : Segment Zone} (s : 
 edit-stands {m} {p} {b} {x} s f pos = cc (edit-behind s.before x s.behind f (p * page_bytes) (omega (arith, s.starts)) pos)
 
 -- A run gives way to a segment in its low pages and the rest.
-module _ {w : List ℕ} {m : List (Segment Zone)} {n p b len : ℕ} (h : Encodes w m n) (s : Stands m p b (run len)) (pos : 0 < len) where
+module _ {w : List ℕ} {m : List (Segment Zone)} {n p b len : ℕ} (h : Encodes w m n) (s : Stands m p b (run len)) where
   one : total {Z = Zone} (run len ∷ []) ≡ len
   one = omega arith
 
@@ -66,4 +66,4 @@ module _ {w : List ℕ} {m : List (Segment Zone)} {n p b len : ℕ} (h : Encodes
   run-part = part-words h s.before _ s.behind s.whole p len s.starts one ∙ encoding-one (run len)
 
   pub run-put : (need : ℕ) (x : Segment Zone) (v : List ℕ) → v ≡ segments_encoding (x ∷ with_run (len - need) []) → put_mid (page_words * p) (page_words * p + page_words * len - page_words * p) w v ≡ segments_encoding (carve (record { page = p; size = len }) need x m)
-  run-put need x v e = part-put h s.before (run len ∷ []) s.behind s.whole p len s.starts one _ v e ∙ ap segments_encoding (sym (edit-stands s (λ _. x ∷ with_run (len - need) []) pos))
+  run-put need x v e = part-put h s.before (run len ∷ []) s.behind s.whole p len s.starts one _ v e ∙ ap segments_encoding (sym (edit-stands s (λ _. x ∷ with_run (len - need) []) (read_at h s).ok.0))

@@ -13,17 +13,16 @@ use Rattle.model.specs.Numbers.{page_words, page_bytes}
 use Rattle.model.specs.Arena.{Segment, direct, pages, bytes, total, locate}
 use Rattle.model.specs.Zone.{Zone}
 use Rattle.model.proofs.Arena.{locate-right}
+use Rattle.std.specs.Prelude.{Option, Some, None}
 use Rattle.pages.specs.declared.Spot.{Spot}
-use Rattle.pages.specs.declared.Spot.TheVariants.{Segment as At, Nowhere}
-use Rattle.pages.specs.Encoding.{kind_of}
-use Rattle.pages.specs.Places.{Stands, spot_from, Passed, run_pages}
+use Rattle.pages.specs.Places.{kind_in, Stands, spot_from, Passed, run_pages}
 use Rattle.pages.proofs.Laws.{group-is}
 use Rattle.pages.proofs.Walk.{Read, passed_none, passed-more, passed-stands, passed-total}
 
 -- The segment that holds the page q stands there, or q is no page of the arena.
-abbrev pub Spotted : List (Segment Zone) → ℕ → Spot → Type 0
-Spotted m q (At a k len b) = (x : Segment Zone) × Stands m a b x × (kind_of x ≡ k) × (pages x ≡ len) × (a ≤ q) × (q < a + len)
-Spotted m q Nowhere = total m ≤ q
+abbrev pub Spotted : List (Segment Zone) → ℕ → Option Spot → Type 0
+Spotted m q (Some s) = (x : Segment Zone) × Stands m s.start.at s.start.before x × (kind_in x ≡ s.kind) × (pages x ≡ s.len) × (s.start.at ≤ q) × (q < s.start.at + s.len)
+Spotted m q None = total m ≤ q
 
 spotted-from : {m : List (Segment Zone)} (q b p : ℕ) (l : List (Segment Zone)) → p ≤ q → Passed m p b l → Spotted m q (spot_from q b p l)
 unfolding spot_from

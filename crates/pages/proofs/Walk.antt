@@ -13,7 +13,7 @@ use Rattle.model.specs.Zone.{Zone}
 use Rattle.model.proofs.Arena.{total-append}
 use Rattle.pages.specs.Encoding.{kind_of, segment_encoding, segments_encoding, Writable}
 use Rattle.pages.specs.Decoding.{segments_of, Encodes, Holds}
-use Rattle.pages.specs.Places.{run_pages, run_at_end, Stands, Passed}
+use Rattle.pages.specs.Places.{run_pages, run_at_end, run_at_start, Stands, Passed}
 use Rattle.pages.proofs.Laws.{length-segments, encoding-append, kind-is, size_is, drop-segment, each_left, each_right}
 use Rattle.zone.specs.Encoding.{kind_zone}
 
@@ -142,17 +142,22 @@ module _ {A R : Type 0} {f : A → ℕ → ℕ → List (Segment Zone) → R} {w
       go [] q = cc
       go (x ∷ r) q = absurd (omega (arith, passed-total i.passed, ap (λ l. total l) q, i.encodes.covers, (read_at i.encodes (passed-stands x r (rw q at i.passed))).ok.0))
 
--- What stands behind a segment: nothing at the arena's end, else another segment.
-pub data Behind (w : List ℕ) (n p : ℕ) (x : Segment Zone) (l : List (Segment Zone)) : Type 0 where
-  last : l ≡ [] → p + pages x ≡ n → Behind w n p x l
-  more : (y : Segment Zone) (r : List (Segment Zone)) → l ≡ y ∷ r → Read w n (p + pages x) y → Behind w n p x l
+-- What stands behind a segment: nothing at the arena's end, ..
+module _ {w : List ℕ} {m : List (Segment Zone)} {n p b : ℕ} {x : Segment Zone} (h : Encodes w m n) (s : Stands m p b x) where
+  here : Passed m p b (x ∷ s.behind)
+  here = record { pre = s.before; whole = s.whole; starts = s.starts; ends = s.ends }
 
-pub behind-it : {w : List ℕ} {m : List (Segment Zone)} {n p b : ℕ} {x : Segment Zone} → Encodes w m n → (s : Stands m p b x) → Behind w n p x s.behind
-behind-it {w} {m} {n} {p} {b} {x} h s = go s.behind refl
-  where
-    here : Passed m p b (x ∷ s.behind)
-    here = record { pre = s.before; whole = s.whole; starts = s.starts; ends = s.ends }
+  pub none-behind : n ≤ p + pages x → 0 ≡ run_at_start s.behind
+  none-behind e = go s.behind refl
+    where
+      go : (l : List (Segment Zone)) → s.behind ≡ l → 0 ≡ run_at_start s.behind
+      go [] q = ap run_at_start (sym q)
+      go (y ∷ r) q = let t = read_at h (passed-stands y r (rw q at (passed-more x s.behind here))) in absurd (omega (arith, t.inside, t.ok.0))
 
-    go : (l : List (Segment Zone)) → s.behind ≡ l → Behind w n p x s.behind
-    go [] e = last e (omega (arith, passed-total here, ap (λ l. total l) e))
-    go (y ∷ r) e = more y r e (read_at h (passed-stands y r (rw e at (passed-more x s.behind here))))
+  -- .. else another segment.
+  pub stands-behind : {len : ℕ} → pages x ≡ len → p + len < n → (y : Segment Zone) × Stands m (p + len) (run_pages x) y × (run_pages y ≡ run_at_start s.behind)
+  stands-behind {len} size e = go s.behind refl
+    where
+      go : (l : List (Segment Zone)) → s.behind ≡ l → (y : Segment Zone) × Stands m (p + len) (run_pages x) y × (run_pages y ≡ run_at_start s.behind)
+      go [] q = absurd (omega (arith, passed-total here, ap (λ l. total l) q, h.covers, size))
+      go (y ∷ r) q = (y, passed-stands y r (rw (q, size) at (passed-more x s.behind here)), ap run_at_start (sym q))

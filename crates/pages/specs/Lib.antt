@@ -1,4 +1,5 @@
 pub mod Encoding
 pub mod Decoding
 pub mod Places
+pub mod Props
 pub mod Legal

@@ -1,29 +1,49 @@
 -- Places among the segments, as the code names them: by page, and with the free run that ends there. Assumes nothing.
-use Rattle.std.specs.Prelude.{ℕ, ◌+◌, ◌*◌, ◌<◌, ◌≤◌, ◌≡◌, List, [], ◌∷◌, ◌++◌, Bool, true, false, cond, ltb, length}
-use Rattle.std.proofs.Math.Option.{Option, none, some}
+use Rattle.std.specs.Prelude.{ℕ, ◌+◌, ◌*◌, ◌<◌, ◌≤◌, ◌≡◌, List, [], ◌∷◌, ◌++◌, Bool, true, false, cond, ltb, eqb, length, Option, Some, None}
+use Rattle.std.proofs.Math.Option as maybe
 use Rattle.lemmas.specs.Zeros.{Zero}
 use Rattle.model.specs.Numbers.{most_pages, page_words}
 use Rattle.model.specs.Arena.{Segment, run, direct, zone, pages, total}
 use Rattle.model.specs.Zone.{Zone}
 use Rattle.model.specs.PageMap.{idle_zone}
 use Rattle.model.specs.Pages.{FreeRun, Search, first_fit}
-use Rattle.pages.specs.declared.Found.{Found}
-use Rattle.pages.specs.declared.Found.TheVariants.{Run, Nothing}
+use Rattle.zone.specs.Encoding.{kind_zone}
+use Rattle.pages.specs.Encoding.{kind_run, kind_direct}
+use Rattle.pages.specs.declared.Kind.{Kind}
+use Rattle.pages.specs.declared.Kind.TheVariants as kind
+use Rattle.pages.specs.declared.Run.{Run}
 use Rattle.pages.specs.declared.Choice.{Choice}
-use Rattle.pages.specs.declared.Choice.TheVariants.{Chosen, Missed}
 use Rattle.pages.specs.declared.Spot.{Spot}
-use Rattle.pages.specs.declared.Spot.TheVariants.{Segment as At, Nowhere}
-use Rattle.pages.specs.Encoding.{kind_of}
+
+-- The kind of a segment, as the code has it; and by the first of its words.
+abbrev pub kind_in : Segment Zone → Kind
+kind_in (run n) = kind.Run
+kind_in (direct n g) = kind.Direct
+kind_in (zone z) = kind.Zone
+
+abbrev pub kind_by : ℕ → Kind
+kind_by w = cond (eqb w kind_run) kind.Run (cond (eqb w kind_direct) kind.Direct kind.Zone)
+
+-- The number that stands for a kind.
+abbrev pub kind_number : Kind → ℕ
+kind_number kind.Run = kind_run
+kind_number kind.Direct = kind_direct
+kind_number kind.Zone = kind_zone
+
+-- The pages that are a run's, of so many of a segment of a kind.
+abbrev pub run_len : Kind → ℕ → ℕ
+run_len kind.Run n = n
+run_len kind.Direct n = 0
+run_len kind.Zone n = 0
 
 -- A free run, or none, as the code has it.
-abbrev pub found : Option FreeRun → Found
-found none = Nothing
-found (some h) = Run h.page h.size
+abbrev pub found : maybe.Option FreeRun → Option Run
+found maybe.none = None
+found (maybe.some h) = Some (record { at = h.page; len = h.size })
 
 -- What a search for pages came to.
-abbrev pub choice_of : ℕ → Option FreeRun → Choice
-choice_of k none = Missed k
-choice_of k (some h) = Chosen h.page h.size k
+abbrev pub choice_of : ℕ → maybe.Option FreeRun → Choice
+choice_of k r = record { run = found r; looked = k }
 
 abbrev pub choice : Search FreeRun → Choice
 choice l = choice_of l.looked l.chosen
@@ -66,16 +86,16 @@ pub record Passed (m : List (Segment Zone)) (p b : ℕ) (l : List (Segment Zone)
   pub ends : run_at_end 0 pre ≡ b
 
 -- The first run of segments that begin at the page p: the first that has no pages or more.
-abbrev pub first_run : ℕ → List (Segment Zone) → Option FreeRun
+abbrev pub first_run : ℕ → List (Segment Zone) → maybe.Option FreeRun
 first_run p l = (first_fit p 0 l).chosen
 
 -- The segment that holds the page q: its first page, its kind, its pages, and the pages of the run that ends where it begins. The
 -- list begins at page p, behind a run of b pages.
-unfoldable pub spot_from : ℕ → ℕ → ℕ → List (Segment Zone) → Spot
-spot_from q b p [] = Nowhere
+unfoldable pub spot_from : ℕ → ℕ → ℕ → List (Segment Zone) → Option Spot
+spot_from q b p [] = None
 spot_from q b p (x ∷ r) =
     let rest = spot_from q (run_pages x) (p + pages x) r in
-    cond (ltb q (p + pages x)) (At p (kind_of x) (pages x) b) rest
+    cond (ltb q (p + pages x)) (Some (record { start = record { at = p; before = b }; kind = kind_in x; len = pages x })) rest
 
 -- Words of n pages that are zero from word k on.
 pub record Blank (w : List ℕ) (k n : ℕ) : Type 0 where

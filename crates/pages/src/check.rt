@@ -30,7 +30,8 @@ fn zone_size(words: &[u32], left: usize) -> usize
     pages_if(zone::check(&words[..e]), ZONE_PAGES)
 }
 
-// The pages of the valid segment, of at most `left` pages, with which the words begin, or 0.
+// The pages of the valid segment, of at most `left` pages, with which the words begin, or 0. (A count: no segment has no pages, and
+// `size_at` counts so too.)
 fn segment_size(words: &[u32], left: usize) -> usize
     requires { (length words.now ≡ page_words * left) × (0 < left) × (left ≤ most_pages) }
     ensures { result ≡ size_at left words.now }
@@ -39,11 +40,8 @@ fn segment_size(words: &[u32], left: usize) -> usize
     if kind == KIND_ZONE {
         return zone_size(words, left);
     }
-    let len = model::wide(words[1]);
-    if len == 0 {
-        return 0;
-    }
-    if left < len {
+    let len = words[1] as usize;
+    if len == 0 || left < len {
         return 0;
     }
     let e = PAGE_WORDS * len;
@@ -64,8 +62,9 @@ pub fn check(words: &[u32], n: usize) -> bool
     requires { (length words.now ≡ page_words * n) × (n ≤ most_pages) }
     ensures { result ≡ legal_segments n words.now }
 {
-    let mut p: usize = 0;
-    let mut after: bool = false;
+    let mut p = 0;
+    let mut after = false;
+    // (No index is counted: each turn goes a segment on.)
     while p < n {
         let at = PAGE_WORDS * p;
         let len = segment_size(&words[at..], n - p);
@@ -73,10 +72,8 @@ pub fn check(words: &[u32], n: usize) -> bool
             return false;
         }
         let run = words[at] == KIND_RUN;
-        if after {
-            if run {
-                return false;
-            }
+        if after && run {
+            return false;
         }
         after = run;
         p += len;

@@ -9,6 +9,7 @@ ghost use Rattle.lemmas.specs.Zeros.{zeros};
 ghost use Rattle.pages.specs.Places.{Stands, Blank};
 ghost use Rattle.model.specs.Numbers.{zone_pages, most_pages, page_words};
 
+use crate::Run;
 use model::numbers::{PAGE_WORDS, ZONE_PAGES};
 use zone::layout::{KIND_DIRECT, KIND_RUN};
 
@@ -71,24 +72,25 @@ fn cut_zone(part: &mut [u32], len: usize, class: u32, group: u32)
     put_rest(&mut part[m..], len - ZONE_PAGES);
 }
 
-// The run at page `at` gives its low `need` pages to a direct block of the group.
-pub fn take_direct(words: &mut [u32], n: usize, at: usize, len: usize, need: usize, group: u32)
+// The free run gives its low `need` pages to a direct block of the group.
+pub fn take_direct(words: &mut [u32], n: usize, free: Run, need: usize, group: u32)
     requires holds { Holds words.old n }
-    requires placed { (b : ℕ) × Stands (segments_of words.old) at b (run len) × (0 < need) × (need ≤ len) }
-    ensures { words.new ≡ segments_encoding (carve (record { page = at; size = len }) need (direct need group) (segments_of words.old)) }
+    requires placed { (b : ℕ) × Stands (segments_of words.old) free.at b (run free.len) × (0 < need) × (need ≤ free.len) }
+    ensures { words.new ≡ segments_encoding (carve (record { page = free.at; size = free.len }) need (direct need group) (segments_of words.old)) }
 {
-    let a = PAGE_WORDS * at;
-    let e = a + PAGE_WORDS * len;
-    cut_direct(&mut words[a..e], len, need, group);
+    let a = PAGE_WORDS * free.at;
+    let e = a + PAGE_WORDS * free.len;
+    cut_direct(&mut words[a..e], free.len, need, group);
 }
 
-// The run at page `at` gives its low 8 pages to a zone, set up for the class with its chunk 0 granted to the group.
-pub fn take_zone(words: &mut [u32], n: usize, at: usize, len: usize, class: u32, group: u32)
+// (A closure in place of this twin of `take_direct` would need a contract longer than the three lines that they share.)
+// The free run gives its low 8 pages to a zone, set up for the class with its chunk 0 granted to the group.
+pub fn take_zone(words: &mut [u32], n: usize, free: Run, class: u32, group: u32)
     requires holds { Holds words.old n }
-    requires placed { (b : ℕ) × Stands (segments_of words.old) at b (run len) × (zone_pages ≤ len) × (0 < group) }
-    ensures { words.new ≡ segments_encoding (carve (record { page = at; size = len }) zone_pages (zone (new_zone class group)) (segments_of words.old)) }
+    requires placed { (b : ℕ) × Stands (segments_of words.old) free.at b (run free.len) × (zone_pages ≤ free.len) × (0 < group) }
+    ensures { words.new ≡ segments_encoding (carve (record { page = free.at; size = free.len }) zone_pages (zone (new_zone class group)) (segments_of words.old)) }
 {
-    let a = PAGE_WORDS * at;
-    let e = a + PAGE_WORDS * len;
-    cut_zone(&mut words[a..e], len, class, group);
+    let a = PAGE_WORDS * free.at;
+    let e = a + PAGE_WORDS * free.len;
+    cut_zone(&mut words[a..e], free.len, class, group);
 }

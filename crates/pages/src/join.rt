@@ -10,6 +10,8 @@ ghost use Rattle.lemmas.specs.Zeros.{zeros};
 ghost use Rattle.pages.specs.Places.{run_pages, Stands};
 ghost use Rattle.model.specs.Numbers.{page_bytes, most_pages};
 
+use crate::Start;
+use crate::find::Pages;
 use model::numbers::PAGE_WORDS;
 use zone::layout::KIND_ZONE;
 
@@ -32,7 +34,7 @@ fn erase_rest(part: &mut [u32])
     requires { (k : ℕ) × (part.old ≡ segments_encoding (with_run k [])) }
     ensures { part.new ≡ zeros (length part.old) }
 {
-    if part.len() == 0 {
+    if part.is_empty() {
         return;
     }
     part[0] = 0;
@@ -51,16 +53,20 @@ fn fuse(part: &mut [u32], before: usize, len: usize, after: usize)
     crate::cut::put_run(part, before + len + after);
 }
 
-// The pages of the segment at page `at`, which is no run, come back, and are joined with the run of `before` pages (0: none) that
-// ends where they begin and with the run that begins where they end.
-pub fn give_back(words: &mut [u32], n: usize, at: usize, len: usize, before: usize)
+// The pages of the segment that begins at `start`, of `len` pages, which is no run, come back, and are joined with the run that ends
+// where it begins and with the run that begins where it ends.
+pub fn give_back(words: &mut [u32], n: usize, start: Start, len: usize)
     requires holds { Holds words.old n }
     requires apart { Apart false (segments_of words.old) }
-    requires stands { (x : Segment Zone) × Stands (segments_of words.old) at before x × (pages x ≡ len) × (run_pages x ≡ 0) }
-    ensures { words.new ≡ segments_encoding (release (at * page_bytes) (segments_of words.old)) }
+    requires stands { (x : Segment Zone) × Stands (segments_of words.old) start.at start.before x × (pages x ≡ len) × (run_pages x ≡ 0) }
+    ensures { words.new ≡ segments_encoding (release (start.at * page_bytes) (segments_of words.old)) }
 {
-    let after = crate::find::run_behind(words, n, at, len);
-    let a = PAGE_WORDS * (at - before);
-    let e = a + PAGE_WORDS * (before + len + after);
-    fuse(&mut words[a..e], before, len, after);
+    let pages = Pages {
+        words: &words[..],
+        count: n,
+    };
+    let after = pages.run_behind(start.at, len);
+    let a = PAGE_WORDS * (start.at - start.before);
+    let e = a + PAGE_WORDS * (start.before + len + after);
+    fuse(&mut words[a..e], start.before, len, after);
 }

@@ -1,34 +1,73 @@
-// The words of the arena's pages: where segments stand, pages out and pages in. Each function is lent the words of all pages and
-// nothing else; where it reads or steps them they are those of segments (`Holds`).
+// The words of the arena's pages: where segments stand, pages out and pages in. What is read of them is read through `find::Pages`;
+// what changes them is lent the words of all pages and nothing else. There they are those of segments (`Holds`).
 #![tactic(auto)]
+
+ghost use Rattle.std.specs.Prelude.{◌≡◌};
+ghost use Rattle.pages.specs.Places.{kind_by, run_len};
 
 pub mod check;
 pub mod cut;
 pub mod find;
 pub mod join;
 
-// A free run, or none.
-#[derive(Clone, Copy)]
-pub enum Found {
-    Run { at: usize, len: usize },
-    Nothing,
+use zone::layout::{KIND_DIRECT, KIND_RUN};
+
+// What a segment is. The first of its words has a number for it.
+#[derive(Clone, Copy, PartialEq, Eq, Debug)]
+pub enum Kind {
+    Run,
+    Direct,
+    Zone,
 }
 
-// What a search for pages comes to: the free run that it chose, or none that is long enough; and how many runs it looked at.
-#[derive(Clone, Copy)]
-pub enum Choice {
-    Chosen { at: usize, len: usize, looked: u32 },
-    Missed { looked: u32 },
+// A free run: the page where it begins, and its pages.
+#[derive(Clone, Copy, PartialEq, Eq, Debug)]
+pub struct Run {
+    pub at: usize,
+    pub len: usize,
 }
 
-// Where a page lies: in the segment that begins at page `at`, of a kind and so many pages, behind a run of `before` pages (0: none).
-#[derive(Clone, Copy)]
-pub enum Spot {
-    Segment {
-        at: usize,
-        kind: u32,
-        len: usize,
-        before: usize,
-    },
-    Nowhere,
+// Where a segment begins: its first page, and the pages of the run that ends there (0: none).
+#[derive(Clone, Copy, PartialEq, Eq, Debug)]
+pub struct Start {
+    pub at: usize,
+    pub before: usize,
+}
+
+// What a search for pages comes to: the free run that it chose, if one is long enough, and how many runs it looked at.
+#[derive(Clone, Copy, PartialEq, Eq, Debug)]
+pub struct Choice {
+    pub run: Option<Run>,
+    pub looked: u32,
+}
+
+// The segment that holds a page: where it begins, its kind and its pages.
+#[derive(Clone, Copy, PartialEq, Eq, Debug)]
+pub struct Spot {
+    pub start: Start,
+    pub kind: Kind,
+    pub len: usize,
+}
+
+impl Kind {
+    // The kind of a segment by the first of its words.
+    pub fn told_by(word: u32) -> Kind
+        ensures { result ≡ kind_by word }
+    {
+        match word {
+            KIND_RUN => Kind::Run,
+            KIND_DIRECT => Kind::Direct,
+            _ => Kind::Zone,
+        }
+    }
+
+    // The pages of a segment of this kind that are a run's: all of them, or none.
+    pub fn run_len(self, len: usize) -> usize
+        ensures { result ≡ run_len self len }
+    {
+        match self {
+            Kind::Run => len,
+            Kind::Direct | Kind::Zone => 0,
+        }
+    }
 }

@@ -2,4 +2,3 @@ pub mod Offsets
 pub mod Behind
 pub mod Sweeps
 pub mod Steps
-pub mod Answers

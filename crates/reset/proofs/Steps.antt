@@ -5,19 +5,19 @@ use mathlib.Core.List.{List, ◌∷◌}
 use mathlib.Core.Bool.{Bool, true, false}
 use native.Mathlib.Omega.{arith}
 use lib.ListN.{length, get_or}
-use Rattle.lemmas.proofs.Cases.{some_inj}
+use Rattle.lemmas.proofs.Cases.{some_inj, clash}
 use Rattle.model.specs.Numbers.{zone_pages, most_pages, page_bytes}
 use Rattle.model.specs.Arena.{Segment, run, direct, zone, pages}
 use Rattle.model.specs.Zone.{Zone, touched}
 use Rattle.model.specs.State.{State, zone_at}
 use Rattle.model.specs.Free.{freed_all}
-use Rattle.pages.specs.Encoding.{kind_of, kind_run}
-use Rattle.pages.specs.Places.{Stands}
+use Rattle.pages.specs.declared.Kind.{Kind}
+use Rattle.pages.specs.declared.Kind.TheVariants as kind
+use Rattle.pages.specs.Places.{kind_in, run_len, Stands}
 use Rattle.pages.proofs.Laws.{pages-most}
 use Rattle.pages.proofs.Given.{Joined}
 use Rattle.pages.proofs.Inverse.{run-by-kind, run-size, direct-by-kind, zone-by-kind}
 use Rattle.zone.proofs.Rooms.{chunks-most}
-use Rattle.zone.specs.Encoding.{kind_zone}
 use Rattle.metadata.specs.Encoding.{encode}
 use Rattle.metadata.specs.Decoding.{decode}
 use Rattle.steps.specs.Lent.{Good, ZoneHere}
@@ -39,7 +39,7 @@ stands_one s t h k = ap (λ q. q.segment) (some_inj (sym (stands-begins s h) ∙
 -- Over the segments ---------------------------------------------------------------------------------------------------------------
 
 module _ {g c n p b k : ℕ} {t : State} {w : List ℕ} (i : Sweep g t c w n p b k) (h : Here i) where
-  pub step-zone : kind_of h.x ≡ kind_zone → InZone g t c w n p b 0 k
+  pub step-zone : kind_in h.x ≡ kind.Zone → InZone g t c w n p b 0 k
   step-zone e =
       let Z = zone-by-kind h.x e in
       let z = Z.0 in
@@ -52,20 +52,29 @@ module _ {g c n p b k : ℕ} {t : State} {w : List ℕ} (i : Sweep g t c w n p b
         counted = cc (at-zone g p h.rest z);
       }
 
-  pub step_run : (len next : ℕ) → len ≡ pages h.x → next ≡ p + len → kind_of h.x ≡ kind_run → Sweep g t c w n next len (k + 0)
-  step_run len next el en e =
-      sweep-past i h (cc (run-by-kind h.x e, at-run g p h.rest (pages h.x))) len next len (k + 0) el en (el ∙ run-size h.x e) (omega arith)
-
-  -- A segment that is no zone and no run is a direct block.
-  pub step-direct : (kind_of h.x ≡ kind_zone → ⊥) → (kind_of h.x ≡ kind_run → ⊥) → (y : ℕ) × (h.x ≡ direct (pages h.x) y)
-  step-direct f e = direct-by-kind h.x f e
+  pub step-direct : kind_in h.x ≡ kind.Direct → (y : ℕ) × (h.x ≡ direct (pages h.x) y)
+  step-direct e = direct-by-kind h.x (λ u. clash (cc)) (λ u. clash (cc))
 
   pub step-stands : (len y z : ℕ) → len ≡ pages h.x → h.x ≡ direct (pages h.x) y → y ≡ z → Stands (decode w).segments p b (direct len z)
   step-stands len y z el e f = rw (e ∙ (λ j. direct ((sym el) j) (f j))) at (here-stands i h)
 
+  pub step_run : (len next : ℕ) → len ≡ pages h.x → next ≡ p + len → kind_in h.x ≡ kind.Run → Sweep g t c w n next len (k + 0)
+  step_run len next el en e =
+      sweep-past i h (cc (run-by-kind h.x e, at-run g p h.rest (pages h.x))) len next len (k + 0) el en (el ∙ run-size h.x e) (omega arith)
+
   pub step_other : (len next y : ℕ) → len ≡ pages h.x → next ≡ p + len → h.x ≡ direct (pages h.x) y → (y ≡ g → ⊥) → Sweep g t c w n next 0 (k + 0)
   step_other len next y el en e f =
       sweep-past i h (cc (at_other g p h.rest (pages h.x) y f)) len next 0 (k + 0) el en (cc) (omega arith)
+
+  -- Either of them, by its kind.
+  pub step-past : (len next before : ℕ) (a : Kind) → a ≡ kind_in h.x → len ≡ pages h.x → next ≡ p + len → before ≡ run_len a len → (a ≡ kind.Zone → ⊥)
+      → ((y : ℕ) → h.x ≡ direct (pages h.x) y → y ≡ g → ⊥) → Sweep g t c w n next before (k + 0)
+  step-past len next before a ea el en eb f d = subst (λ b. Sweep g t c w n next b (k + 0)) (sym eb) (go a refl)
+    where
+      go : (b : Kind) → a ≡ b → Sweep g t c w n next (run_len a len) (k + 0)
+      go kind.Run e = rw e (step_run len next el en (sym ea ∙ e))
+      go kind.Direct e = let is = step-direct (sym ea ∙ e) in rw e (step_other len next is.0 el en is.1 (d is.0 is.1))
+      go kind.Zone e = absurd (f e)
 
   pub step-on : (len next : ℕ) → len ≡ pages h.x → next ≡ p + len → p < next
   step-on len next el en = omega (arith, has-pages i.good.lent (here-stands i h))

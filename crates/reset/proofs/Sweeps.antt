@@ -7,6 +7,7 @@ use native.Mathlib.Omega.{arith}
 use native.Mathlib.Nat.{mul-div_cancel, mul-mod_left}
 use lib.ListN.{length, get_or, length-set}
 use borrow.Author.Tests.{eq-eqb}
+use Rattle.std.specs.Prelude.{Some}
 use Rattle.model.specs.Numbers.{zone_pages, most_bytes, page_bytes}
 use Rattle.model.specs.Sizes.{room, chunks}
 use Rattle.model.specs.Arena.{Segment, direct, zone, pages, total}
@@ -32,7 +33,7 @@ use Rattle.steps.specs.Lent.{Good}
 use Rattle.steps.specs.Moves.{released}
 use Rattle.steps.proofs.Body.{release-total}
 use Rattle.steps.proofs.Kept.{good_of, good-decoded, put-stands, put-zone-at}
-use Rattle.blocks.specs.declared.Place.TheVariants.{Whole, Chunk}
+use Rattle.blocks.specs.declared.Block.TheVariants.{Whole, Chunk}
 use Rattle.blocks.specs.Places.{Tells}
 use Rattle.steps.proofs.Zones.{zone-begins, zone-is, zone-valid}
 use Rattle.blocks.proofs.Standing.{block_here, group-shown, found-whole}
@@ -43,10 +44,6 @@ use Rattle.reset.specs.Sweep.{offsets_at, offsets_in, Sweep, InZone}
 use Rattle.reset.proofs.Offsets.{at-direct, in-skip, in_take, in-back, in-past, in-idle, few-offsets}
 use Rattle.pages.proofs.Given.{Joined}
 use Rattle.reset.proofs.Behind.{joined-run}
-
--- At page 0 nothing has come back.
-pub sweep-start : {w : List ℕ} {n : ℕ} (g : ℕ) → Good w n → Sweep g (freed_all (offsets_of g (decode w)) (decode w)) (length (offsets_of g (decode w))) w n 0 0 0
-sweep-start {w} {n} g h = record { good = h; before = []; left = (decode w).segments; whole = refl; starts = refl; ends = refl; rest = refl; counted = omega arith }
 
 -- A reset counts no more blocks than the arena has bytes.
 pub few-in-all : {w : List ℕ} {n : ℕ} (g : ℕ) → Good w n → length (offsets_of g (decode w)) ≤ most_bytes
@@ -113,7 +110,7 @@ Rests y w p i = Remains y i p (zone_at p (decode w).segments) (decode w) (return
 -- The chunks of a zone ------------------------------------------------------------------------------------------------------------
 
 -- The live chunk i is a block of its group.
-pub chunk-told : (s : State) → Valid s → {p b : ℕ} (i g : ℕ) (z : Zone) → Stands s.segments p b (zone z) → get_or z.owners i 0 ≡ g → 0 < g → Tells s (p * page_bytes + i * room z.class) (Chunk p b z.class i g)
+pub chunk-told : (s : State) → Valid s → {p b : ℕ} (i g : ℕ) (z : Zone) → Stands s.segments p b (zone z) → get_or z.owners i 0 ≡ g → 0 < g → Tells s (p * page_bytes + i * room z.class) (Some (Chunk (record { at = p; before = b }) z.class i g))
 chunk-told s v {p} {b} i g z st e h =
     let ok = zone-valid s p b z st v in
     let low : i < chunks z.class = omega (arith, owned-touched z.owners i (omega (arith, e))) in
@@ -173,7 +170,7 @@ module _ {g c n p b i k : ℕ} {t : State} {w : List ℕ} (h : InZone g t c w n 
     taken : offsets_in g p i z ≡ (p * page_bytes + i * room z.class) ∷ offsets_in g p (i + 1) z
     taken = in_take g p i z ok (inside (owned-touched z.owners i (omega arith))) mine
 
-    told : Tells s (p * page_bytes + i * room z.class) (Chunk p b z.class i g)
+    told : Tells s (p * page_bytes + i * room z.class) (Some (Chunk (record { at = p; before = b }) z.class i g))
     told = chunk-told s h.good.valid i g z h.stands mine pos
 
     abbrev s' : State
@@ -268,7 +265,7 @@ module _ {g c n p b k len : ℕ} {t : State} {w : List ℕ} (i : Sweep g t c w n
   some-pages : 0 < len
   some-pages = (each_right i.before _ (rw (i.whole ∙ ap (λ l. i.before ++ l) is) at i.good.lent.sound)).0.0
 
-  block-told : Tells (decode w) (p * page_bytes) (Whole p len b g)
+  block-told : Tells (decode w) (p * page_bytes) (Some (Whole (record { at = p; before = b }) len g))
   block-told = found-whole (decode w) block (p * page_bytes) refl some-pages
 
   valid-after : Valid (released p (decode w))

@@ -7,6 +7,7 @@ ghost use Rattle.model.specs.Arena.{run, direct};
 ghost use Rattle.model.specs.State.{State};
 ghost use Rattle.model.specs.Free.{offsets_of, freed_all};
 ghost use Rattle.model.specs.Free as rules;
+ghost use Rattle.model.specs.Calls.{count_answer};
 ghost use Rattle.pages.specs.Places.{Stands};
 ghost use Rattle.metadata.specs.Encoding.{encode};
 ghost use Rattle.metadata.specs.Decoding.{decode};
@@ -14,102 +15,80 @@ ghost use Rattle.steps.specs.Outcomes.{Makes};
 ghost use Rattle.steps.specs.Lent.{Good};
 ghost use Rattle.reset.specs.Sweep.{Sweep, InZone};
 
+use model::Refusal;
 use model::numbers::ZONE_PAGES;
-use model::{Answer, Refusal};
-use zone::layout::{KIND_RUN, KIND_ZONE};
+use pages::{Kind, Start};
 
-// Where the walk goes on: the next page, the pages of the run that ends there (0: none), and the blocks given back on the way.
-#[derive(Clone, Copy)]
+// Where the walk goes on, and the blocks given back on the way.
+#[derive(Clone, Copy, PartialEq, Eq, Debug)]
 pub struct Swept {
-    pub next: usize,
-    pub before: usize,
+    pub next: Start,
     pub count: u32,
 }
 
-// The walk goes on behind the run at page `start`.
-fn behind_run(words: &[u32], n: usize, start: usize, count: u32) -> Swept
+// The walk goes on behind the run at page `first`.
+fn behind_run(words: &[u32], n: usize, first: usize, count: u32) -> Swept
     requires good { Good words.now n }
-    requires placed { (b k : ℕ) × Stands (decode words.now).segments start b (run k) }
-    ensures { (b k : ℕ) → Stands (decode words.now).segments start b (run k) → (result.next ≡ start + k) × (result.before ≡ k) × (result.count ≡ count) }
+    requires placed { (b k : ℕ) × Stands (decode words.now).segments first b (run k) }
+    ensures { (b k : ℕ) → Stands (decode words.now).segments first b (run k) → (result.next.at ≡ first + k) × (result.next.before ≡ k) × (result.count ≡ count) }
 {
-    let len = steps::size_at(words, n, start);
-    let next = start + len;
-    Swept {
-        next: next,
+    let len = steps::size_at(words, n, first);
+    let next = Start {
+        at: first + len,
         before: len,
-        count: count,
-    }
+    };
+    Swept { next, count }
 }
 
-// The group's chunks of the zone at page p come back. Once its last chunk has, the zone itself may have gone.
-fn sweep_zone(words: &mut [u32], n: usize, p: usize, before: usize, group: u32) -> Swept
-    requires { (0 < group) × ((t : State) × (c : ℕ) × (k : ℕ) × InZone group t c words.old n p before 0 k) }
-    ensures { ((t : State) (c k : ℕ) → InZone group t c words.old n p before 0 k → Sweep group t c words.new n result.next result.before (k + result.count)) × (p < result.next) }
+// The group's chunks of the zone come back. Once its last chunk has, the zone itself may have gone.
+fn sweep_zone(words: &mut [u32], n: usize, start: Start, group: u32) -> Swept
+    requires { (0 < group) × ((t : State) × (c : ℕ) × (k : ℕ) × InZone group t c words.old n start.at start.before 0 k) }
+    ensures { ((t : State) (c k : ℕ) → InZone group t c words.old n start.at start.before 0 k → Sweep group t c words.new n result.next.at result.next.before (k + result.count)) × (start.at < result.next.at) }
 {
-    let touched = steps::zone_touched(words, p);
-    let mut i: u32 = 0;
-    let mut count: u32 = 0;
-    while i < touched {
-        if steps::zone_owner(words, p, i) != group {
-            i += 1;
+    let mut count = 0;
+    for chunk in 0..steps::zone_touched(words, start.at) {
+        if steps::zone_owner(words, start.at, chunk) != group {
             continue;
         }
         count += 1;
-        if !free::chunk_back(words, n, p, before, i) {
-            return behind_run(words, n, p - before, count);
+        if !free::chunk_back(words, n, start, chunk) {
+            return behind_run(words, n, start.at - start.before, count);
         }
-        i += 1;
     }
-    let next = p + ZONE_PAGES;
-    Swept {
-        next: next,
+    let next = Start {
+        at: start.at + ZONE_PAGES,
         before: 0,
-        count: count,
-    }
+    };
+    Swept { next, count }
 }
 
-// The direct block at page p comes back.
-fn sweep_direct(
-    words: &mut [u32],
-    n: usize,
-    p: usize,
-    len: usize,
-    before: usize,
-    group: u32,
-) -> Swept
-    requires { Good words.old n × Stands (decode words.old).segments p before (direct len group) }
-    ensures { ((t : State) (c k : ℕ) → Sweep group t c words.old n p before k → Sweep group t c words.new n result.next result.before (k + result.count)) × (p < result.next) }
+// The direct block comes back.
+fn sweep_direct(words: &mut [u32], n: usize, start: Start, len: usize, group: u32) -> Swept
+    requires { Good words.old n × Stands (decode words.old).segments start.at start.before (direct len group) }
+    ensures { ((t : State) (c k : ℕ) → Sweep group t c words.old n start.at start.before k → Sweep group t c words.new n result.next.at result.next.before (k + result.count)) × (start.at < result.next.at) }
 {
-    steps::give_back(words, n, p, len, before);
-    behind_run(words, n, p - before, 1)
+    steps::give_back(words, n, start, len);
+    behind_run(words, n, start.at - start.before, 1)
 }
 
-// What the segment at page p holds of the group comes back.
-fn sweep_at(words: &mut [u32], n: usize, p: usize, before: usize, group: u32) -> Swept
-    requires { (0 < group) × (p < n) × ((t : State) × (c : ℕ) × (k : ℕ) × Sweep group t c words.old n p before k) }
-    ensures { ((t : State) (c k : ℕ) → Sweep group t c words.old n p before k → Sweep group t c words.new n result.next result.before (k + result.count)) × (p < result.next) }
+// What the segment holds of the group comes back.
+fn sweep_at(words: &mut [u32], n: usize, start: Start, group: u32) -> Swept
+    requires { (0 < group) × (start.at < n) × ((t : State) × (c : ℕ) × (k : ℕ) × Sweep group t c words.old n start.at start.before k) }
+    ensures { ((t : State) (c k : ℕ) → Sweep group t c words.old n start.at start.before k → Sweep group t c words.new n result.next.at result.next.before (k + result.count)) × (start.at < result.next.at) }
 {
-    let kind = steps::kind_at(words, p);
-    if kind == KIND_ZONE {
-        return sweep_zone(words, n, p, before, group);
+    let kind = steps::kind_at(words, start.at);
+    if kind == Kind::Zone {
+        return sweep_zone(words, n, start, group);
     }
-    let len = steps::size_at(words, n, p);
-    let next = p + len;
-    if kind == KIND_RUN {
-        return Swept {
-            next: next,
-            before: len,
-            count: 0,
-        };
+    let len = steps::size_at(words, n, start.at);
+    if kind == Kind::Direct && steps::group_at(words, n, start.at) == group {
+        return sweep_direct(words, n, start, len, group);
     }
-    if steps::group_at(words, n, p) == group {
-        return sweep_direct(words, n, p, len, before, group);
-    }
-    Swept {
-        next: next,
-        before: 0,
-        count: 0,
-    }
+    let next = Start {
+        at: start.at + len,
+        before: kind.run_len(len),
+    };
+    Swept { next, count: 0 }
 }
 
 // Every block of the group comes back; answers how many there were.
@@ -117,25 +96,23 @@ fn sweep(words: &mut [u32], n: usize, group: u32) -> u32
     requires { Good words.old n × (0 < group) }
     ensures { (result ≡ length (offsets_of group (decode words.old))) × (words.new ≡ encode (freed_all (offsets_of group (decode words.old)) (decode words.old))) }
 {
-    let mut p: usize = 0;
-    let mut before: usize = 0;
-    let mut count: u32 = 0;
-    while p < n {
-        let swept = sweep_at(words, n, p, before, group);
-        p = swept.next;
-        before = swept.before;
+    let mut start = Start { at: 0, before: 0 };
+    let mut count = 0;
+    while start.at < n {
+        let swept = sweep_at(words, n, start, group);
+        start = swept.next;
         count += swept.count;
     }
     count
 }
 
 // The group's live blocks come back, and the answer counts them. Refusal 4.
-pub fn reset(words: &mut [u32], n: usize, group: u32) -> Answer
+pub fn reset(words: &mut [u32], n: usize, group: u32) -> Result<u32, Refusal>
     requires { Good words.old n }
-    ensures { Makes (rules.reset group (decode words.old)) result words.new }
+    ensures { Makes (rules.reset group (decode words.old)) (count_answer result) words.new }
 {
     if !model::group_ok(group) {
-        return Answer::Refused(Refusal::BadGroup);
+        return Err(Refusal::BadGroup);
     }
-    Answer::Counted(sweep(words, n, group))
+    Ok(sweep(words, n, group))
 }

@@ -47,7 +47,7 @@ module _ {w : List ℕ} (h : Lent w) where
   pub header-long : header_words ≡ length (take header_words w)
   header-long = front_long header_words w has-header
 
-  segments-body : segments_of (body_in w) ≡ (decode w).segments
+  pub segments-body : segments_of (body_in w) ≡ (decode w).segments
   segments-body = ap segments_of (body-all header_words w) ∙ segments-lent h
 
   pub body-holds : (n : ℕ) → n ≡ total (decode w).segments → Holds (body_in w) n
@@ -57,9 +57,6 @@ module _ {w : List ℕ} (h : Lent w) where
   pub in_body {ℓ} : (P : List (Segment Zone) → Type ℓ) → P (decode w).segments → P (segments_of (body_in w))
   in_body P k = subst P (sym segments-body) k
 
-  pub of-body {ℓ} : (P : List (Segment Zone) → Type ℓ) → P (segments_of (body_in w)) → P (decode w).segments
-  of-body P k = subst P segments-body k
-
   pub body_back : (v : List ℕ) (f : List (Segment Zone) → List (Segment Zone)) → total (f (decode w).segments) ≡ total (decode w).segments →
       v ≡ segments_encoding (f (segments_of (body_in w))) → put_mid header_words (length w - header_words) w v ≡ encode (arranged (decode w) (f (decode w).segments) (decode w).lists (decode w).spare)
   body_back v f e k = put_all header_words w v ∙ body-put h v (f (decode w).segments) e (k ∙ ap (λ m. segments_encoding (f m)) segments-body)
@@ -67,6 +64,9 @@ module _ {w : List ℕ} (h : Lent w) where
   -- Every segment has pages.
   pub has-pages : {p b : ℕ} {x : Segment Zone} → Stands (decode w).segments p b x → 0 < pages x
   has-pages {p} {b} {x} s = (each_right s.before (x ∷ s.behind) (subst (λ l. Each Writable l) s.whole h.sound)).0.0
+
+-- That the header's words are there, for the search.
+pub ruleset header_fits = (has-header, header-long)
 
 -- Segments that begin at a page ----------------------------------------------------------------------------------------------------
 

@@ -1,14 +1,15 @@
 -- Laws of adding to the figures: one group's blocks, one addition after another, and how far the figures have come. Assumes nothing.
-use Prim.Native.Nat.{ℕ, suc, ◌+◌, ◌-◌, ◌*◌, ◌≤◌, ◌<◌}
+use Prim.Native.Nat.{ℕ, zero, suc, ◌+◌, ◌-◌, ◌*◌, ◌≤◌, ◌<◌}
 use mathlib.Core.Path.{◌≡◌, refl, sym, ap, ◌∙◌}
 use mathlib.Core.Bool.{cond}
-use mathlib.Core.List.{List, map, map-append}
-use native.Mathlib.Nat.{mul-le-mul_left, mul-le-mul_right}
+use mathlib.Core.List.{List, [], map, map-append}
+use native.Mathlib.Nat.{not-suc-le-zero, le_of_suc-le-suc, mul-le-mul_left, mul-le-mul_right}
 use native.Mathlib.Omega.{arith}
-use lib.Dec.{eqb, leb}
+use lib.Dec.{eqb, ltb}
 use lib.ListN.{length, get_or, set, take, drop, length-set, length-map}
-use borrow.Author.Tests.{eq-eqb, ne_eqb, le-leb, lt-leb}
-use lib.Seq.{get_or-set_same, get_or-set_other, length-take-le, take-add, take_all}
+use borrow.Author.Tests.{eq-eqb, ne_eqb, lt-ltb, le-ltb}
+use lib.Seq.{get_or-set_same, get_or-set_other, length-take-le, take-add, take_all, drop-drop}
+use Rattle.std.specs.Simd.{first_chunks}
 use Rattle.lemmas.proofs.Cases.{by-eq, by-lt, either}
 use Rattle.lemmas.specs.Times.{times}
 use Rattle.lemmas.proofs.Times.{times-nil, times-append, times-most}
@@ -92,26 +93,26 @@ blocks-added g n r t long p q =
 
 -- ---- group after group
 
--- Those of the groups 1 to k alone.
+-- Those of the groups below k alone.
 abbrev pub up_to : ℕ → (ℕ → ℕ) → ℕ → ℕ
-up_to k n g = cond (leb g k) (n g) 0
+up_to k n g = cond (ltb g k) (n g) 0
 
-pub up_none : (n : ℕ → ℕ) (r : ℕ) (t : List ℕ) → length t ≡ most_group + most_group → Added (up_to 0 n) r t t
-up_none n r t long = added_none (up_to 0 n) r t long (λ i l. rw (lt-leb (suc i) 0 (omega arith)))
+pub up_none : (n : ℕ → ℕ) (r : ℕ) (t : List ℕ) → length t ≡ most_group + most_group → Added (up_to 1 n) r t t
+up_none n r t long = added_none (up_to 1 n) r t long (λ i l. rw (le-ltb (suc i) 1 (omega arith)))
 
-pub up_more : (n : ℕ → ℕ) (r k c : ℕ) (t u v : List ℕ) → c ≡ n (k + 1) → Added (up_to k n) r t u → Added (λ x. cond (eqb (k + 1) x) c 0) r u v → Added (up_to (k + 1) n) r t v
+pub up_more : (n : ℕ → ℕ) (r k c : ℕ) (t u v : List ℕ) → c ≡ n k → Added (up_to k n) r t u → Added (λ x. cond (eqb k x) c 0) r u v → Added (up_to (k + 1) n) r t v
 up_more n r k c t u v e a b = added_then a (up_to (k + 1) n) b step
   where
-    step : (i : ℕ) → i < most_group → up_to k n (suc i) + cond (eqb (k + 1) (suc i)) c 0 ≡ up_to (k + 1) n (suc i)
+    step : (i : ℕ) → i < most_group → up_to k n (suc i) + cond (eqb k (suc i)) c 0 ≡ up_to (k + 1) n (suc i)
     step i l =
-        by-eq (k + 1) (suc i)
-        (λ q. rw (eq-eqb (k + 1) (suc i) q, lt-leb (suc i) k (omega arith), le-leb (suc i) (k + 1) (omega arith)) (omega (arith, e, ap n q)))
-        (λ q. rw (ne_eqb (k + 1) (suc i) q) (by-lt k (suc i)
-        (λ h. rw (lt-leb (suc i) k h, lt-leb (suc i) (k + 1) (omega arith)))
-        (λ h. rw (le-leb (suc i) k h, le-leb (suc i) (k + 1) (omega arith)) (omega arith))))
+        by-eq k (suc i)
+        (λ q. rw (eq-eqb k (suc i) q, le-ltb (suc i) k (omega arith), lt-ltb (suc i) (k + 1) (omega arith)) (omega (arith, e, ap n q)))
+        (λ q. rw (ne_eqb k (suc i) q) (by-lt (suc i) k
+        (λ h. rw (lt-ltb (suc i) k h, lt-ltb (suc i) (k + 1) (omega arith)) (omega arith))
+        (λ h. rw (le-ltb (suc i) k h, le-ltb (suc i) (k + 1) (omega arith)))))
 
-pub up-all : (n : ℕ → ℕ) (r k : ℕ) (t u : List ℕ) → most_group ≤ k → Added (up_to k n) r t u → Added n r t u
-up-all n r k t u h a = added-as a n (λ i l. rw (le-leb (suc i) k (omega arith)))
+pub up-all : (n : ℕ → ℕ) (r k : ℕ) (t u : List ℕ) → most_group < k → Added (up_to k n) r t u → Added n r t u
+up-all n r k t u h a = added-as a n (λ i l. rw (lt-ltb (suc i) k (omega arith)))
 
 -- ---- a stretch of slots
 
@@ -125,7 +126,7 @@ stretch-within k r l t u h q w a =
     (λ i b. let c = few (suc i) in (omega arith, count_most _ r c q))
   where
     few : (g : ℕ) → up_to k (λ g. times g l) g ≤ stretch
-    few g = either (λ c. c ≤ stretch) (leb g k) (times g l) 0 (λ e. omega (arith, times-most g l)) (λ e. omega arith)
+    few g = either (λ c. c ≤ stretch) (ltb g k) (times g l) 0 (λ e. omega (arith, times-most g l)) (λ e. omega arith)
 
 -- ---- stretch after stretch
 
@@ -157,3 +158,13 @@ module _ (f : ℕ → ℕ) (s : List ℕ) (r : ℕ) where
       let n : ℕ = chunks_in f (take i s) (suc j) in
       let m : n ≤ length s = omega (arith, times-most (suc j) (map f (take i s)), length-map (take i s) f, length-take-le i s l) in
       (omega (arith, mul-le-mul_left (length s) p), omega (arith, mul-le-mul_right r m)))
+
+-- ---- a list cut into parts of one length, and the rest
+
+module _ (m : ℕ) where
+  pub part_at : (n : ℕ) (s : List ℕ) (k : ℕ) → k < n → get_or (first_chunks m n s) k [] ≡ take m (drop (k * m) s)
+  part_at zero s k h = absurd (not-suc-le-zero h)
+  part_at (suc n) s zero h = let e : 0 ≡ 0 * m = omega arith in ap (λ j. take m (drop j s)) e
+  part_at (suc n) s (suc k) h =
+      let e : m + k * m ≡ suc k * m = omega arith in
+      part_at n (drop m s) k (le_of_suc-le-suc h) ∙ ap (take m) (drop-drop (k * m) m s) ∙ ap (λ j. take m (drop j s)) e

@@ -16,9 +16,10 @@ use Rattle.model.specs.Holdings.{blocks_of, held_of}
 use Rattle.model.proofs.Held.{times-padded, held-most, blocks-most}
 use Rattle.zone.specs.Decoding.{is_zone, zone_of}
 use Rattle.zone.proofs.Encoded.{zone-valid}
-use Rattle.pages.specs.Encoding.{kind_run, kind_of, Writable}
+use Rattle.pages.specs.Encoding.{Writable}
+use Rattle.pages.specs.declared.Kind.TheVariants as kind
 use Rattle.pages.specs.Decoding.{segments_of, Holds}
-use Rattle.pages.specs.Places.{run_pages, Stands, Passed}
+use Rattle.pages.specs.Places.{kind_in, run_pages, Stands, Passed}
 use Rattle.pages.proofs.Laws.{all_valid}
 use Rattle.pages.proofs.Walk.{Read, read_at, passed_none, passed-more, passed-stands, passed-total}
 use Rattle.pages.proofs.Inverse.{run-by-kind}
@@ -28,7 +29,7 @@ use Rattle.tally.proofs.Adding.{added_none, added-as}
 -- ---- one segment
 
 module _ (x : Segment Zone) {t : List ℕ} where
-  pub run-adds : kind_of x ≡ kind_run → length t ≡ most_group + most_group → Adds x t t
+  pub run-adds : kind_in x ≡ kind.Run → length t ≡ most_group + most_group → Adds x t t
   run-adds e long = subst (λ y. Adds y t t) (sym (run-by-kind x e)) (added_none _ _ t long (λ i l. refl))
 
   pub direct-adds : {u : List ℕ} (n g : ℕ) → x ≡ direct n g → {m h : ℕ} → m ≡ pages x → h ≡ g → Added (λ y. cond (eqb h y) 1 0) (m * page_bytes) t u → Adds x t u

@@ -5,6 +5,7 @@ use mathlib.Core.Path.{◌≡◌, refl, sym, ap, ◌∙◌}
 use mathlib.Core.Bool.{Bool, true, false, cond, not, ◌&&◌}
 use mathlib.Core.Logic.{◌↔◌}
 use mathlib.Core.List.{List, [], ◌∷◌, ◌++◌, append-nil}
+use Rattle.std.specs.Prelude.{None}
 use native.Mathlib.Omega.{arith}
 use lib.Dec.{leb}
 use lib.ListN.{length, drop, length-append, length-drop}
@@ -13,12 +14,18 @@ use Rattle.model.specs.Text.{decimal}
 use Rattle.lemmas.specs.Every.{every}
 use Rattle.lemmas.proofs.Cases.{either, true-false, and_left, and_right, and_both, clash}
 use Rattle.lemmas.proofs.Heads.{front-after}
-use Rattle.text.specs.declared.Number.TheVariants.{Read, Nothing}
-use Rattle.text.specs.Numbers.{largest, is_digit, leading, value, unpadded, number_of, number_at, stops}
+use Rattle.text.specs.declared.Number.{Number}
+use Rattle.text.specs.Numbers.{largest, is_digit, leading, value, unpadded, number_of, number_at, stops, read}
 use Rattle.text.proofs.Decimal.{decimal-some, decimal-digits, value-decimal, decimal-unpadded, decimal-of-digits}
 
-pub nothing_read : {v n : ℕ} → Nothing ≡ Read v n → ⊥
+-- What is read is not nothing; and its parts.
+pub nothing_read : {v n : ℕ} → None ≡ read v n → ⊥
 nothing_read e = clash (cc)
+
+same_read : {v n w m : ℕ} → read v n ≡ read w m → (v ≡ w) × (n ≡ m)
+same_read {v} {n} {w} {m} e =
+    let k : record { value = v; next = n } ≡ record { value = w; next = m } = cc in
+    (ap (λ (x : Number). x.value) k, ap (λ (x : Number). x.next) k)
 
 -- ---- the digits at the front
 
@@ -63,21 +70,21 @@ pub record Stands (s : List ℕ) (at w n : ℕ) : Type 0 where
   pub ends : stops (drop n s) ≡ true
 
 -- What it takes for digits to be a number.
-of-digits : (at w n : ℕ) (ds : List ℕ) → number_of at ds ≡ Read w n → (unpadded ds ≡ true) × (value 0 ds ≤ largest) × (value 0 ds ≡ w) × (at + length ds ≡ n)
+of-digits : (at w n : ℕ) (ds : List ℕ) → number_of at ds ≡ read w n → (unpadded ds ≡ true) × (value 0 ds ≤ largest) × (value 0 ds ≡ w) × (at + length ds ≡ n)
 unfolding number_of
 of-digits at w n ds e = go (unpadded ds && leb (value 0 ds) largest) refl e
   where
-    go : (t : Bool) → (unpadded ds && leb (value 0 ds) largest) ≡ t → cond t (Read (value 0 ds) (at + length ds)) Nothing ≡ Read w n
+    go : (t : Bool) → (unpadded ds && leb (value 0 ds) largest) ≡ t → cond t (read (value 0 ds) (at + length ds)) None ≡ read w n
         → (unpadded ds ≡ true) × (value 0 ds ≤ largest) × (value 0 ds ≡ w) × (at + length ds ≡ n)
     go true q r = (
       and_left _ _ q,
       leb-true _ largest (and_right (unpadded ds) _ q),
-      cc,
-      cc,
+      (same_read r).0,
+      (same_read r).1,
     )
     go false q r = absurd (nothing_read r)
 
-pub number-stands : (s : List ℕ) (at w n : ℕ) → number_at s at ≡ Read w n → Stands s at w n
+pub number-stands : (s : List ℕ) (at w n : ℕ) → number_at s at ≡ read w n → Stands s at w n
 unfolding number_at
 number-stands s at w n e =
     let f = leading-front (drop at s) in
@@ -102,17 +109,17 @@ number-stands s at w n e =
 
 -- ---- what stands there is read
 
-of-decimal : (at w : ℕ) → w ≤ largest → number_of at (decimal w) ≡ Read w (at + length (decimal w))
+of-decimal : (at w : ℕ) → w ≤ largest → number_of at (decimal w) ≡ read w (at + length (decimal w))
 unfolding number_of
 of-decimal at w h = rw (value-decimal w, decimal-unpadded w, le-leb w largest h)
 
-pub number_read : (s : List ℕ) (at w : ℕ) (more : List ℕ) → drop at s ≡ decimal w ++ more → w ≤ largest → stops more ≡ true → number_at s at ≡ Read w (at + length (decimal w))
+pub number_read : (s : List ℕ) (at w : ℕ) (more : List ℕ) → drop at s ≡ decimal w ++ more → w ≤ largest → stops more ≡ true → number_at s at ≡ read w (at + length (decimal w))
 unfolding number_at
 number_read s at w more e h k =
     cc (leading-of (decimal w) more (decimal-digits w) k, of-decimal at w h)
 
 -- A decimal that the text ends with.
-pub number-last : (s : List ℕ) (at w : ℕ) → drop at s ≡ decimal w → w ≤ largest → number_at s at ≡ Read w (length s)
+pub number-last : (s : List ℕ) (at w : ℕ) → drop at s ≡ decimal w → w ≤ largest → number_at s at ≡ read w (length s)
 unfolding stops
 number-last s at w e h =
     let some : 1 ≤ length (decimal w) = decimal-some w in
@@ -121,11 +128,11 @@ number-last s at w e h =
     cc (number_read s at w [] (e ∙ sym (append-nil (decimal w))) h refl)
 
 -- Both ways.
-stands_read : (s : List ℕ) (at w n : ℕ) → Stands s at w n → number_at s at ≡ Read w n
+stands_read : (s : List ℕ) (at w n : ℕ) → Stands s at w n → number_at s at ≡ read w n
 stands_read s at w n h =
     let long : length (drop at s) ≡ length (decimal w) + length (drop n s) = cc (length-append (decimal w) (drop n s)) in
     let end : at + length (decimal w) ≡ n = omega (arith, length-drop at s, length-drop n s) in
     cc (number_read s at w (drop n s) h.is h.fits h.ends)
 
-pub number-iff : (s : List ℕ) (at w n : ℕ) → (number_at s at ≡ Read w n) ↔ Stands s at w n
+pub number-iff : (s : List ℕ) (at w n : ℕ) → (number_at s at ≡ read w n) ↔ Stands s at w n
 number-iff s at w n = (number-stands s at w n, stands_read s at w n)

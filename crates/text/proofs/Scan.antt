@@ -4,6 +4,7 @@ use Prim.Native.Nat.{ℕ, suc, ◌+◌, ◌*◌, ◌-◌, ◌≤◌, ◌<◌}
 use mathlib.Core.Path.{◌≡◌, refl}
 use mathlib.Core.Bool.{Bool, true, false, cond, not, ◌&&◌}
 use mathlib.Core.List.{List, [], ◌∷◌}
+use Rattle.std.specs.Prelude.{Option, None}
 use native.Mathlib.Omega.{arith}
 use lib.Dec.{leb, eqb}
 use lib.ListN.{length, drop, get_or, drop_of_length-le}
@@ -11,8 +12,7 @@ use borrow.Author.Tests.{le-leb, lt-leb, eq-eqb, ne_eqb}
 use Rattle.lemmas.proofs.Cases.{by_eqb, and-false}
 use Rattle.lemmas.proofs.Heads.{next_word}
 use Rattle.text.specs.declared.Number.{Number}
-use Rattle.text.specs.declared.Number.TheVariants.{Read, Nothing}
-use Rattle.text.specs.Numbers.{largest, is_digit, leading, value, unpadded, number_of, number_at}
+use Rattle.text.specs.Numbers.{largest, is_digit, leading, value, unpadded, number_of, number_at, read}
 use Rattle.text.proofs.Decimal.{value_grows, digit-range}
 
 -- No digit may follow a single `0`.
@@ -20,11 +20,11 @@ unfoldable pub follows : ℕ → List ℕ → Bool
 follows v [] = true
 follows v (d ∷ s) = not (eqb v 0)
 
-unfoldable pub number_with : ℕ → ℕ → List ℕ → Number
-number_with v i ds = cond (follows v ds && leb (value v ds) largest) (Read (value v ds) (i + length ds)) Nothing
+unfoldable pub number_with : ℕ → ℕ → List ℕ → Option Number
+number_with v i ds = cond (follows v ds && leb (value v ds) largest) (read (value v ds) (i + length ds)) None
 
 -- What is read where digits of the value v end at position i, and s follows.
-unfoldable pub number_on : ℕ → ℕ → List ℕ → Number
+unfoldable pub number_on : ℕ → ℕ → List ℕ → Option Number
 number_on v i s = number_with v i (leading s)
 
 -- ---- the first digit
@@ -42,11 +42,11 @@ first-digit at d (b ∷ s) h =
     rw (z, n, t)
 
 module _ (s : List ℕ) (at : ℕ) where
-  pub none-past : length s ≤ at → Nothing ≡ number_at s at
+  pub none-past : length s ≤ at → None ≡ number_at s at
   unfolding number_at number_of leading unpadded
   none-past h = rw (drop_of_length-le s {i = at} h)
 
-  pub none_other : at < length s → is_digit (get_or s at 0) ≡ false → Nothing ≡ number_at s at
+  pub none_other : at < length s → is_digit (get_or s at 0) ≡ false → None ≡ number_at s at
   unfolding number_at number_of leading unpadded
   none_other h e = rw (next_word s at 0 h, e)
 
@@ -64,15 +64,15 @@ follows-all v [] h = refl
 follows-all v (d ∷ s) h = rw (ne_eqb v 0 h)
 
 module _ (v i : ℕ) (ds : List ℕ) where
-  with_none : v ≤ largest → Read v i ≡ number_with v i []
+  with_none : v ≤ largest → read v i ≡ number_with v i []
   unfolding number_with follows value
   with_none h = let z : i + 0 ≡ i = omega arith in rw (le-leb v largest h, z)
 
-  with-zero : (d : ℕ) → v ≡ 0 → Nothing ≡ number_with v i (d ∷ ds)
+  with-zero : (d : ℕ) → v ≡ 0 → None ≡ number_with v i (d ∷ ds)
   unfolding number_with follows
   with-zero d e = rw (eq-eqb v 0 e)
 
-  with-large : (d : ℕ) → largest < 10 * v + (d - 48) → Nothing ≡ number_with v i (d ∷ ds)
+  with-large : (d : ℕ) → largest < 10 * v + (d - 48) → None ≡ number_with v i (d ∷ ds)
   unfolding number_with value
   with-large d h =
       let k : largest < value (10 * v + (d - 48)) ds = omega (arith, value_grows ds (10 * v + (d - 48))) in
@@ -84,27 +84,28 @@ module _ (v i : ℕ) (ds : List ℕ) where
       let n : i + 1 + length ds ≡ i + suc (length ds) = omega arith in
       rw (n, ne_eqb v 0 h, follows-all (10 * v + (d - 48)) ds (λ e. h (omega arith)))
 
-module _ (s : List ℕ) (v i : ℕ) where
-  pub on-end : length s ≤ i → v ≤ largest → Read v i ≡ number_on v i (drop i s)
+-- Of a part of the text the bytes from i on are left, of which the first stands at position j of the text.
+module _ (s : List ℕ) (v i j : ℕ) where
+  pub on-end : length s ≤ i → v ≤ largest → read v j ≡ number_on v j (drop i s)
   unfolding number_on leading
-  on-end h k = rw (drop_of_length-le s {i = i} h) (with_none v i [] k)
+  on-end h k = rw (drop_of_length-le s {i = i} h) (with_none v j [] k)
 
   module _ (h : i < length s) where
-    pub on-stop : is_digit (get_or s i 0) ≡ false → v ≤ largest → Read v i ≡ number_on v i (drop i s)
+    pub on-stop : is_digit (get_or s i 0) ≡ false → v ≤ largest → read v j ≡ number_on v j (drop i s)
     unfolding number_on leading
-    on-stop e k = rw (next_word s i 0 h, e) (with_none v i [] k)
+    on-stop e k = rw (next_word s i 0 h, e) (with_none v j [] k)
 
     module _ (e : is_digit (get_or s i 0) ≡ true) where
-      pub on-zero : v ≡ 0 → Nothing ≡ number_on v i (drop i s)
+      pub on-zero : v ≡ 0 → None ≡ number_on v j (drop i s)
       unfolding number_on leading
-      on-zero z = rw (next_word s i 0 h, e) (with-zero v i _ _ z)
+      on-zero z = rw (next_word s i 0 h, e) (with-zero v j _ _ z)
 
-      pub on-large : {d : ℕ} → d ≡ get_or s i 0 - 48 → largest < 10 * v + d → Nothing ≡ number_on v i (drop i s)
+      pub on-large : {d : ℕ} → d ≡ get_or s i 0 - 48 → largest < 10 * v + d → None ≡ number_on v j (drop i s)
       unfolding number_on leading
-      on-large q k = rw (next_word s i 0 h, e) (with-large v i _ _ (omega arith))
+      on-large q k = rw (next_word s i 0 h, e) (with-large v j _ _ (omega arith))
 
-      pub on-more : {d : ℕ} → d ≡ get_or s i 0 - 48 → (v ≡ 0 → ⊥) → number_on (10 * v + d) (i + 1) (drop (i + 1) s) ≡ number_on v i (drop i s)
+      pub on-more : {d : ℕ} → d ≡ get_or s i 0 - 48 → (v ≡ 0 → ⊥) → number_on (10 * v + d) (j + 1) (drop (i + 1) s) ≡ number_on v j (drop i s)
       unfolding number_on leading
       on-more q n =
           rw (next_word s i 0 h, e)
-          (cc (with-more v i (leading (drop (i + 1) s)) (get_or s i 0) n))
+          (cc (with-more v j (leading (drop (i + 1) s)) (get_or s i 0) n))

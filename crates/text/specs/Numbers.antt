@@ -1,8 +1,7 @@
 -- Numbers in a text (document 01, "The bench program and one whole session"): decimals without sign or leading zero, at most
 -- 4,294,967,295. Assumes nothing.
-use Rattle.std.specs.Prelude.{ℕ, ◌+◌, ◌*◌, ◌-◌, Bool, true, false, cond, not, ◌&&◌, List, [], ◌∷◌, leb, eqb, length, drop}
+use Rattle.std.specs.Prelude.{ℕ, ◌+◌, ◌*◌, ◌-◌, Bool, true, false, cond, not, ◌&&◌, List, [], ◌∷◌, leb, eqb, length, drop, Option, Some, None}
 use Rattle.text.specs.declared.Number.{Number}
-use Rattle.text.specs.declared.Number.TheVariants.{Read, Nothing}
 
 abbrev pub largest : ℕ
 largest = 4294967295
@@ -27,12 +26,16 @@ unpadded [] = false
 unpadded (d ∷ []) = true
 unpadded (d ∷ (e ∷ s)) = not (eqb d 48)
 
+-- A number that was read, and the position after it.
+abbrev pub read : ℕ → ℕ → Option Number
+read v n = Some (record { value = v; next = n })
+
 -- The number that digits at position `at` are, if they have no leading zero and are not too large.
-unfoldable pub number_of : ℕ → List ℕ → Number
-number_of at ds = cond (unpadded ds && leb (value 0 ds) largest) (Read (value 0 ds) (at + length ds)) Nothing
+unfoldable pub number_of : ℕ → List ℕ → Option Number
+number_of at ds = cond (unpadded ds && leb (value 0 ds) largest) (read (value 0 ds) (at + length ds)) None
 
 -- The number at position `at` of a text: all the digits that stand there.
-unfoldable pub number_at : List ℕ → ℕ → Number
+unfoldable pub number_at : List ℕ → ℕ → Option Number
 number_at s at = number_of at (leading (drop at s))
 
 -- What follows a number: nothing, or a byte that is no digit.

@@ -7,13 +7,13 @@
 ghost use Rattle.std.specs.Prelude.{◌≡◌, cond, [], ◌∷◌, ltb};
 ghost use Rattle.model.specs.Text.{decimal, line};
 ghost use Rattle.text.specs.Writing.{Bounded, Wrote, field, named};
-ghost use Rattle.text.specs.Numbers.{is_digit, number_at};
+ghost use Rattle.text.specs.Numbers.{number_at};
 
-// What stands at a position of a text: a number, which ends before the position `next`, or none.
-#[derive(Clone, Copy)]
-pub enum Number {
-    Read { value: u32, next: usize },
-    Nothing,
+// A number that stands in a text, and the position after its last digit.
+#[derive(Clone, Copy, PartialEq, Eq, Debug)]
+pub struct Number {
+    pub value: u32,
+    pub next: usize,
 }
 
 // ---- writers
@@ -24,7 +24,6 @@ pub fn put_byte(out: &mut [u8], at: usize, b: u8) -> usize
 {
     if at < out.len() {
         out[at] = b;
-        return at + 1;
     }
     at + 1
 }
@@ -33,16 +32,15 @@ pub fn put_bytes(out: &mut [u8], at: usize, s: &[u8]) -> usize
     requires { Bounded at s.now }
     ensures { Wrote out.old at s.now result out.new }
 {
-    let mut i: usize = 0;
-    let mut k = at;
-    while i < s.len() {
-        k = put_byte(out, k, s[i]);
-        i += 1;
+    let mut next = at;
+    for &b in s {
+        next = put_byte(out, next, b);
     }
-    k
+    next
 }
 
 // A number in decimal: the digits of n / 10, if there are any, and then the last one.
+// By hand and not by `Display`: a public promise, the one writer of every number in every text, into a lent buffer.
 pub fn put_number(out: &mut [u8], at: usize, n: u64) -> usize
     requires { Bounded at (decimal n) }
     ensures { Wrote out.old at (decimal n) result out.new }
@@ -68,27 +66,21 @@ pub fn put_line(out: &mut [u8], at: usize, numbers: &[u64]) -> usize
     requires { Bounded at (line numbers.now) }
     ensures { Wrote out.old at (line numbers.now) result out.new }
 {
-    let n = numbers.len();
-    if n == 0 {
+    if numbers.is_empty() {
         return put_byte(out, at, b'\n');
     }
-    let mut i: usize = 0;
-    let mut k = at;
-    while i < n {
-        k = put_field(out, k, numbers[i], end_of(i + 1, n));
-        i += 1;
+    let mut next = at;
+    for (i, &n) in numbers.iter().enumerate() {
+        next = put_field(out, next, n, end_of(i + 1, numbers.len()));
     }
-    k
+    next
 }
 
 // What follows a line's number before the i-th of n: a space, or LF after the last.
 fn end_of(i: usize, n: usize) -> u8
     ensures { result ≡ cond (ltb i n) 32 10 }
 {
-    if i < n {
-        return b' ';
-    }
-    b'\n'
+    if i < n { b' ' } else { b'\n' }
 }
 
 // A line that is led by a name: the name, a space and a number.
@@ -106,49 +98,32 @@ pub fn put_named(out: &mut [u8], at: usize, name: &[u8], n: u64) -> usize
 const LARGEST: u64 = 4294967295;
 
 // The number at a position. Once a digit has been read, v is 0 only after a single `0`, which no digit may follow.
-pub fn read_number(s: &[u8], at: usize) -> Number
+// By hand, since `parse` takes a sign and leading zeros, and needs to know where the digits end.
+pub fn read_number(s: &[u8], at: usize) -> Option<Number>
     ensures { result ≡ number_at s.now at }
 {
-    if s.len() <= at {
-        return Number::Nothing;
+    let first = *s.get(at)?;
+    if !first.is_ascii_digit() {
+        return None;
     }
-    let first = s[at];
-    if !is_digit(first) {
-        return Number::Nothing;
-    }
-    let mut v = value(first - b'0');
-    let mut i = at + 1;
-    while i < s.len() {
-        let b = s[i];
-        if !is_digit(b) {
-            return Number::Read {
+    let mut v = u64::from(first - b'0');
+    for (i, b) in s[at + 1..].iter().enumerate() {
+        if !b.is_ascii_digit() {
+            return Some(Number {
                 value: v as u32,
-                next: i,
-            };
+                next: at + 1 + i,
+            });
         }
         if v == 0 {
-            return Number::Nothing;
+            return None;
         }
-        v = 10 * v + value(b - b'0');
+        v = 10 * v + u64::from(b - b'0');
         if LARGEST < v {
-            return Number::Nothing;
+            return None;
         }
-        i += 1;
     }
-    Number::Read {
+    Some(Number {
         value: v as u32,
-        next: i,
-    }
-}
-
-fn is_digit(b: u8) -> bool
-    ensures { result ≡ is_digit b }
-{
-    b'0' <= b && b <= b'9'
-}
-
-fn value(b: u8) -> u64
-    ensures { result ≡ b }
-{
-    b as u64
+        next: s.len(),
+    })
 }

@@ -3,8 +3,9 @@ use Prim.Native.Nat.{ℕ, zero, suc, ◌+◌, ◌-◌, ◌*◌, ◌<◌}
 use mathlib.Core.Path.{◌≡◌, refl, sym, ap, ◌∙◌, subst}
 use mathlib.Core.List.{List, ◌∷◌, ◌++◌}
 use mathlib.Core.Bool.{true, false}
+use mathlib.Core.Logic.{◌⊎◌, inl, inr}
 use native.Mathlib.Omega.{arith}
-use Rattle.lemmas.proofs.Cases.{true-false}
+use Rattle.lemmas.proofs.Cases.{clash, true-false}
 use Rattle.model.specs.Numbers.{zone_pages, class_count, most_pages, page_bytes}
 use Rattle.model.specs.Arena.{Segment, run, direct, zone, pages, total, Each}
 use Rattle.model.specs.Zone.{Zone}
@@ -15,8 +16,9 @@ use Rattle.model.specs.Valid.{Apart}
 use Rattle.model.proofs.Arena.{each_append}
 use Rattle.header.specs.Encoding.{Fits}
 use Rattle.header.proofs.Kept.{fits-remove}
-use Rattle.pages.specs.Encoding.{kind_of, Writable}
-use Rattle.pages.specs.Places.{Stands, run_pages}
+use Rattle.pages.specs.Encoding.{Writable}
+use Rattle.pages.specs.Places.{kind_in, Stands, run_pages}
+use Rattle.pages.specs.declared.Kind.TheVariants as kind
 use Rattle.pages.proofs.Laws.{each_left, each_right}
 use Rattle.pages.proofs.Inverse.{zone-by-kind}
 use Rattle.metadata.specs.Encoding.{encode}
@@ -28,7 +30,6 @@ use Rattle.steps.proofs.Body.{stands-begins, release-total}
 use Rattle.steps.proofs.Zones.{zone-at, zone-there as zone-begun}
 use Rattle.trim.specs.Between.{idle_segment, Between}
 use Rattle.trim.proofs.Places.{between-stands, between-released, between_run}
-use Rattle.zone.specs.Encoding.{kind_zone}
 
 -- What holds of a state holds of the state that its words decode to.
 pub in_words {ℓ} : {w : List ℕ} {s : State} → Encodes w s → (P : State → Type ℓ) → P s → P (decode w)
@@ -36,10 +37,10 @@ in_words h P k = rw (lent-decoded h) k
 
 -- ---- a segment that begins at page p
 
-pub no-zone : (x : Segment Zone) → (kind_of x ≡ kind_zone → ⊥) → false ≡ idle_segment x
+pub no-zone : (x : Segment Zone) → (kind_in x ≡ kind.Run) ⊎ (kind_in x ≡ kind.Direct) → false ≡ idle_segment x
 no-zone (run n) e = refl
 no-zone (direct n g) e = refl
-no-zone (zone z) e = absurd (e refl)
+no-zone (zone z) e = elim e [ inl f ↦ clash (cc) | inr f ↦ clash (cc) ]
 
 pub idle-zone : (x : Segment Zone) → idle_segment x ≡ true → (z : Zone) × (x ≡ zone z) × (idle_zone z ≡ true)
 idle-zone (run n) e = true-false e refl
@@ -54,7 +55,7 @@ module _ {m : List (Segment Zone)} {p b : ℕ} {z : Zone} (s : Stands m p b (zon
   pub zone-here : ZoneAt m p (zone_at p m)
   zone-here = zone-begun m p z (stands-begins s (omega arith))
 
-module _ {m : List (Segment Zone)} {p b : ℕ} {x : Segment Zone} (s : Stands m p b x) (k : kind_of x ≡ kind_zone) where
+module _ {m : List (Segment Zone)} {p b : ℕ} {x : Segment Zone} (s : Stands m p b x) (k : kind_in x ≡ kind.Zone) where
   pub kind-here : ZoneAt m p (zone_at p m)
   kind-here = let q = zone-by-kind x k in zone-here {b = b} {z = q.0} (subst (λ y. Stands m p b y) q.1 s)
 

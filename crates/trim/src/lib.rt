@@ -16,7 +16,7 @@ ghost use Rattle.trim.specs.Between.{idle_segment, Between};
 ghost use Rattle.model.specs.Numbers.{zone_pages};
 
 use model::numbers::ZONE_PAGES;
-use zone::layout::KIND_ZONE;
+use pages::{Kind, Start};
 
 // Whether the segment that begins at page p is a zone without a live chunk.
 fn idle_at(words: &[u32], p: usize) -> bool
@@ -24,10 +24,10 @@ fn idle_at(words: &[u32], p: usize) -> bool
     requires placed { (b : ℕ) × (x : Segment Zone) × Stands (decode words.now).segments p b x }
     ensures { (b : ℕ) (x : Segment Zone) → Stands (decode words.now).segments p b x → result ≡ idle_segment x }
 {
-    if steps::kind_at(words, p) != KIND_ZONE {
-        return false;
+    match steps::kind_at(words, p) {
+        Kind::Zone => steps::zone_idle(words, p),
+        Kind::Run | Kind::Direct => false,
     }
-    steps::zone_idle(words, p)
 }
 
 // The zone at page p leaves its class's list, if it is there.
@@ -39,40 +39,39 @@ fn unlist(words: &mut [u32], p: usize)
     steps::list_without(words, class, p as u32);
 }
 
-// The zone at page p leaves its class's list, and its pages come back; a run of `before` pages (0: none) ends where it begins. Answers
-// the pages of the run that they are now part of.
-fn give_zone(words: &mut [u32], n: usize, p: usize, before: usize) -> usize
+// The zone leaves its class's list, and its pages come back. Answers the pages of the run that they are now part of.
+fn give_zone(words: &mut [u32], n: usize, start: Start) -> usize
     requires lent { Lent words.old × (n ≡ total (decode words.old).segments) }
     requires apart { Apart false (decode words.old).segments }
-    requires placed { (a : ℕ) × (z : Zone) × Between (decode words.old).segments p before a z }
-    ensures { (a : ℕ) (z : Zone) → Between (decode words.old).segments p before a z → (result ≡ before + zone_pages + a) × (words.new ≡ encode (released p (unlisted z.class p (decode words.old)))) }
+    requires placed { (a : ℕ) × (z : Zone) × Between (decode words.old).segments start.at start.before a z }
+    ensures { (a : ℕ) (z : Zone) → Between (decode words.old).segments start.at start.before a z → (result ≡ start.before + zone_pages + a) × (words.new ≡ encode (released start.at (unlisted z.class start.at (decode words.old)))) }
 {
-    unlist(words, p);
-    steps::give_back(words, n, p, ZONE_PAGES, before);
-    steps::size_at(words, n, p - before)
+    unlist(words, start.at);
+    steps::give_back(words, n, start, ZONE_PAGES);
+    steps::size_at(words, n, start.at - start.before)
 }
 
 // Every zone without a live chunk is given back, in ascending page order; answers how many there were. `before` is the pages of the run
-// that ends at page p, 0 for none.
+// that ends at page `at`, 0 for none.
 pub fn trim_all(words: &mut [u32], n: usize) -> u32
     requires { Good words.old n }
     ensures { (result ≡ idle_count (decode words.old).segments) × (words.new ≡ encode (trimmed (decode words.old))) }
 {
     steps::spare_none(words);
-    let mut p: usize = 0;
-    let mut before: usize = 0;
-    let mut count: u32 = 0;
-    while p < n {
-        if idle_at(words, p) {
-            let len = give_zone(words, n, p, before);
-            p = p - before + len;
+    let mut at = 0;
+    let mut before = 0;
+    let mut count = 0;
+    while at < n {
+        if idle_at(words, at) {
+            let len = give_zone(words, n, Start { at, before });
+            at = at - before + len;
             before = len;
             count += 1;
             continue;
         }
-        let len = steps::size_at(words, n, p);
-        before = steps::run_at(words, n, p);
-        p += len;
+        let len = steps::size_at(words, n, at);
+        before = steps::run_at(words, n, at);
+        at += len;
     }
     count
 }

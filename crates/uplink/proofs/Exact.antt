@@ -14,13 +14,13 @@ use Rattle.model.specs.declared.Operation.{Operation}
 use Rattle.model.specs.declared.Operation.TheVariants.{Allocate, Free, Reset}
 use Rattle.model.specs.Ascii.{ascii}
 use Rattle.model.specs.Text.{decimal}
+use Rattle.std.specs.Prelude.{Option, Some, None}
 use Rattle.text.specs.declared.Number.{Number}
-use Rattle.text.specs.declared.Number.TheVariants.{Read, Nothing}
-use Rattle.text.specs.Numbers.{largest, number_at, stops}
+use Rattle.text.specs.Numbers.{largest, number_at, stops, read}
 use Rattle.text.proofs.Decimal.{length-word}
 use Rattle.text.proofs.Numbers.{Stands, number-stands, number_read, number-last}
 use Rattle.uplink.specs.declared.Numbers.{Numbers}
-use Rattle.uplink.specs.declared.Numbers.TheVariants.{None, One, Two, Wrong}
+use Rattle.uplink.specs.declared.Numbers.TheVariants.{Zero, One, Two}
 use Rattle.uplink.specs.declared.Line.{Line}
 use Rattle.uplink.specs.declared.Line.TheVariants.{Init, Group, Trim, Query, Listing, Bad}
 use Rattle.uplink.specs.Grammar.{call_text, line_text, OperationFits, IsCall, second_of, second_at, first_of, numbers_at, bare_line, line_of_one, line_of_two, line_with, line_of}
@@ -30,11 +30,11 @@ use Rattle.uplink.proofs.Parsing.{second_none, second-last, first-none, first_th
 -- ---- what is read has its text
 
 -- What numbers say of the text that they were read from.
-unfoldable Says : List ℕ → Numbers → Type 0
-Says t None = t ≡ []
-Says t (One a) = (t ≡ 32 ∷ decimal a) × (a ≤ largest)
-Says t (Two a b) = (t ≡ 32 ∷ (decimal a ++ (32 ∷ decimal b))) × (a ≤ largest) × (b ≤ largest)
-Says t Wrong = Unit
+unfoldable Says : List ℕ → Option Numbers → Type 0
+Says t (Some Zero) = t ≡ []
+Says t (Some (One a)) = (t ≡ 32 ∷ decimal a) × (a ≤ largest)
+Says t (Some (Two a b)) = (t ≡ 32 ∷ (decimal a ++ (32 ∷ decimal b))) × (a ≤ largest) × (b ≤ largest)
+Says t None = Unit
 
 -- The number is the last thing in the line.
 last-number : (s : List ℕ) (n a : ℕ) → length s ≤ n → decimal a ++ drop n s ≡ decimal a
@@ -44,14 +44,14 @@ last-number s n a h = cc (drop_of_length-le s {i = n} h, append-nil (decimal a))
 after-space : (s : List ℕ) (at : ℕ) → at < length s → get_or s at 0 ≡ 32 → drop at s ≡ 32 ∷ drop (at + 1) s
 after-space s at h c = cc (next_word s at 0 h)
 
-second-says : (s t : List ℕ) (a n : ℕ) (r : Number) → t ≡ 32 ∷ (decimal a ++ drop n s) → a ≤ largest → n < length s → get_or s n 0 ≡ 32 → number_at s (n + 1) ≡ r → Says t (second_of s a r)
+second-says : (s t : List ℕ) (a n : ℕ) (r : Option Number) → t ≡ 32 ∷ (decimal a ++ drop n s) → a ≤ largest → n < length s → get_or s n 0 ≡ 32 → number_at s (n + 1) ≡ r → Says t (second_of s a r)
 unfolding second_of Says
-second-says s t a n Nothing e f h c q = tt
-second-says s t a n (Read b m) e f h c q =
-    let w : Stands s (n + 1) b m = number-stands s (n + 1) b m q in
-    by-leb (λ o. Says t (cond o (Two a b) Wrong)) (length s) m
+second-says s t a n None e f h c q = tt
+second-says s t a n (Some b) e f h c q =
+    let w : Stands s (n + 1) b.value b.next = number-stands s (n + 1) b.value b.next q in
+    by-leb (λ o. Says t (cond o (Some (Two a b.value)) None)) (length s) b.next
     (λ k. (
-      cc (after-space s n h c, last-number s m b k),
+      cc (after-space s n h c, last-number s b.next b.value k),
       f,
       w.fits,
     ))
@@ -60,26 +60,26 @@ second-says s t a n (Read b m) e f h c q =
 second-at-says : (s t : List ℕ) (a n : ℕ) → t ≡ 32 ∷ (decimal a ++ drop n s) → a ≤ largest → Says t (second_at s n a)
 unfolding second_at Says
 second-at-says s t a n e f =
-    by-leb (λ o. Says t (cond o (One a) (cond (eqb (get_or s n 0) 32) (second_of s a (number_at s (n + 1))) Wrong))) (length s) n
+    by-leb (λ o. Says t (cond o (Some (One a)) (cond (eqb (get_or s n 0) 32) (second_of s a (number_at s (n + 1))) None))) (length s) n
     (λ k. (cc (last-number s n a k), f))
     (λ k.
-    by_eqb (λ o. Says t (cond o (second_of s a (number_at s (n + 1))) Wrong)) (get_or s n 0) 32
+    by_eqb (λ o. Says t (cond o (second_of s a (number_at s (n + 1))) None)) (get_or s n 0) 32
     (λ c. second-says s t a n _ e f k c refl) (λ c. tt))
 
-first_says : (s : List ℕ) (at : ℕ) (r : Number) → at < length s → get_or s at 0 ≡ 32 → number_at s (at + 1) ≡ r → Says (drop at s) (first_of s r)
+first_says : (s : List ℕ) (at : ℕ) (r : Option Number) → at < length s → get_or s at 0 ≡ 32 → number_at s (at + 1) ≡ r → Says (drop at s) (first_of s r)
 unfolding first_of Says
-first_says s at Nothing h c q = tt
-first_says s at (Read a n) h c q =
-    let w : Stands s (at + 1) a n = number-stands s (at + 1) a n q in
-    second-at-says s (drop at s) a n (cc (after-space s at h c)) w.fits
+first_says s at None h c q = tt
+first_says s at (Some a) h c q =
+    let w : Stands s (at + 1) a.value a.next = number-stands s (at + 1) a.value a.next q in
+    second-at-says s (drop at s) a.value a.next (cc (after-space s at h c)) w.fits
 
 numbers-say : (s : List ℕ) (at : ℕ) → Says (drop at s) (numbers_at s at)
 unfolding numbers_at Says
 numbers-say s at =
-    by-leb (λ o. Says (drop at s) (cond o None (cond (eqb (get_or s at 0) 32) (first_of s (number_at s (at + 1))) Wrong))) (length s) at
+    by-leb (λ o. Says (drop at s) (cond o (Some Zero) (cond (eqb (get_or s at 0) 32) (first_of s (number_at s (at + 1))) None))) (length s) at
     (λ k. drop_of_length-le s {i = at} k)
     (λ k.
-    by_eqb (λ o. Says (drop at s) (cond o (first_of s (number_at s (at + 1))) Wrong)) (get_or s at 0) 32
+    by_eqb (λ o. Says (drop at s) (cond o (first_of s (number_at s (at + 1))) None)) (get_or s at 0) 32
     (λ c. first_says s at (number_at s (at + 1)) k c refl) (λ c. tt))
 
 -- What is read is bad, or a call whose text was read.
@@ -111,12 +111,12 @@ two-told c a b t e h k =
     (λ _.
     by_eqb (λ o. Told (c ∷ t) (cond o (Group (record { group = a; operation = Free b })) Bad)) c 114 (λ q. inr ((h, k), cc)) (λ _. inl refl))
 
-line-told : (c : ℕ) (t : List ℕ) (n : Numbers) → Says t n → Told (c ∷ t) (line_with c n)
+line-told : (c : ℕ) (t : List ℕ) (n : Option Numbers) → Says t n → Told (c ∷ t) (line_with c n)
 unfolding Told line_with Says
-line-told c t None m = bare-told c t m
-line-told c t (One a) m = one_told c a t m.0 m.1
-line-told c t (Two a b) m = two-told c a b t m.0 m.1 m.2
-line-told c t Wrong m = inl refl
+line-told c t (Some Zero) m = bare-told c t m
+line-told c t (Some (One a)) m = one_told c a t m.0 m.1
+line-told c t (Some (Two a b)) m = two-told c a b t m.0 m.1 m.2
+line-told c t None m = inl refl
 
 pub line_read : (s : List ℕ) → (line_of s ≡ Bad) ⊎ (IsCall (line_of s) × (s ≡ line_text (line_of s)))
 unfolding line_of Told
@@ -126,28 +126,28 @@ line_read (c ∷ t) = line-told c t _ (numbers-say (c ∷ t) 1)
 -- ---- a call's text is read
 
 module _ (s : List ℕ) (at : ℕ) where
-  numbers-none : drop at s ≡ [] → numbers_at s at ≡ None
+  numbers-none : drop at s ≡ [] → numbers_at s at ≡ Some Zero
   numbers-none e = sym (first-none s at (head-none s at e))
 
-  numbers-one : (a : ℕ) → drop at s ≡ 32 ∷ decimal a → a ≤ largest → numbers_at s at ≡ One a
+  numbers-one : (a : ℕ) → drop at s ≡ 32 ∷ decimal a → a ≤ largest → numbers_at s at ≡ Some (One a)
   numbers-one a e f =
       let h = head-is s at 32 0 (decimal a) e in
       sym (second_none s (length s) a (omega arith) ∙ first_then s at h.0 h.1 (number-last s (at + 1) a h.2 f))
 
-  numbers-two : (a b : ℕ) → drop at s ≡ 32 ∷ (decimal a ++ (32 ∷ decimal b)) → a ≤ largest → b ≤ largest → numbers_at s at ≡ Two a b
+  numbers-two : (a b : ℕ) → drop at s ≡ 32 ∷ (decimal a ++ (32 ∷ decimal b)) → a ≤ largest → b ≤ largest → numbers_at s at ≡ Some (Two a b)
   unfolding stops
   numbers-two a b e f g =
       let h = head-is s at 32 0 _ e in
-      let first : number_at s (at + 1) ≡ Read a (at + 1 + length (decimal a)) =
+      let first : number_at s (at + 1) ≡ read a (at + 1 + length (decimal a)) =
       number_read s (at + 1) a _ h.2 f refl in
       let k = head-is s _ 32 0 (decimal b) (front-after s (at + 1) (decimal a) _ h.2) in
-      let second : number_at s (at + 1 + length (decimal a) + 1) ≡ Read b (length s) =
+      let second : number_at s (at + 1 + length (decimal a) + 1) ≡ read b (length s) =
       number-last s _ b k.2 g in
       sym
       (second-last s _ a k.0 k.1 second (omega arith)
       ∙ first_then s at h.0 h.1 first)
 
-with-numbers : (c : ℕ) (t : List ℕ) {n : Numbers} → numbers_at (c ∷ t) 1 ≡ n → line_of (c ∷ t) ≡ line_with c n
+with-numbers : (c : ℕ) (t : List ℕ) {n : Option Numbers} → numbers_at (c ∷ t) 1 ≡ n → line_of (c ∷ t) ≡ line_with c n
 unfolding line_of
 with-numbers c t e = ap (line_with c) e
 

@@ -11,13 +11,12 @@ use lib.Seq.{drop-drop}
 use borrow.Author.Tests.{le-leb, lt-leb}
 use Rattle.lemmas.proofs.Cases.{by-ltb, by-leb}
 use Rattle.text.specs.Writing.{joined}
+use Rattle.std.specs.Prelude.{Option, Some, None}
 use Rattle.uplink.specs.declared.Line.{Line}
-use Rattle.uplink.specs.declared.Got.{Got}
-use Rattle.uplink.specs.declared.Got.TheVariants.{Whole, More}
 use Rattle.uplink.specs.declared.Fed.{Fed}
 use Rattle.uplink.specs.Grammar.{line_of}
 use Rattle.lemmas.specs.Keep.{put_if}
-use Rattle.uplink.specs.Fragments.{most_line, Held, part, long, fresh, held, hold, line_held, last_line, Step, step_from, step_of, FedBy, held_with, held_after, lines_by, held_after_all, lines_by_all, gotten, last_text, texts_of}
+use Rattle.uplink.specs.Fragments.{most_line, Held, part, long, fresh, hold, line_held, last_line, Step, step_from, step_of, FedBy, held_with, held_after, lines_by, held_after_all, lines_by_all, gotten, last_text, texts_of}
 use Rattle.uplink.proofs.Exact.{long-bad}
 
 -- ---- cut anywhere
@@ -119,25 +118,25 @@ fragments-input xs =
 
 -- ---- one step of all that
 
--- What a step that brought g says of the bytes s, of which the first stands at position i: without an LF among them there is no
+-- What a step that ended the line g, or none, says of the bytes s, of which the first stands at position i: without an LF among them there is no
 -- line, and they are all taken; else there is this line, and then those of the bytes behind the step.
-unfoldable Takes : ℕ → Held → List ℕ → Step → Got → Type 0
-Takes i k s x More = (lines_by k s ≡ []) × (held_after k s ≡ x.after) × (x.next ≡ i + length s)
-Takes i k s x (Whole l) =
+unfoldable Takes : ℕ → Held → List ℕ → Step → Option Line → Type 0
+Takes i k s x None = (lines_by k s ≡ []) × (held_after k s ≡ x.after) × (x.next ≡ i + length s)
+Takes i k s x (Some l) =
     (x.after ≡ fresh) × (i < x.next) × (x.next ≤ i + length s)
     × (lines_by k s ≡ l ∷ lines_by fresh (drop (x.next - i) s))
     × (held_after k s ≡ held_after fresh (drop (x.next - i) s))
 
-takes-lf : (i b : ℕ) (k : Held) (s : List ℕ) → eqb b 10 ≡ true → Takes i k (b ∷ s) (record { after = fresh; next = i + 1; got = Whole (line_held k) }) (Whole (line_held k))
+takes-lf : (i b : ℕ) (k : Held) (s : List ℕ) → eqb b 10 ≡ true → Takes i k (b ∷ s) (record { after = fresh; next = i + 1; line = Some (line_held k) }) (Some (line_held k))
 unfolding Takes lines_by held_after held_with
 takes-lf i b k s e =
     let n : i + 1 - i ≡ suc 0 = omega arith in
     (refl, omega arith, omega arith, rw (e, n), rw (e, n))
 
-takes-on : (i b : ℕ) (k : Held) (s : List ℕ) (x : Step) (g : Got) → eqb b 10 ≡ false → Takes (i + 1) (hold k b) s x g → Takes i k (b ∷ s) x g
+takes-on : (i b : ℕ) (k : Held) (s : List ℕ) (x : Step) (g : Option Line) → eqb b 10 ≡ false → Takes (i + 1) (hold k b) s x g → Takes i k (b ∷ s) x g
 unfolding Takes lines_by held_after held_with
-takes-on i b k s x More e t = (rw e t.0, rw e t.1, omega arith)
-takes-on i b k s x (Whole l) e t =
+takes-on i b k s x None e t = (rw e t.0, rw e t.1, omega arith)
+takes-on i b k s x (Some l) e t =
     let low : i + 1 < x.next = t.1 in
     let high : x.next ≤ i + 1 + length s = t.2 in
     let n : x.next - i ≡ suc (x.next - (i + 1)) = omega arith in
@@ -145,35 +144,35 @@ takes-on i b k s x (Whole l) e t =
 
 step-next : Bool → ℕ → ℕ → Held → List ℕ → Step
 step-next t i b k s =
-    cond t (record { after = fresh; next = i + 1; got = Whole (line_held k) }) (step_from (i + 1) (hold k b) s)
+    cond t (record { after = fresh; next = i + 1; line = Some (line_held k) }) (step_from (i + 1) (hold k b) s)
 
-takes-next : (t : Bool) (i b : ℕ) (k : Held) (s : List ℕ) → eqb b 10 ≡ t → Takes (i + 1) (hold k b) s (step_from (i + 1) (hold k b) s) (step_from (i + 1) (hold k b) s).got
-    → Takes i k (b ∷ s) (step-next t i b k s) (step-next t i b k s).got
+takes-next : (t : Bool) (i b : ℕ) (k : Held) (s : List ℕ) → eqb b 10 ≡ t → Takes (i + 1) (hold k b) s (step_from (i + 1) (hold k b) s) (step_from (i + 1) (hold k b) s).line
+    → Takes i k (b ∷ s) (step-next t i b k s) (step-next t i b k s).line
 unfolding step-next
 takes-next true i b k s e ih = takes-lf i b k s e
 takes-next false i b k s e ih = takes-on i b k s _ _ e ih
 
-step-takes : (s : List ℕ) (i : ℕ) (k : Held) → Takes i k s (step_from i k s) (step_from i k s).got
+step-takes : (s : List ℕ) (i : ℕ) (k : Held) → Takes i k s (step_from i k s) (step_from i k s).line
 unfolding step_from step-next Takes lines_by held_after
 step-takes [] i k = (refl, refl, omega arith)
 step-takes (b ∷ s) i k = takes-next (eqb b 10) i b k s refl (step-takes s (i + 1) (hold k b))
 
 -- The same of the code's step.
-module _ {k : Held} {s : List ℕ} {from : ℕ} {f : Fed} (h : FedBy k s from f) where
-  fed-takes : (g : Got) → f.got ≡ g → Takes from k (drop from s) (step_of f) g
+module _ {k : Held} {s : List ℕ} {from : ℕ} {f : Fed} {m : Held} (h : FedBy k s from f m) where
+  fed-takes : (g : Option Line) → f.line ≡ g → Takes from k (drop from s) (step_of f m) g
   unfolding step_of
   fed-takes g e =
-      subst (Takes from k _ (step_of f)) e
-      (subst (λ x. Takes from k (drop from s) x x.got) (sym h.step) (step-takes _ from k))
+      subst (Takes from k _ (step_of f m)) e
+      (subst (λ x. Takes from k (drop from s) x x.line) (sym h.step) (step-takes _ from k))
 
-  pub fed-more : f.got ≡ More → (lines_by k (drop from s) ≡ []) × (held_after k (drop from s) ≡ held f.reader) × (f.next ≡ from + length (drop from s))
+  pub fed-more : f.line ≡ None → (lines_by k (drop from s) ≡ []) × (held_after k (drop from s) ≡ m) × (f.next ≡ from + length (drop from s))
   unfolding Takes step_of
-  fed-more e = let t = fed-takes More e in (t.0, t.1, t.2)
+  fed-more e = let t = fed-takes None e in (t.0, t.1, t.2)
 
-  pub fed-whole : {l : Line} → f.got ≡ Whole l → (held f.reader ≡ fresh) × (lines_by k (drop from s) ≡ l ∷ lines_by fresh (drop f.next s)) × (held_after k (drop from s) ≡ held_after fresh (drop f.next s))
+  pub fed-whole : {l : Line} → f.line ≡ Some l → (m ≡ fresh) × (lines_by k (drop from s) ≡ l ∷ lines_by fresh (drop f.next s)) × (held_after k (drop from s) ≡ held_after fresh (drop f.next s))
   unfolding Takes step_of
   fed-whole {l} e =
-      let t = fed-takes (Whole l) e in
+      let t = fed-takes (Some l) e in
       let low : from < f.next = t.1 in
       let n : from + (f.next - from) ≡ f.next = omega arith in
       let rest : drop (f.next - from) (drop from s) ≡ drop f.next s =

@@ -2,6 +2,7 @@
 use Prim.Native.Nat.{ℕ, ◌+◌, ◌^◌, ◌≤◌, ◌<◌}
 use mathlib.Core.Path.{◌≡◌, refl, sym, ap}
 use mathlib.Core.Bool.{true}
+use mathlib.Core.Logic.{◌⊎◌, inl, inr}
 use mathlib.Core.List.{List, [], ◌∷◌}
 use native.Mathlib.Omega.{arith}
 use lib.ListN.{length}
@@ -49,13 +50,18 @@ module _ {a : Answer} {n : ℕ} where
   unfolding answer_text
   says-counted e q = cc
 
-pub says-denied : {a : Answer} {k : Refusal} {n : ℕ} → a ≡ Denied k n → named (ascii "no") (number k) ≡ answer_text a
+says-denied : {a : Answer} {k : Refusal} {n : ℕ} → a ≡ Denied k n → named (ascii "no") (number k) ≡ answer_text a
 unfolding answer_text
 says-denied e = ap answer_text (sym e)
 
-pub says-refused : {a : Answer} {k : Refusal} → a ≡ Refused k → named (ascii "no") (number k) ≡ answer_text a
+says-refused : {a : Answer} {k : Refusal} → a ≡ Refused k → named (ascii "no") (number k) ≡ answer_text a
 unfolding answer_text
 says-refused e = ap answer_text (sym e)
+
+-- A refusal, of either kind.
+pub says-no : {a : Answer} {k : Refusal} → ((n : ℕ) × (a ≡ Denied k n)) ⊎ (a ≡ Refused k) → named (ascii "no") (number k) ≡ answer_text a
+says-no (inl e) = says-denied e.1
+says-no (inr e) = says-refused e
 
 pub says-done : {a : Answer} → a ≡ Done → ascii "ok\n" ≡ answer_text a
 unfolding answer_text

@@ -1,149 +1,121 @@
--- Laws of the reader's step: a byte that is held, an LF, the fragment's end; and the line that a reader holds. Assumes nothing.
-use Prim.Native.Nat.{ℕ, ◌+◌, ◌≤◌, ◌<◌}
+-- Laws of the reader's step: the bytes that it holds, up to the first LF or to the fragment's end. Assumes nothing.
+use Prim.Native.Nat.{ℕ, zero, suc, ◌+◌, ◌-◌, ◌≤◌, ◌<◌, min}
 use mathlib.Core.Path.{◌≡◌, refl, sym, ap, ◌∙◌}
-use mathlib.Core.Bool.{Bool, true, false}
-use mathlib.Core.List.{List, [], ◌∷◌}
+use mathlib.Core.Bool.{Bool, true, false, cond}
+use mathlib.Core.List.{List, [], ◌∷◌, ◌++◌, append_assoc, append-nil}
 use native.Mathlib.Omega.{arith}
-use lib.ListN.{length, take, drop, get_or, set, length-set, drop_of_length-le}
-use lib.Seq.{length-take-le}
-use borrow.Author.Tests.{lt-ltb, le-ltb, eq-eqb, ne_eqb}
-use Rattle.lemmas.proofs.Heads.{next_word, take_set_next}
+use lib.Dec.{eqb}
+use lib.ListN.{length, take, drop, get_or, length-append, length-drop, drop_of_length-le}
+use lib.Seq.{length-take-le, take-length, take-append-add, take-append_seam}
+use borrow.Author.Tests.{lt-ltb}
+use Rattle.lemmas.proofs.Cases.{by-lt, by-ltb}
+use Rattle.std.specs.Bool.{◌==◌}
+use Rattle.std.specs.List.{position, position_from}
+use Rattle.std.proofs.lemmas.List.Quantifiers.{position-Some}
+use Rattle.std.proofs.lemmas.Iterator.Adapters.{position_from-zero}
+use Rattle.std.specs.Prelude.{Some, None}
 use Rattle.uplink.specs.declared.Line.{Line}
-use Rattle.uplink.specs.declared.Line.TheVariants.{Bad}
-use Rattle.uplink.specs.declared.Got.TheVariants.{Whole, More}
-use Rattle.uplink.specs.declared.Reader.{Reader}
-use Rattle.uplink.specs.Grammar.{line_of}
-use Rattle.uplink.specs.Fragments.{most_line, Held, part, long, fresh, Sound, held, hold, line_held, last_line, step_from, step_of, FedBy}
+use Rattle.uplink.specs.Fragments.{most_line, Held, part, long, fresh, held_by, hold, hold_all, line_held, last_line, step_from, step_of, FedBy}
 
--- The reader of three fields.
-abbrev pub reader : List ℕ → ℕ → Bool → Reader
-reader line len over = record { line = line; len = len; over = over }
+-- ---- more bytes
 
--- ---- one byte more
+hold-long : (x : List ℕ) → hold_all long x ≡ long
+unfolding hold hold_all
+hold-long [] = refl
+hold-long (b ∷ x) = hold-long x
 
-module _ (line : List ℕ) (len b : ℕ) (full : most_line ≡ length line) where
-  hold-byte : (over : Bool) → len < most_line → held (reader (set line len b) (len + 1) over) ≡ hold (held (reader line len over)) b
-  unfolding held hold
-  hold-byte true h = refl
-  hold-byte false h =
-      let n : length (take len line) ≡ len = length-take-le len line (omega arith) in
-      let k : length (take len line) < most_line = omega arith in
-      rw (lt-ltb _ most_line k) (ap part (take_set_next line len b (omega arith)))
+-- As many as a line has room for, and more than that.
+hold-part : (p x : List ℕ) → length p + length x ≤ most_line → hold_all (part p) x ≡ part (p ++ x)
+unfolding hold hold_all
+hold-part p [] h = ap part (sym (append-nil p))
+hold-part p (b ∷ x) h =
+    let room : length p < most_line = omega arith in
+    rw (lt-ltb (length p) most_line room)
+    (hold-part (p ++ (b ∷ [])) x (omega (arith, length-append p (b ∷ []))) ∙ ap part (append_assoc p (b ∷ []) x))
 
-  hold-none : (over : Bool) → most_line ≤ len → len ≤ most_line → held (reader line len true) ≡ hold (held (reader line len over)) b
-  unfolding held hold
-  hold-none true h k = refl
-  hold-none false h k =
-      let n : length (take len line) ≡ len = length-take-le len line (omega arith) in
-      let f : most_line ≤ length (take len line) = omega arith in
-      rw (le-ltb _ most_line f)
+hold-more : (p x : List ℕ) → length p ≤ most_line → most_line < length p + length x → hold_all (part p) x ≡ long
+unfolding hold hold_all
+hold-more p [] h k = absurd (omega arith)
+hold-more p (b ∷ x) h k =
+    by-ltb (λ t. hold_all (cond t (part (p ++ (b ∷ []))) long) x ≡ long) (length p) most_line
+    (λ r. hold-more (p ++ (b ∷ [])) x (omega (arith, length-append p (b ∷ []))) (omega (arith, length-append p (b ∷ []))))
+    (λ _. hold-long x)
 
--- ---- the line that a reader holds
+-- In a reader's fields, where n of the bytes x are taken.
+module _ (line : List ℕ) (len n : ℕ) (x : List ℕ) (full : most_line ≡ length line) (sound : len ≤ most_line) (taken : n ≡ min (length x) (most_line - len)) where
+  pub holds-more : (over : Bool) → n < length x → long ≡ hold_all (held_by line len over) x
+  holds-more true h = sym (hold-long x)
+  holds-more false h =
+      let l : length (take len line) ≡ len = length-take-le len line (omega arith) in
+      sym (hold-more (take len line) x (omega arith) (omega arith))
 
-whole-line : (p : List ℕ) → (length p ≡ 0 → ⊥) → Whole (line_held (part p)) ≡ last_line (part p)
-unfolding line_held last_line
-whole-line [] n = absurd (n refl)
-whole-line (b ∷ p) n = refl
+  pub holds-all : (over : Bool) {y : List ℕ} (z : List ℕ) → y ≡ take n x → length x ≤ n → held_by (take len line ++ (y ++ z)) (len + n) over ≡ hold_all (held_by line len over) x
+  holds-all true z e h = sym (hold-long x)
+  holds-all false {y} z e h =
+      let l : length (take len line) ≡ len = length-take-le len line (omega arith) in
+      let m : n ≡ length x = omega arith in
+      let k : y ≡ x = e ∙ ap (λ i. take i x) m ∙ take-length x in
+      let s : len + n ≡ length (take len line) + length x = omega arith in
+      let g : take (len + n) (take len line ++ (y ++ z)) ≡ take len line ++ x =
+      rw (k, s) (take-append-add (take len line) (x ++ z) (length x) ∙ ap (λ i. take len line ++ i) (take-append_seam x z)) in
+      ap part g ∙ sym (hold-part (take len line) x (omega arith))
 
-module _ (r : Reader) where
-  held-over : r.over ≡ true → held r ≡ long
-  unfolding held
-  held-over e = rw e
+-- ---- the end of the input
 
-  held-part : r.over ≡ false → held r ≡ part (take r.len r.line)
-  unfolding held
-  held-part e = rw e
-
-  pub line-over : r.over ≡ true → Bad ≡ line_held (held r)
-  unfolding line_held
-  line-over e = sym (ap line_held (held-over e))
-
-  pub line-part : r.over ≡ false → line_of (take r.len r.line) ≡ line_held (held r)
-  unfolding line_held
-  line-part e = sym (ap line_held (held-part e))
-
-  -- At the end of the input.
-  pub last-over : r.over ≡ true → Whole Bad ≡ last_line (held r)
-  unfolding last_line
-  last-over e = sym (ap last_line (held-over e))
-
-  pub last_none : r.over ≡ false → r.len ≡ 0 → More ≡ last_line (held r)
-  unfolding last_line
-  last_none e z = sym (cc (held-part e))
-
-  pub last-part : r.over ≡ false → (r.len ≡ 0 → ⊥) → most_line ≡ length r.line → r.len ≤ most_line → Whole (line_held (held r)) ≡ last_line (held r)
-  last-part e n full h =
-      cc (held-part e, whole-line (take r.len r.line) (λ z. n (sym (length-take-le r.len r.line (omega arith)) ∙ z)))
+-- No byte is held.
+pub last_none : (line : List ℕ) (len : ℕ) {over : Bool} → over ≡ false → len ≡ 0 → None ≡ last_line (held_by line len over)
+unfolding last_line
+last_none line len e z = rw (e, z)
 
 -- ---- the step
 
-module _ (s : List ℕ) (i : ℕ) (k : Held) where
-  step_end : length s ≤ i → record { after = k; next = i; got = More } ≡ step_from i k (drop i s)
-  unfolding step_from
-  step_end h = rw (drop_of_length-le s {i = i} h)
+-- Over bytes of which the first stands at position i: to the first LF, which is the n-th of them; and where there is none.
+step-lf : (s : List ℕ) (i : ℕ) (k : Held) (n : ℕ) → n < length s → eqb (get_or s n 0) 10 ≡ true → ((j : ℕ) → j < n → eqb (get_or s j 0) 10 ≡ false) → record { after = fresh; next = i + n + 1; line = Some (line_held (hold_all k (take n s))) } ≡ step_from i k s
+unfolding step_from hold_all
+step-lf [] i k n h e f = absurd (omega arith)
+step-lf (b ∷ s) i k zero h e f = let z : i + 0 + 1 ≡ i + 1 = omega arith in rw (e, z)
+step-lf (b ∷ s) i k (suc n) h e f =
+    let z : i + suc n + 1 ≡ i + 1 + n + 1 = omega arith in
+    rw (f 0 (omega arith), z) (step-lf s (i + 1) (hold k b) n (omega arith) e (λ j h. f (suc j) (omega arith)))
 
-  module _ (h : i < length s) where
-    step-lf : get_or s i 0 ≡ 10 → record { after = fresh; next = i + 1; got = Whole (line_held k) } ≡ step_from i k (drop i s)
-    unfolding step_from
-    step-lf e = rw (next_word s i 0 h, eq-eqb _ 10 e)
+step_none : (s : List ℕ) (i j : ℕ) (k : Held) → None ≡ position_from (λ b. b == 10) j s → record { after = hold_all k s; next = i + length s; line = None } ≡ step_from i k s
+unfolding step_from hold_all
+step_none [] i j k e = let z : i + 0 ≡ i = omega arith in rw z
+step_none (b ∷ s) i j k e = go (eqb b 10) (λ q. step_none s (i + 1) (j + 1) (hold k b) q) e
+  where
+    go : (t : Bool) → (None ≡ position_from (λ b. b == 10) (j + 1) s → record { after = hold_all (hold k b) s; next = i + 1 + length s; line = None } ≡ step_from (i + 1) (hold k b) s) → None ≡ cond t (Some j) (position_from (λ b. b == 10) (j + 1) s) → record { after = hold_all (hold k b) s; next = i + suc (length s); line = None } ≡ cond t (record { after = fresh; next = i + 1; line = Some (line_held k) }) (step_from (i + 1) (hold k b) s)
+    go true ih q = absurd (cc)
+    go false ih q = let z : i + suc (length s) ≡ i + 1 + length s = omega arith in rw z (ih q)
 
-    step-byte : (get_or s i 0 ≡ 10 → ⊥) → step_from (i + 1) (hold k (get_or s i 0)) (drop (i + 1) s) ≡ step_from i k (drop i s)
-    unfolding step_from
-    step-byte n = rw (next_word s i 0 h, ne_eqb _ 10 n)
+-- The bytes of a text from position i on, as the code takes them.
+rest-is : (s : List ℕ) (i m : ℕ) → m ≡ min i (length s) → take (length s - m) (drop m s) ≡ drop i s
+rest-is s i m e =
+    let all : take (length s - m) (drop m s) ≡ drop m s = ap (λ n. take n (drop m s)) (sym (length-drop m s)) ∙ take-length (drop m s) in
+    all ∙ by-lt (length s) i
+    (λ h. let a : m ≡ length s = omega arith in drop_of_length-le s {i = m} (omega arith) ∙ sym (drop_of_length-le s {i = i} (omega arith)))
+    (λ h. let a : m ≡ i = omega arith in ap (λ n. drop n s) a)
 
--- A step over the fragment s from position `from` on, where k was held, has come to position i without an LF. With what the fields
--- hold there, it goes on as it was to go.
-pub record Feeding (s : List ℕ) (from : ℕ) (k : Held) (line : List ℕ) (len : ℕ) (over : Bool) (i : ℕ) : Type 0 where
-  pub full : most_line ≡ length line
-  pub sound : len ≤ most_line
-  pub began : from ≤ i
-  pub within : from ≤ length s → i ≤ length s
-  pub step : step_from i (held (reader line len over)) (drop i s) ≡ step_from from k (drop from s)
+-- A step over the fragment s from position `from` on, where k was held: the bytes to the first LF, or all of them, were held, and the
+-- line was taken.
+module _ (s : List ℕ) (from : ℕ) (k : Held) {m : ℕ} (e : m ≡ min from (length s)) where
+  rest-long : length (take (length s - m) (drop m s)) ≡ length s - from
+  rest-long = ap length (rest-is s from m e) ∙ length-drop from s
 
-pub feeding-none : (s : List ℕ) (from : ℕ) (line : List ℕ) (len : ℕ) (over : Bool) → most_line ≡ length line → len ≤ most_line → Feeding s from (held (reader line len over)) line len over from
-feeding-none s from line len over full sound = record { full = full; sound = sound; began = omega arith; within = λ h. h; step = refl }
-
-module _ {s : List ℕ} {from : ℕ} {k : Held} {line : List ℕ} {len : ℕ} {over : Bool} {i : ℕ} (f : Feeding s from k line len over i) where
-  -- The fragment is used up.
-  pub feeding-end : length s ≤ i → FedBy k s from (record { reader = reader line len over; next = i; got = More })
+  pub fed-line : {n : ℕ} {a h : Held} {l : Line} → Some n ≡ position (λ b. b == 10) (take (length s - m) (drop m s)) → h ≡ hold_all k (take n (take (length s - m) (drop m s))) → l ≡ line_held h → a ≡ fresh → FedBy k s from (record { next = from + n + 1; line = Some l }) a
   unfolding step_of
-  feeding-end h =
+  fed-line {n} p q r new =
+      let t = position-Some (λ (b : ℕ). b == 10) (take (length s - m) (drop m s)) n 0 (sym p) in
       record {
-        sound = f.sound;
-        step = step_end s i _ h ∙ f.step;
-        within = f.within;
-        onward = omega arith;
+        step = cc (step-lf (take (length s - m) (drop m s)) from k n t.0 t.1 t.2, rest-is s from m e);
+        within = λ w. omega (arith, t.0, rest-long);
+        onward = λ w. omega arith;
       }
 
-  module _ (h : i < length s) where
-    -- An LF, a byte that is held, and one that is too many.
-    pub feeding-lf : {r : Reader} {l : Line} → get_or s i 0 ≡ 10 → l ≡ line_held (held (reader line len over)) → Sound r × (held r ≡ fresh) → FedBy k s from (record { reader = r; next = i + 1; got = Whole l })
-    unfolding step_of
-    feeding-lf {r} {l} e q new =
-        record {
-          sound = new.0;
-          step =
-              cc (step-lf s i (held (reader line len over)) h e);
-          within = omega arith;
-          onward = λ w. omega arith;
-        }
-
-    feeding-on : (l : List ℕ) (m : ℕ) (o : Bool) → most_line ≡ length l → m ≤ most_line → (get_or s i 0 ≡ 10 → ⊥) → held (reader l m o) ≡ hold (held (reader line len over)) (get_or s i 0) → Feeding s from k l m o (i + 1)
-    feeding-on l m o full sound n q =
-        record {
-          full = full;
-          sound = sound;
-          began = omega arith;
-          within = omega arith;
-          step =
-              cc (step-byte s i (held (reader line len over)) h n);
-        }
-
-    pub feeding-byte : (get_or s i 0 ≡ 10 → ⊥) → len < most_line → Feeding s from k (set line len (get_or s i 0)) (len + 1) over (i + 1)
-    feeding-byte n g =
-        feeding-on _ (len + 1) over (f.full ∙ sym (length-set line len _)) (omega arith) n
-        (hold-byte line len _ f.full over g)
-
-    pub feeding-over : (get_or s i 0 ≡ 10 → ⊥) → most_line ≤ len → Feeding s from k line len true (i + 1)
-    feeding-over n g =
-        feeding-on line len true f.full f.sound n (hold-none line len _ f.full over g f.sound)
+  pub fed-none : {h : Held} → None ≡ position (λ b. b == 10) (take (length s - m) (drop m s)) → h ≡ hold_all k (take (length s - m) (drop m s)) → FedBy k s from (record { next = from + length (take (length s - m) (drop m s)); line = None }) h
+  unfolding step_of
+  fed-none p q =
+      record {
+        step = cc (step_none (take (length s - m) (drop m s)) from 0 k (p ∙ position_from-zero (λ (b : ℕ). b == 10) (take (length s - m) (drop m s))), rest-is s from m e);
+        within = λ w. omega (arith, rest-long);
+        onward = λ w. omega (arith, rest-long);
+      }

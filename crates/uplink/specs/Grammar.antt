@@ -1,16 +1,15 @@
 -- The lines of input (document 01, "The bench program and one whole session"): `s N`, `q G SIZE`, `r G OFFSET`, `x G`, `t`,
 -- `b OFFSET`, `p`; one space between, decimals without sign or leading zero, at most 4,294,967,295. First the text of each call,
--- then the call that a text is; proofs/Grammar.antt shows that each is the other's inverse. Assumes nothing.
-use Rattle.std.specs.Prelude.{ℕ, ◌+◌, ◌≤◌, cond, List, [], ◌∷◌, ◌++◌, leb, eqb, length, get_or}
+-- then the call that a text is; proofs/Exact.antt shows that each is the other's inverse. Assumes nothing.
+use Rattle.std.specs.Prelude.{ℕ, ◌+◌, ◌≤◌, cond, List, [], ◌∷◌, ◌++◌, leb, eqb, length, get_or, Option, Some, None}
 use Rattle.model.specs.declared.Operation.{Operation}
 use Rattle.model.specs.declared.Operation.TheVariants.{Allocate, Free, Reset}
 use Rattle.model.specs.Ascii.{ascii}
 use Rattle.model.specs.Text.{decimal}
 use Rattle.text.specs.declared.Number.{Number}
-use Rattle.text.specs.declared.Number.TheVariants.{Read, Nothing}
 use Rattle.text.specs.Numbers.{largest, number_at}
 use Rattle.uplink.specs.declared.Numbers.{Numbers}
-use Rattle.uplink.specs.declared.Numbers.TheVariants.{None, One, Two, Wrong}
+use Rattle.uplink.specs.declared.Numbers.TheVariants.{Zero, One, Two}
 use Rattle.uplink.specs.declared.Line.{Line}
 use Rattle.uplink.specs.declared.Line.TheVariants.{Init, Group, Trim, Query, Listing, Bad}
 
@@ -46,20 +45,22 @@ IsCall Bad = ⊥
 
 -- ---- the numbers of a line from a position on, each after one space, up to the line's end
 
-unfoldable pub second_of : List ℕ → ℕ → Number → Numbers
-second_of s a (Read b n) = cond (leb (length s) n) (Two a b) Wrong
-second_of s a Nothing = Wrong
+unfoldable pub second_of : List ℕ → ℕ → Option Number → Option Numbers
+second_of s a (Some b) = cond (leb (length s) b.next) (Some (Two a b.value)) None
+second_of s a None = None
 
 -- Behind the number a, which ends at position `at`.
-unfoldable pub second_at : List ℕ → ℕ → ℕ → Numbers
-second_at s at a = cond (leb (length s) at) (One a) (cond (eqb (get_or s at 0) 32) (second_of s a (number_at s (at + 1))) Wrong)
+unfoldable pub second_at : List ℕ → ℕ → ℕ → Option Numbers
+second_at s at a =
+    cond (leb (length s) at) (Some (One a)) (cond (eqb (get_or s at 0) 32) (second_of s a (number_at s (at + 1))) None)
 
-unfoldable pub first_of : List ℕ → Number → Numbers
-first_of s (Read a n) = second_at s n a
-first_of s Nothing = Wrong
+unfoldable pub first_of : List ℕ → Option Number → Option Numbers
+first_of s (Some a) = second_at s a.next a.value
+first_of s None = None
 
-unfoldable pub numbers_at : List ℕ → ℕ → Numbers
-numbers_at s at = cond (leb (length s) at) None (cond (eqb (get_or s at 0) 32) (first_of s (number_at s (at + 1))) Wrong)
+unfoldable pub numbers_at : List ℕ → ℕ → Option Numbers
+numbers_at s at =
+    cond (leb (length s) at) (Some Zero) (cond (eqb (get_or s at 0) 32) (first_of s (number_at s (at + 1))) None)
 
 -- ---- the call by its letter and its numbers
 
@@ -76,11 +77,11 @@ line_of_two c a b =
     cond (eqb c 113) (Group (record { group = a; operation = Allocate b }))
     (cond (eqb c 114) (Group (record { group = a; operation = Free b })) Bad)
 
-unfoldable pub line_with : ℕ → Numbers → Line
-line_with c None = bare_line c
-line_with c (One a) = line_of_one c a
-line_with c (Two a b) = line_of_two c a b
-line_with c Wrong = Bad
+unfoldable pub line_with : ℕ → Option Numbers → Line
+line_with c (Some Zero) = bare_line c
+line_with c (Some (One a)) = line_of_one c a
+line_with c (Some (Two a b)) = line_of_two c a b
+line_with c None = Bad
 
 -- The call that a line is, which is given without its LF.
 unfoldable pub line_of : List ℕ → Line

@@ -1,91 +1,88 @@
 // A reader that takes the input in fragments and holds an unfinished line.
-ghost use Rattle.std.specs.Prelude.{◌≡◌};
-ghost use Rattle.uplink.specs.Fragments.{Sound, held, fresh, line_held, last_line, FedBy};
+ghost use Rattle.std.specs.Prelude.{◌≡◌, ◌==◌, position};
+ghost use Rattle.uplink.specs.Fragments.{held, fresh, hold_all, line_held, last_line, FedBy};
 
-use crate::{Ended, Fed, Got, Line, MOST_LINE, Reader};
+use crate::{Fed, Line, MOST_LINE, Reader};
 
-pub fn new_reader() -> Reader
-    ensures { Sound result × (held result ≡ fresh) }
+// Where the first LF stands.
+fn first_lf(s: &[u8]) -> Option<usize>
+    ensures { result ≡ position (λ b. b == 10) s.now }
 {
-    Reader {
-        line: [0u8; MOST_LINE],
-        len: 0,
-        over: false,
-    }
+    s.iter().position(|b| *b == b'\n')
 }
 
-// Takes the bytes of a fragment from a position on, up to and with the first LF. Where there is none the fragment is used up.
-pub fn feed(reader: Reader, fragment: &[u8], from: usize) -> Fed
-    requires { Sound reader }
-    ensures { FedBy (held reader) fragment.now from result }
-{
-    // in locals: a loop over the fields of a struct is several times slower
-    let mut line = reader.line;
-    let mut len = reader.len;
-    let mut over = reader.over;
-    let mut i = from;
-    while i < fragment.len() {
-        let b = fragment[i];
-        if b == b'\n' {
-            let call = held_line(Reader { line, len, over });
-            let reader = new_reader();
-            return Fed {
-                reader,
-                next: i + 1,
-                got: Got::Whole(call),
-            };
+impl Reader {
+    #[tactic(auto, unfolding(crate::specs::Fragments::held))]
+    pub fn new() -> Reader
+        ensures { held result ≡ fresh }
+    {
+        Reader {
+            line: [0; MOST_LINE],
+            len: 0,
+            over: false,
         }
-        i += 1;
-        if len < MOST_LINE {
-            line[len] = b;
-            len += 1;
-            continue;
+    }
+
+    // Takes the bytes of a fragment from a position on, up to and with the first LF. Where there is none the fragment is used up.
+    pub fn feed(&mut self, fragment: &[u8], from: usize) -> Fed
+        ensures { FedBy (held self.old) fragment.now from result (held self.new) }
+    {
+        let rest = &fragment[from.min(fragment.len())..];
+        match first_lf(rest) {
+            Some(n) => {
+                self.hold(&rest[..n]);
+                Fed {
+                    next: from + n + 1,
+                    line: Some(self.take()),
+                }
+            }
+            None => {
+                self.hold(rest);
+                Fed {
+                    next: from + rest.len(),
+                    line: None,
+                }
+            }
         }
-        over = true;
     }
-    Fed {
-        reader: Reader { line, len, over },
-        next: i,
-        got: Got::More,
-    }
-}
 
-// The end of the input: an unfinished line counts if it has a byte.
-pub fn finish(reader: Reader) -> Ended
-    requires { Sound reader }
-    ensures { Sound result.reader × (held result.reader ≡ fresh) × (result.got ≡ last_line (held reader)) }
-{
-    let fresh = new_reader();
-    let over = reader.over;
-    let len = reader.len;
-    if over {
-        return Ended {
-            reader: fresh,
-            got: Got::Whole(Line::Bad),
-        };
+    // Holds more bytes of the line. Of those that are more than a line has it keeps only that there are some.
+    fn hold(&mut self, bytes: &[u8])
+        ensures { held self.new ≡ hold_all (held self.old) bytes.now }
+    {
+        let taken = bytes.len().min(MOST_LINE - self.len);
+        let end = self.len + taken;
+        self.line[self.len..end].copy_from_slice(&bytes[..taken]);
+        self.len = end;
+        if taken < bytes.len() {
+            self.over = true;
+        }
     }
-    if len == 0 {
-        return Ended {
-            reader: fresh,
-            got: Got::More,
-        };
-    }
-    let call = held_line(reader);
-    Ended {
-        reader: fresh,
-        got: Got::Whole(call),
-    }
-}
 
-// The call that the held line is. One that is too long is bad whatever they are.
-fn held_line(reader: Reader) -> Line
-    requires { Sound reader }
-    ensures { result ≡ line_held (held reader) }
-{
-    if reader.over {
-        return Line::Bad;
+    // The end of the input: an unfinished line counts if it has a byte. The reader is as new.
+    #[tactic(auto, unfolding(crate::specs::Fragments::held, crate::specs::Fragments::last_line, crate::specs::Fragments::line_held))]
+    pub fn finish(&mut self) -> Option<Line>
+        ensures ready { held self.new ≡ fresh }
+        ensures line { result ≡ last_line (held self.old) }
+    {
+        if self.len == 0 && !self.over {
+            return None;
+        }
+        Some(self.take())
     }
-    let line = reader.line;
-    let len = reader.len;
-    crate::grammar::parse(&line[..len])
+
+    // The call that the held line is; one that is too long is bad whatever its bytes are. The reader is as new.
+    #[tactic(auto, unfolding(crate::specs::Fragments::held, crate::specs::Fragments::line_held))]
+    fn take(&mut self) -> Line
+        ensures ready { held self.new ≡ fresh }
+        ensures line { result ≡ line_held (held self.old) }
+    {
+        let Reader { line, len, over } = *self;
+        *self = Reader::new();
+        if over {
+            Line::Bad
+        } else {
+            crate::grammar::parse(&line[..len])
+        }
+    }
 }

@@ -2,6 +2,9 @@
 // bytes come in lent slices, and texts go into lent buffers.
 #![tactic(auto)]
 
+ghost use Rattle.std.specs.Prelude.{◌≤◌};
+ghost use Rattle.uplink.specs.declared.TheConstants.{MOST_LINE};
+
 use model::Call;
 
 pub mod answers;
@@ -13,7 +16,8 @@ pub const MOST_LINE: usize = 64;
 
 // What a line asks: init with a number of pages, a group's call, trim, query of an offset, or the listing; or nothing that is
 // understood.
-#[derive(Clone, Copy)]
+// `Bad` is a case and no `None`: a bad line is a line with a reply of its own, as the replies and the session are defined.
+#[derive(Clone, Copy, PartialEq, Eq, Debug)]
 pub enum Line {
     Init(u32),
     Group(Call),
@@ -24,40 +28,26 @@ pub enum Line {
 }
 
 // The numbers after a line's letter.
-#[derive(Clone, Copy)]
+#[derive(Clone, Copy, PartialEq, Eq, Debug)]
 enum Numbers {
-    None,
+    Zero,
     One(u32),
     Two(u32, u32),
-    Wrong,
 }
 
 // An unfinished line: its first bytes, how many they are, and whether there were more than a line has.
+// An array with its length beside it, since no memory is allocated.
 #[derive(Clone, Copy)]
 pub struct Reader {
     line: [u8; MOST_LINE],
     len: usize,
     over: bool,
+    ghost sound: { len ≤ MOST_LINE },
 }
 
-// What the bytes brought: a whole line, or none yet.
-#[derive(Clone, Copy)]
-pub enum Got {
-    Whole(Line),
-    More,
-}
-
-// A step of the reader: what it holds afterwards, the position after the bytes that it took, and what these brought.
-#[derive(Clone, Copy)]
+// What a step of the reader answers: the position after the bytes that it took, and the line that they ended, if they ended one.
+#[derive(Clone, Copy, PartialEq, Eq, Debug)]
 pub struct Fed {
-    pub reader: Reader,
     pub next: usize,
-    pub got: Got,
-}
-
-// What the end of the input brings. The reader is as new.
-#[derive(Clone, Copy)]
-pub struct Ended {
-    pub reader: Reader,
-    pub got: Got,
+    pub line: Option<Line>,
 }

@@ -1,15 +1,15 @@
 -- What is read of, and done to, words that pass the test, in the terms of their zone. Assumes nothing.
 use Prim.Native.Nat.{ℕ, suc, ◌+◌, ◌-◌, ◌≤◌, ◌<◌}
-use mathlib.Core.Path.{◌≡◌, refl, sym, ap, ◌∙◌}
+use mathlib.Core.Path.{◌≡◌, refl, ap, ◌∙◌}
 use mathlib.Core.Bool.{true, false}
 use mathlib.Core.List.{List, [], ◌∷◌}
 use native.Mathlib.Omega.{arith}
 use lib.Dec.{eqb}
 use lib.ListN.{length, get_or, set, get_or-eq_default}
-use borrow.Author.Tests.{eq-eqb, ne_eqb, le-leb, lt-leb}
+use borrow.Author.Tests.{ne_eqb, le-leb}
 use Rattle.lemmas.specs.Parts.{mid, put_mid}
 use Rattle.lemmas.specs.Zeros.{zeros}
-use Rattle.lemmas.proofs.Cases.{by_eqb}
+use Rattle.lemmas.proofs.Cases.{by-lt}
 use Rattle.lemmas.proofs.Parts.{length-mid, length-put, get_or-put}
 use Rattle.lemmas.proofs.Zeros.{length-zeros, get_or-zeros}
 use Rattle.model.specs.Numbers.{most_group, class_count}
@@ -67,12 +67,9 @@ module _ (w : List ℕ) (e : is_zone w ≡ true) where
   unfolding z
   live-read = let a = counts in omega arith
 
-  pub idle-read : eqb (touched_in w) (chained_in w) ≡ idle_zone (zone_of w)
+  pub idle-read : eqb (live_chunks (zone_of w)) 0 ≡ idle_zone (zone_of w)
   unfolding z
-  idle-read =
-      let a = counts in
-      by_eqb (λ t. eqb (touched_in w) (chained_in w) ≡ t) (live_chunks z) 0 (λ q. eq-eqb _ (chained_in w) (omega arith)) (λ n. ne_eqb _ (chained_in w) (λ q. n (omega arith)))
-      ∙ idle-live z v
+  idle-read = idle-live z v
 
   -- ---- full
 
@@ -80,23 +77,18 @@ module _ (w : List ℕ) (e : is_zone w ≡ true) where
   nil-length [] = refl
   nil-length (x ∷ l) = ne_eqb (suc (length l)) 0 (omega arith)
 
-  pub full-not : touched_in w < chunks (class_in w) → false ≡ full (zone_of w)
+  -- Where no chunk is untouched, the zone is full just if the chain is empty.
+  pub full-chain : chunks (zone_of w).class ≤ touched (zone_of w) → eqb (chained_in w) 0 ≡ full (zone_of w)
   unfolding z
-  full-not l = rw (lt-leb _ (touched z) (rw (h.handed, h.class) at l))
-
-  pub full-chain : chunks (class_in w) ≤ touched_in w → eqb (chained_in w) 0 ≡ full (zone_of w)
-  unfolding z
-  full-chain l = rw (le-leb _ (touched z) (rw (h.handed, h.class) at l), h.chained) (nil-length z.chain)
+  full-chain l = rw (le-leb _ (touched z) l, h.chained) (nil-length z.chain)
 
   -- ---- one chunk
 
-  pub owner-far : (i : ℕ) → slot_count ≤ i → 0 ≡ get_or (zone_of w).owners i 0
+  pub owner-read : (i : ℕ) → owner_in (get_or w (head_words + i) 0) ≡ get_or (zone_of w).owners i 0
   unfolding z
-  owner-far i l = let a = touched-most z v in sym (get_or-eq_default z.owners 0 {n = i} (omega arith))
-
-  pub owner-read : (i : ℕ) → i < slot_count → owner_in (get_or w (head_words + i) 0) ≡ get_or (zone_of w).owners i 0
-  unfolding z
-  owner-read i l = rw (h.slots i l) (owner-half z v i)
+  owner-read i =
+      by-lt i slot_count (λ l. rw (h.slots i l) (owner-half z v i))
+      (λ l. let a = touched-most z v in rw (get_or-eq_default w 0 {n = head_words + i} (let s = zone-size in omega arith), get_or-eq_default z.owners 0 {n = i} (omega arith)))
 
   -- ---- the steps
 

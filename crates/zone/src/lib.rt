@@ -19,51 +19,36 @@ use layout::*;
 use model::numbers::CLASS_COUNT;
 
 // Whether the head's numbers are those of a zone.
+#[tactic(auto, unfolding(crate::specs::Decoding::head_legal))]
 fn head_is_legal(part: &[u32]) -> bool
     ensures { result ≡ head_legal part.now }
 {
-    if part.len() != WORDS {
-        return false;
-    }
-    if part[AT_KIND] != KIND_ZONE {
-        return false;
-    }
-    let class = part[AT_CLASS];
-    if CLASS_COUNT <= class {
-        return false;
-    }
-    let touched = part[AT_TOUCHED];
-    if sizes::chunk_count(class) < touched {
-        return false;
-    }
-    part[AT_CHAINED] <= touched
+    part.len() == WORDS
+        && part[AT_KIND] == KIND_ZONE
+        && part[AT_CLASS] < CLASS_COUNT
+        && part[AT_TOUCHED] <= sizes::chunk_count(part[AT_CLASS])
+        && part[AT_CHAINED] <= part[AT_TOUCHED]
 }
 
 // Whether the other words fit the head.
+#[tactic(auto, unfolding(crate::specs::Decoding::body_legal))]
 fn body_is_legal(part: &[u32]) -> bool
     requires { (length part.now ≡ zone_words) × (touched_in part.now ≤ slot_count) × (chained_in part.now ≤ touched_in part.now) }
     ensures { result ≡ body_legal part.now }
 {
-    if !scan::is_zero(&part[AT_REST..HEAD]) {
-        return false;
-    }
     let touched = part[AT_TOUCHED];
-    let chained = part[AT_CHAINED];
-    if !slots::are_legal(&part[HEAD..WORDS], touched, chained) {
-        return false;
-    }
-    let end = HEAD + model::wide(touched);
-    scan::is_zero(&part[end..])
+    let end = HEAD + touched as usize;
+    scan::is_zero(&part[AT_REST..HEAD])
+        && slots::are_legal(&part[HEAD..WORDS], touched, part[AT_CHAINED])
+        && scan::is_zero(&part[end..])
 }
 
 // Whether the words are the encoding of a valid zone. Each word is read once, and those of the chain once more.
+#[tactic(auto, unfolding(crate::specs::Decoding::is_zone))]
 pub fn check(part: &[u32]) -> bool
     ensures { result ≡ is_zone part.now }
 {
-    if !head_is_legal(part) {
-        return false;
-    }
-    body_is_legal(part)
+    head_is_legal(part) && body_is_legal(part)
 }
 
 // Sets the words up as a zone of the class whose chunk 0 is granted to the group, whatever they held.
@@ -84,13 +69,13 @@ pub fn grant(part: &mut [u32], group: u32) -> u32
     requires { (is_zone part.old ≡ true) × (full (zone_of part.old) ≡ false) × (0 < group) × (group ≤ most_group) }
     ensures { (result ≡ next_chunk (zone_of part.old)) × (part.new ≡ zone_encoding (granted group (zone_of part.old))) }
 {
-    let class = part[AT_CLASS];
     let touched = part[AT_TOUCHED];
-    if sizes::has_chunk(class, touched) {
+    if sizes::has_chunk(part[AT_CLASS], touched) {
         stores::hand_out(part, touched, group);
-        return touched;
+        touched
+    } else {
+        stores::take_last(part, group)
     }
-    stores::take_last(part, group)
 }
 
 // Puts the chunk, which is live, at the front of the return chain.
@@ -101,62 +86,55 @@ pub fn put_back(part: &mut [u32], chunk: u32)
     stores::put_last(part, chunk);
 }
 
-// The chunk's group, 0 where it is not live or there is none of that number.
-pub fn owner(part: &[u32], chunk: u32) -> u32
-    requires { is_zone part.now ≡ true }
-    ensures { result ≡ get_or (zone_of part.now).owners chunk 0 }
-{
-    let at = chunk as usize;
-    if SLOTS <= at {
-        return 0;
+// The words of a valid zone, lent for reading: whoever makes one shows that the words have passed the check.
+#[derive(Clone, Copy)]
+pub struct Part<'a> {
+    pub words: &'a [u32],
+    pub ghost valid: { is_zone words.now ≡ true },
+}
+
+impl Part<'_> {
+    // The chunk's group, 0 where it is not live or there is none of that number.
+    pub fn owner(self, chunk: u32) -> u32
+        ensures { result ≡ get_or (zone_of self.entry.words.now).owners chunk 0 }
+    {
+        let slot = self.words.get(HEAD + chunk as usize).copied().unwrap_or(0);
+        let state = slot % HALF;
+        if state < POSITION_BASE { state } else { 0 }
     }
-    let state = part[HEAD + at] % HALF;
-    if state < POSITION_BASE {
-        return state;
+
+    // The zone's class.
+    pub fn class(self) -> u32
+        ensures { result ≡ (zone_of self.entry.words.now).class }
+    {
+        self.words[AT_CLASS]
     }
-    0
-}
 
-// The zone's class.
-pub fn class_of(part: &[u32]) -> u32
-    requires { is_zone part.now ≡ true }
-    ensures { result ≡ (zone_of part.now).class }
-{
-    part[AT_CLASS]
-}
-
-// The chunks handed out since set-up.
-pub fn touched(part: &[u32]) -> u32
-    requires { is_zone part.now ≡ true }
-    ensures { result ≡ touched (zone_of part.now) }
-{
-    part[AT_TOUCHED]
-}
-
-// The live chunks: those handed out that are not on the chain.
-pub fn live_count(part: &[u32]) -> u32
-    requires { is_zone part.now ≡ true }
-    ensures { result ≡ live_chunks (zone_of part.now) }
-{
-    part[AT_TOUCHED] - part[AT_CHAINED]
-}
-
-// Whether no chunk is live.
-pub fn is_idle(part: &[u32]) -> bool
-    requires { is_zone part.now ≡ true }
-    ensures { result ≡ idle_zone (zone_of part.now) }
-{
-    part[AT_TOUCHED] == part[AT_CHAINED]
-}
-
-// Whether every chunk is live: none is untouched, and none was returned.
-pub fn is_full(part: &[u32]) -> bool
-    requires { is_zone part.now ≡ true }
-    ensures { result ≡ full (zone_of part.now) }
-{
-    let class = part[AT_CLASS];
-    if sizes::has_chunk(class, part[AT_TOUCHED]) {
-        return false;
+    // The chunks handed out since set-up.
+    pub fn touched(self) -> u32
+        ensures { result ≡ touched (zone_of self.entry.words.now) }
+    {
+        self.words[AT_TOUCHED]
     }
-    part[AT_CHAINED] == 0
+
+    // The live chunks: those handed out that are not on the chain.
+    pub fn live_count(self) -> u32
+        ensures { result ≡ live_chunks (zone_of self.entry.words.now) }
+    {
+        self.touched() - self.words[AT_CHAINED]
+    }
+
+    // Whether no chunk is live.
+    pub fn is_idle(self) -> bool
+        ensures { result ≡ idle_zone (zone_of self.entry.words.now) }
+    {
+        self.live_count() == 0
+    }
+
+    // Whether every chunk is live: none is untouched, and none was returned.
+    pub fn is_full(self) -> bool
+        ensures { result ≡ full (zone_of self.entry.words.now) }
+    {
+        !sizes::has_chunk(self.class(), self.touched()) && self.words[AT_CHAINED] == 0
+    }
 }

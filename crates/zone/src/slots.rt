@@ -17,14 +17,12 @@ struct Tally {
     seen: u32,
 }
 
+// The slot of a live chunk.
 fn is_live(slot: u32) -> bool
     ensures { result ≡ is_live slot }
 {
     let state = slot % HALF;
-    if state == 0 {
-        return false;
-    }
-    state < POSITION_BASE
+    0 < state && state < POSITION_BASE
 }
 
 // All slots are read, and nothing leaves the loop before its end: so it runs in vectors.
@@ -34,19 +32,13 @@ fn survey(slots: &[u32]) -> Tally
 {
     let mut live: u32 = 0;
     let mut seen: u32 = 0;
-    let mut i = 0;
-    while i < slots.len() {
-        let slot = slots[i];
-        seen |= slot;
-        if is_live(slot) {
+    for slot in slots {
+        seen |= *slot;
+        if is_live(*slot) {
             live += 1;
         }
-        i += 1;
     }
-    Tally {
-        live: live,
-        seen: seen,
-    }
+    Tally { live, seen }
 }
 
 // Whether the chunk at each position below `chained` has that position. No read waits for another one's.
@@ -55,11 +47,9 @@ fn are_in_place(slots: &[u32], chained: u32) -> bool
     ensures { result ≡ all_below (in_place slots.now) chained }
 {
     let mut wrong: u32 = 0;
-    let mut i: u32 = 0;
-    while i < chained {
-        let chunk = model::wide(slots[model::wide(i)] / HALF);
-        wrong |= slots[chunk] % HALF ^ POSITION_BASE + i;
-        i += 1;
+    for i in 0..chained {
+        let chunk = slots[i as usize] / HALF;
+        wrong |= slots[chunk as usize] % HALF ^ POSITION_BASE + i;
     }
     wrong == 0
 }
@@ -70,17 +60,10 @@ pub fn are_legal(slots: &[u32], touched: u32, chained: u32) -> bool
     ensures { result ≡ slots_legal slots.now touched chained }
 {
     let middle = chained as usize;
-    let end = touched as usize;
-    let upper = survey(&slots[middle..end]);
-    if HALF <= upper.seen {
-        return false;
-    }
-    let lower = survey(&slots[0..middle]);
-    if FAR <= lower.seen {
-        return false;
-    }
-    if lower.live + upper.live != touched - chained {
-        return false;
-    }
-    are_in_place(slots, chained)
+    let lower = survey(&slots[..middle]);
+    let upper = survey(&slots[middle..touched as usize]);
+    upper.seen < HALF
+        && lower.seen < FAR
+        && lower.live + upper.live == touched - chained
+        && are_in_place(slots, chained)
 }

@@ -45,8 +45,8 @@ fn documents() -> Vec<Document> {
         .collect()
 }
 
-/// Those that say what is so: all but the note on how the repository came to today's Rattle, which names what stood before, and the notes
-/// of landings before the last one, which name what stood at theirs.
+/// Those that say what is so: all but the notes on how the repository came to today's Rattle and to its forms, which name what stood
+/// before, and the notes of landings before the last one, which name what stood at theirs.
 fn held_documents() -> Vec<Document> {
     let note = |document: &Document| {
         let name = document.path.strip_prefix("docs/landings/");
@@ -57,7 +57,9 @@ fn held_documents() -> Vec<Document> {
     let last = last.expect("a landing's note").path.clone();
     all.into_iter()
         .filter(|document| !note(document) || document.path == last)
-        .filter(|document| document.path != "docs/PORT.md")
+        .filter(|document| {
+            !["docs/PORT.md", "docs/DESIGN-PASS.md"].contains(&document.path.as_str())
+        })
         .collect()
 }
 

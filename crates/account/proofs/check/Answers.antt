@@ -12,9 +12,6 @@ returns-then-words-lt-FIGURE_WORDS c = too_short _ c.if-words-lt-FIGURE_WORDS.tr
 pub returns-then-not-check : goal.returns-then-not-check
 returns-then-not-check c = no-state _ (sym c.check.ensures ∙ c.if-not-check.true)
 
-pub slice_bounds-figures_fit-end : goal.slice_bounds-figures_fit-end
-slice_bounds-figures_fit-end c = sym (length-take-le figure_words c.args.words.now (omega (arith, c.if-words-lt-FIGURE_WORDS.false)))
-
 pub figures_fit-requires : goal.figures_fit-requires
 figures_fit-requires c =
     (length-take-le figure_words c.args.words.now (omega (arith, c.if-words-lt-FIGURE_WORDS.false)), sym c.check.ensures ∙ c.if-not-check.false)

@@ -1,20 +1,17 @@
 -- `figures_fit` meets its contract. Assumes nothing.
 use native.Mathlib.Omega.{arith}
 use mathlib.Core.Path.{refl, sym, ◌∙◌}
-use Rattle.account.proofs.Checked.{state-most, state-inside, state-holds, no-figures, rest-decides, empty-tally}
+use Rattle.account.proofs.Checked.{state-most, state-inside, state-holds, no-figures, rest-decides}
 use Rattle.account.proofs.figures_fit.Goals as goal
 
 pub words_for-e-requires : goal.words_for-e-requires
 words_for-e-requires c = omega (arith, c.pages-n.ensures, state-most _ c.requires.1)
 
-pub slice_bounds-tally-end : goal.slice_bounds-tally-end
-slice_bounds-tally-end c = state-inside _ c.requires.1 _ c.pages-n.ensures _ c.words_for-e.ensures
+pub slice_bounds-pages-end : goal.slice_bounds-pages-end
+slice_bounds-pages-end c = state-inside _ c.requires.1 _ c.pages-n.ensures _ c.words_for-e.ensures
 
-pub tally-requires : goal.tally-requires
-tally-requires c = record {
-  holds = state-holds _ c.requires.1 _ c.pages-n.ensures _ c.words_for-e.ensures;
-  tallied = empty-tally;
-}
+pub invariant_of-pages : goal.invariant_of-pages
+invariant_of-pages c = record { held = state-holds _ c.requires.1 _ c.pages-n.ensures _ c.words_for-e.ensures }
 
 pub overflow_cast-n : goal.overflow_cast-n
 overflow_cast-n c = omega (arith, c.pages-n.ensures, state-most _ c.requires.1)

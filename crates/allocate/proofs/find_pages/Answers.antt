@@ -3,10 +3,5 @@ use mathlib.Core.Path.{sym, ◌∙◌}
 use Rattle.allocate.proofs.Sourced.{first_run}
 use Rattle.allocate.proofs.find_pages.Goals as goal
 
-pub find_again-requires : goal.find_again-requires
-find_again-requires c =
-    (c.requires, sym c.find_run.ensures ∙ c.in-Missed.is)
-
-pub returns-in-Chosen : goal.returns-in-Chosen
-returns-in-Chosen c =
-    first_run c.requires _ c.find_run.ensures c.in-Chosen.is
+pub returns-then-is_some : goal.returns-then-is_some
+returns-then-is_some c = first_run c.requires _ c.find_run-choice.ensures (sym c.is_some.ensures ∙ c.if-is_some.true)

@@ -1,12 +1,8 @@
 -- `renew` meets its contract. Assumes nothing.
 use Rattle.allocate.proofs.Opened.{renew-page, renew-answer, behind-words, behind-zone, renewed-words, renewed-room, renewed}
 use Rattle.steps.proofs.Lent.{lent}
-use mathlib.Core.Path.{◌∙◌}
 use native.Mathlib.Omega.{arith}
 use Rattle.allocate.proofs.renew.Goals as goal
-
-pub spare_behind-requires : goal.spare_behind-requires
-spare_behind-requires c = c.requires.asked.good.lent
 
 pub zone_renew-requires : goal.zone_renew-requires
 zone_renew-requires c =
@@ -21,10 +17,10 @@ list_front-requires c =
       in_range = (omega (arith, h.asked.class), renew-page h.asked h.lists_told.0 h.lists_told.1, renewed-room h.asked h.lists_told.0 h.lists_told.1 e f);
     }
 
-pub overflow_mul-page : goal.overflow_mul-page
-overflow_mul-page c =
+pub overflow_mul-result : goal.overflow_mul-result
+overflow_mul-result c =
     let h = c.requires in let k = renew-page h.asked h.lists_told.0 h.lists_told.1 in omega arith
 
 pub returns : goal.returns
 returns c =
-    let h = c.requires in (c.granted_at.ensures ∙ renew-answer h.asked h.lists_told.0 h.lists_told.1, renewed h.asked h.lists_told.0 h.lists_told.1 c.spare_behind.ensures c.zone_renew.ensures c.list_front.ensures)
+    let h = c.requires in (renew-answer h.asked h.lists_told.0 h.lists_told.1, renewed h.asked h.lists_told.0 h.lists_told.1 c.spare_behind.ensures c.zone_renew.ensures c.list_front.ensures)

@@ -1,7 +1,6 @@
 -- `serve` meets its contract. Assumes nothing.
 use Rattle.allocate.proofs.Served.{serve-page, serve-zone, serve-open, serve-inside, serve-answer, granted-words, granted-zone, stays, leaves}
 use Rattle.steps.proofs.Lent.{lent}
-use mathlib.Core.Path.{◌∙◌}
 use native.Mathlib.Omega.{arith}
 use Rattle.allocate.proofs.serve.Goals as goal
 
@@ -24,11 +23,11 @@ pub zone_full-requires : goal.zone_full-requires
 zone_full-requires c =
     let h = c.requires in let e = c.zone_grant-chunk.ensures.1 in (lent (granted-words h.asked h.lists_told e), granted-zone h.asked h.lists_told e)
 
-pub returns-then-not-zone_full : goal.returns-then-not-zone_full
-returns-then-not-zone_full c =
+pub returns-else-zone_full : goal.returns-else-zone_full
+returns-else-zone_full c =
     let h = c.requires in
     let e = c.zone_grant-chunk.ensures in
-    (c.granted_at.ensures ∙ serve-answer h.asked h.lists_told e.0 c.room.ensures, stays h.asked h.lists_told e.1 c.zone_full.ensures (c.if-not-zone_full.true))
+    (serve-answer h.asked h.lists_told e.0 c.room.ensures, stays h.asked h.lists_told e.1 c.zone_full.ensures (c.if-zone_full.false))
 
 pub list_without-requires : goal.list_without-requires
 list_without-requires c =
@@ -37,8 +36,8 @@ list_without-requires c =
       in_range = (omega (arith, h.asked.class), serve-page h.asked h.lists_told);
     }
 
-pub returns : goal.returns
-returns c =
+pub returns-then-zone_full : goal.returns-then-zone_full
+returns-then-zone_full c =
     let h = c.requires in
     let e = c.zone_grant-chunk.ensures in
-    (c.granted_at-2.ensures ∙ serve-answer h.asked h.lists_told e.0 c.room.ensures, leaves h.asked h.lists_told e.1 c.zone_full.ensures (c.if-not-zone_full.false) c.list_without.ensures)
+    (serve-answer h.asked h.lists_told e.0 c.room.ensures, leaves h.asked h.lists_told e.1 c.zone_full.ensures (c.if-zone_full.true) c.list_without.ensures)

@@ -1,13 +1,13 @@
 -- `supply_pages` meets its contract. Assumes nothing.
-use Rattle.allocate.proofs.Requests.{no-pages, pages-good, pages-free, pages-page, pages-taken}
+use Rattle.allocate.proofs.Requests.{pages-good, pages-free, pages-page, pages-taken}
 use native.Mathlib.Omega.{arith}
 use Rattle.allocate.proofs.supply_pages.Goals as goal
 
 pub take_direct-requires : goal.take_direct-requires
 take_direct-requires c =
     let h = c.requires in
-    let k = c.in-Chosen.is in
-    let s = c.find_pages.ensures in
+    let k = c.in-Some.is in
+    let s = c.find_pages-run.ensures in
     let g = pages-good h.0 h.1 0 k s in
     let r = pages-free h.0 h.1 0 k s in record {
       lent = (g.lent, g.pages);
@@ -17,18 +17,14 @@ take_direct-requires c =
 pub overflow_cast-result : goal.overflow_cast-result
 overflow_cast-result c =
     let h = c.requires in
-    let p = pages-page h.0 h.1 0 c.in-Chosen.is c.find_pages.ensures in omega arith
+    let p = pages-page h.0 h.1 0 c.in-Some.is c.find_pages-run.ensures in omega arith
 
 pub overflow_mul-result : goal.overflow_mul-result
 overflow_mul-result c =
     let h = c.requires in
-    let p = pages-page h.0 h.1 0 c.in-Chosen.is c.find_pages.ensures in omega arith
+    let p = pages-page h.0 h.1 0 c.in-Some.is c.find_pages-run.ensures in omega arith
 
-pub returns-in-Chosen : goal.returns-in-Chosen
-returns-in-Chosen c =
+pub returns : goal.returns
+returns c =
     let h = c.requires in
-    pages-taken h.0 h.1 _ c.in-Chosen.is c.find_pages.ensures c.take_direct.ensures
-
-pub returns-in-Missed : goal.returns-in-Missed
-returns-in-Missed c =
-    let h = c.requires in no-pages h.0 h.1 _ c.in-Missed.is c.find_pages.ensures
+    pages-taken h.0 h.1 _ c.in-Some.is c.find_pages-run.ensures c.take_direct.ensures

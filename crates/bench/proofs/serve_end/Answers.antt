@@ -5,14 +5,10 @@ use mathlib.Core.Path.{sym}
 use Rattle.bench.specs.Numbers.{reply_room}
 use Rattle.bench.proofs.serve_end.Goals as goal
 
-pub slice_bounds-serve_last-end-2 : goal.slice_bounds-serve_last-end-2
-slice_bounds-serve_last-end-2 c =
-    sym (length-take-le reply_room c.args.out.now c.requires.reply_fits)
-
 pub slice_bounds-write_out-end : goal.slice_bounds-write_out-end
 slice_bounds-write_out-end c =
-    front-holds c.args.out.now reply_room c.requires.reply_fits reply-enough c.serve_last-len.ensures.replied
+    front-holds c.args.out.now reply_room c.requires reply-enough c.serve_last-len.ensures.replied
 
 pub slice_bounds-write_out-end-2 : goal.slice_bounds-write_out-end-2
 slice_bounds-write_out-end-2 c =
-    sym (length-take-le _ _ (front-holds c.args.out.now reply_room c.requires.reply_fits reply-enough c.serve_last-len.ensures.replied))
+    sym (length-take-le _ _ (front-holds c.args.out.now reply_room c.requires reply-enough c.serve_last-len.ensures.replied))

@@ -5,14 +5,8 @@ use Rattle.account.specs.Decoding.{is_account}
 use Rattle.calls.proofs.Acting.{never_true, never-false, pages-none, pages-some}
 use Rattle.calls.proofs.arena_pages.Goals as goal
 
--- Behind the test the words pass. (`search`, with `never_true`, takes a test that cannot come out so as well: so a check that always fails is
--- refused where it fails, and not here, where it never comes.)
-pub pages-requires : goal.pages-requires
-pages-requires c =
-    let t = sym c.check.ensures ∙ c.if-not-check.false in
-    let passes : is_account c.args.meta.now ≡ true = search never_true in
-    passes
-
+-- `search`, with `never_true`, takes a test that cannot come out so as well: so a check that always fails is refused where it fails, and not
+-- at the return that never comes.
 pub returns-then-not-check : goal.returns-then-not-check
 returns-then-not-check c =
     let t = sym c.check.ensures ∙ c.if-not-check.true in

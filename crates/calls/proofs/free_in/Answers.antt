@@ -1,48 +1,31 @@
--- `free_in` meets its contract. Assumes nothing.
-use native.Mathlib.Omega.{arith}
-use mathlib.Core.Path.{◌≡◌, refl, sym, ap, ◌∙◌}
+-- `free_in` meets its contract. (That a block that came back was told of, the check finds alone.) Assumes nothing.
+use mathlib.Core.Path.{◌≡◌, refl, ap, ◌∙◌}
 use mathlib.Core.Bool.{false}
-use Prim.Native.Nat.{ℕ, ◌-◌}
-use lib.ListN.{length, take}
-use Rattle.lemmas.specs.Parts.{put_mid}
-use Rattle.model.specs.Numbers.{figure_words}
+use Prim.Native.Nat.{ℕ}
+use Rattle.std.specs.Prelude.{Err}
+use Rattle.std.proofs.lemmas.Result.{err_from_is_err_and}
 use Rattle.model.specs.declared.Operation.TheVariants.{Free}
-use Rattle.model.specs.State.{State}
-use Rattle.model.specs.Holdings.{holding_of, ceiling_at}
 use Rattle.model.specs.PageMap.{page_map, block_at}
 use Rattle.model.specs.Trim.{described}
-use Rattle.model.specs.Calls.{Action, group, Outcome, is_refused}
+use Rattle.model.specs.Calls.{Action, group, is_refused, plain_answer}
 use Rattle.model.specs.Free.{free}
-use Rattle.figures.proofs.Encoded.{length-figures}
-use Rattle.account.specs.Encoding.{figures_of}
 use Rattle.account.specs.Decoding.{account_in}
-use Rattle.calls.specs.Arena.{room_told}
-use Rattle.calls.proofs.Acting.{arena-few, arena-valid, arena-inside, arena-good, arena-answer, arena-done, arena-not, figures-there, long-there, arena-stepped, arena-refused, told-room}
-use Rattle.calls.proofs.Caller.{caller}
-use Rattle.calls.proofs.Returning.{return-needs, return-done}
+use Rattle.calls.proofs.Acting.{arena-few, arena-valid, arena-inside, arena-good, arena-told, figures-there, figures-count, arena-refuses, arena-serves, told-room}
+use Rattle.calls.proofs.Returning.{room_told, return-needs, return-done}
 use Rattle.calls.proofs.free_in.Goals as goal
-use Rattle.calls.proofs.free_in.Goals.{After-wide-index}
+use Rattle.calls.proofs.free_in.Goals.{In_ok-free, In_ok-told}
 
 -- What is asked.
 abbrev call : ℕ → ℕ → Action
 call g o = group (record { group = g; operation = Free o })
 
-abbrev asks : ℕ → ℕ → State → Outcome State
-asks g o = free g o
-
--- The figures, as they are lent for their step.
-lent : (c : After-wide-index) → take figure_words (put_mid figure_words (c.words_for-e.result - figure_words) c.args.meta.now c.free-answer.new.words) ≡ figures_of (account_in c.args.meta.now)
-lent c = figures-there c.requires _ c.words_for-e.ensures (call c.args.group c.args.offset) (asks c.args.group c.args.offset) refl _ c.free-answer.ensures.1
-
 -- It was not refused.
-done : (c : After-wide-index) → is_refused (asks c.args.group c.args.offset (account_in c.args.meta.now).state).answer ≡ false
-done c =
-    arena-done c.requires _ c.words_for-e.ensures (call c.args.group c.args.offset) (asks c.args.group c.args.offset) refl _ c.free-answer.ensures.0 _ c.is_refused.ensures c.if-is_refused.false
+done : (c : In_ok-free) → is_refused (free c.args.group c.args.offset (account_in c.args.meta.now).state).answer ≡ false
+done c = arena-told c.requires _ c.words_for-e.ensures (free c.args.group c.args.offset) c.in_ok-free.ensures.0
 
 -- The room that was told before the block came back.
-told : (c : After-wide-index) → c.room_told-room.result ≡ room_told (described (block_at (page_map (account_in c.args.meta.now).state) c.args.offset))
-told c =
-    c.room_told-room.ensures ∙ told-room c.requires _ c.words_for-e.ensures _ _ c.describe.ensures
+told : (c : In_ok-told) → c.in_ok-told.field-0.room ≡ room_told (described (block_at (page_map (account_in c.args.meta.now).state) c.args.offset))
+told c = told-room c.requires _ c.words_for-e.ensures _ _ c.in_ok-told.ensures
 
 pub words_for-e-requires : goal.words_for-e-requires
 words_for-e-requires c = arena-few c.requires
@@ -50,43 +33,34 @@ words_for-e-requires c = arena-few c.requires
 pub slice_bounds-describe-end : goal.slice_bounds-describe-end
 slice_bounds-describe-end c = arena-inside c.requires _ c.words_for-e.ensures
 
-pub describe-requires : goal.describe-requires
-describe-requires c = arena-good c.requires _ c.words_for-e.ensures
+pub describe-told-requires : goal.describe-told-requires
+describe-told-requires c = arena-good c.requires _ c.words_for-e.ensures
 
 pub slice_bounds-free-end : goal.slice_bounds-free-end
 slice_bounds-free-end c = arena-inside c.requires _ c.words_for-e.ensures
 
-pub free-answer-requires : goal.free-answer-requires
-free-answer-requires c = arena-good c.requires _ c.words_for-e.ensures
+pub free-requires : goal.free-requires
+free-requires c = arena-good c.requires _ c.words_for-e.ensures
 
-pub returns-then-is_refused : goal.returns-then-is_refused
-returns-then-is_refused c =
-    let e = c.words_for-e.ensures in
-    let r = c.free-answer.ensures in record {
-      value = arena-answer c.requires _ e (call c.args.group c.args.offset) (asks c.args.group c.args.offset) refl _ r.0;
-      meta_after = arena-refused c.requires _ e (call c.args.group c.args.offset) (asks c.args.group c.args.offset) refl _ r.1 (arena-not c.requires _ e (call c.args.group c.args.offset) (asks c.args.group c.args.offset) refl _ r.0 _ c.is_refused.ensures c.if-is_refused.true);
-    }
+pub returns-in_err-free : goal.returns-in_err-free
+returns-in_err-free c =
+    let p = err_from_is_err_and c.from_residual.result c.from_residual.ensures.1 in
+    let k = arena-refuses c.requires _ c.words_for-e.ensures (call c.args.group c.args.offset) (free c.args.group c.args.offset) refl c.in_err-free.ensures refl in
+    record { value = ap plain_answer (p.1 ∙ ap Err p.2) ∙ k.0; meta_after = k.1 }
 
-pub overflow_sub-index : goal.overflow_sub-index
-overflow_sub-index c = omega (arith, c.wide-index.ensures, (caller 0 c.args.group (Free c.args.offset) _ (done (goal.at.overflow_sub-index c).After-wide-index)).0)
-
-pub slice_bounds-take-end : goal.slice_bounds-take-end
-slice_bounds-take-end c = long-there c.requires _ c.words_for-e.ensures (call c.args.group c.args.offset) (asks c.args.group c.args.offset) refl _ c.free-answer.ensures.1
-
-pub slice_bounds-take-end-2 : goal.slice_bounds-take-end-2
-slice_bounds-take-end-2 c = sym (ap length (lent (goal.at.slice_bounds-take-end-2 c).After-wide-index) ∙ length-figures (holding_of (account_in c.args.meta.now)) (ceiling_at (account_in c.args.meta.now)))
+pub slice_bounds-meta-end-2 : goal.slice_bounds-meta-end-2
+slice_bounds-meta-end-2 c = figures-count c.requires _ c.words_for-e.ensures c.free.new.words
 
 pub take-requires : goal.take-requires
 take-requires c =
-    let p = (goal.at.take-requires c).After-wide-index in
-    let k = return-needs (account_in c.args.meta.now) (arena-valid c.requires) c.args.group c.args.offset (done p) _ (lent p) _ (ap (λ g. g - 1) c.wide-index.ensures) _ (told p) in
+    let yes = done (goal.at.take-requires c).In_ok-free in
+    let k = return-needs _ (arena-valid c.requires) c.args.group c.args.offset yes _ (figures-there c.requires _ c.words_for-e.ensures _) _ refl _ (told c) in
     record { record_there = k.0; holds_block = k.1 }
 
 pub returns : goal.returns
 returns c =
-    let e = c.words_for-e.ensures in
-    let r = c.free-answer.ensures in record {
-      value = arena-answer c.requires _ e (call c.args.group c.args.offset) (asks c.args.group c.args.offset) refl _ r.0;
-      meta_after = arena-stepped c.requires _ e (call c.args.group c.args.offset) (asks c.args.group c.args.offset) refl _ r.1 _
-          (return-done (account_in c.args.meta.now) (arena-valid c.requires) c.args.group c.args.offset (done (goal.at.returns c).After-wide-index) _ (lent (goal.at.returns c).After-wide-index) _ (ap (λ g. g - 1) c.wide-index.ensures) _ (told (goal.at.returns c).After-wide-index) _ c.take.ensures);
-    }
+    let yes = done (goal.at.returns c).In_ok-free in
+    let room = told (goal.at.returns c).In_ok-told in
+    let figures = return-done _ (arena-valid c.requires) c.args.group c.args.offset yes _ (figures-there c.requires _ c.words_for-e.ensures c.free.new.words) _ refl _ room _ c.take.ensures in
+    let k = arena-serves c.requires _ c.words_for-e.ensures (call c.args.group c.args.offset) (free c.args.group c.args.offset) refl c.in_ok-free.ensures figures in
+    record { value = k.0; meta_after = k.1 }

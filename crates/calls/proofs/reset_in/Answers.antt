@@ -1,40 +1,25 @@
 -- `reset_in` meets its contract. Assumes nothing.
-use native.Mathlib.Omega.{arith}
-use mathlib.Core.Path.{◌≡◌, refl, sym, ap, ◌∙◌}
+use mathlib.Core.Path.{◌≡◌, refl, ap, ◌∙◌}
 use mathlib.Core.Bool.{false}
-use Prim.Native.Nat.{ℕ, ◌-◌}
-use lib.ListN.{length, take}
-use Rattle.lemmas.specs.Parts.{put_mid}
-use Rattle.model.specs.Numbers.{figure_words}
+use Prim.Native.Nat.{ℕ}
+use Rattle.std.specs.Prelude.{Err}
+use Rattle.std.proofs.lemmas.Result.{err_from_is_err_and}
 use Rattle.model.specs.declared.Operation.TheVariants.{Reset}
-use Rattle.model.specs.State.{State}
-use Rattle.model.specs.Holdings.{holding_of, ceiling_at}
-use Rattle.model.specs.Calls.{Action, group, Outcome, is_refused}
+use Rattle.model.specs.Calls.{Action, group, is_refused, count_answer}
 use Rattle.model.specs.Free.{reset}
-use Rattle.figures.proofs.Encoded.{length-figures}
-use Rattle.account.specs.Encoding.{figures_of}
 use Rattle.account.specs.Decoding.{account_in}
-use Rattle.calls.proofs.Acting.{arena-few, arena-valid, arena-inside, arena-good, arena-answer, arena-done, arena-not, figures-there, long-there, arena-stepped, arena-refused}
-use Rattle.calls.proofs.Caller.{caller}
+use Rattle.calls.proofs.Acting.{arena-few, arena-valid, arena-inside, arena-good, arena-told, figures-there, figures-count, arena-refuses, arena-serves}
 use Rattle.calls.proofs.Resetting.{reset-needs, reset-done}
 use Rattle.calls.proofs.reset_in.Goals as goal
-use Rattle.calls.proofs.reset_in.Goals.{After-wide-index}
+use Rattle.calls.proofs.reset_in.Goals.{In_ok-count}
 
 -- What is asked.
 abbrev call : ℕ → Action
 call g = group (record { group = g; operation = Reset })
 
-abbrev asks : ℕ → State → Outcome State
-asks g = reset g
-
--- The figures, as they are lent for their step.
-lent : (c : After-wide-index) → take figure_words (put_mid figure_words (c.words_for-e.result - figure_words) c.args.meta.now c.reset-answer.new.words) ≡ figures_of (account_in c.args.meta.now)
-lent c = figures-there c.requires _ c.words_for-e.ensures (call c.args.group) (asks c.args.group) refl _ c.reset-answer.ensures.1
-
 -- It was not refused.
-done : (c : After-wide-index) → is_refused (asks c.args.group (account_in c.args.meta.now).state).answer ≡ false
-done c =
-    arena-done c.requires _ c.words_for-e.ensures (call c.args.group) (asks c.args.group) refl _ c.reset-answer.ensures.0 _ c.is_refused.ensures c.if-is_refused.false
+done : (c : In_ok-count) → is_refused (reset c.args.group (account_in c.args.meta.now).state).answer ≡ false
+done c = arena-told c.requires _ c.words_for-e.ensures (reset c.args.group) c.in_ok-count.ensures.0
 
 pub words_for-e-requires : goal.words_for-e-requires
 words_for-e-requires c = arena-few c.requires
@@ -42,35 +27,26 @@ words_for-e-requires c = arena-few c.requires
 pub slice_bounds-reset-end : goal.slice_bounds-reset-end
 slice_bounds-reset-end c = arena-inside c.requires _ c.words_for-e.ensures
 
-pub reset-answer-requires : goal.reset-answer-requires
-reset-answer-requires c = arena-good c.requires _ c.words_for-e.ensures
+pub reset-requires : goal.reset-requires
+reset-requires c = arena-good c.requires _ c.words_for-e.ensures
 
-pub returns-then-is_refused : goal.returns-then-is_refused
-returns-then-is_refused c =
-    let e = c.words_for-e.ensures in
-    let r = c.reset-answer.ensures in record {
-      value = arena-answer c.requires _ e (call c.args.group) (asks c.args.group) refl _ r.0;
-      meta_after = arena-refused c.requires _ e (call c.args.group) (asks c.args.group) refl _ r.1 (arena-not c.requires _ e (call c.args.group) (asks c.args.group) refl _ r.0 _ c.is_refused.ensures c.if-is_refused.true);
-    }
-
-pub overflow_sub-index : goal.overflow_sub-index
-overflow_sub-index c = omega (arith, c.wide-index.ensures, (caller 0 c.args.group Reset _ (done (goal.at.overflow_sub-index c).After-wide-index)).0)
-
-pub slice_bounds-clear-end : goal.slice_bounds-clear-end
-slice_bounds-clear-end c = long-there c.requires _ c.words_for-e.ensures (call c.args.group) (asks c.args.group) refl _ c.reset-answer.ensures.1
+pub returns-in_err-count : goal.returns-in_err-count
+returns-in_err-count c =
+    let p = err_from_is_err_and c.from_residual.result c.from_residual.ensures.1 in
+    let k = arena-refuses c.requires _ c.words_for-e.ensures (call c.args.group) (reset c.args.group) refl c.in_err-count.ensures refl in
+    record { value = ap count_answer (p.1 ∙ ap Err p.2) ∙ k.0; meta_after = k.1 }
 
 pub slice_bounds-clear-end-2 : goal.slice_bounds-clear-end-2
-slice_bounds-clear-end-2 c = sym (ap length (lent (goal.at.slice_bounds-clear-end-2 c).After-wide-index) ∙ length-figures (holding_of (account_in c.args.meta.now)) (ceiling_at (account_in c.args.meta.now)))
+slice_bounds-clear-end-2 c = figures-count c.requires _ c.words_for-e.ensures c.reset.new.words
 
 pub clear-requires : goal.clear-requires
 clear-requires c =
-    reset-needs (account_in c.args.meta.now) (arena-valid c.requires) c.args.group (done (goal.at.clear-requires c).After-wide-index) _ (lent (goal.at.clear-requires c).After-wide-index) _ (ap (λ g. g - 1) c.wide-index.ensures)
+    let yes = done (goal.at.clear-requires c).In_ok-count in
+    reset-needs _ (arena-valid c.requires) c.args.group yes _ (figures-there c.requires _ c.words_for-e.ensures _) _ refl
 
 pub returns : goal.returns
 returns c =
-    let e = c.words_for-e.ensures in
-    let r = c.reset-answer.ensures in record {
-      value = arena-answer c.requires _ e (call c.args.group) (asks c.args.group) refl _ r.0;
-      meta_after = arena-stepped c.requires _ e (call c.args.group) (asks c.args.group) refl _ r.1 _
-          (reset-done (account_in c.args.meta.now) (arena-valid c.requires) c.args.group (done (goal.at.returns c).After-wide-index) _ (lent (goal.at.returns c).After-wide-index) _ (ap (λ g. g - 1) c.wide-index.ensures) _ c.clear.ensures);
-    }
+    let yes = done (goal.at.returns c).In_ok-count in
+    let figures = reset-done _ (arena-valid c.requires) c.args.group yes _ (figures-there c.requires _ c.words_for-e.ensures c.reset.new.words) _ refl _ c.clear.ensures in
+    let k = arena-serves c.requires _ c.words_for-e.ensures (call c.args.group) (reset c.args.group) refl c.in_ok-count.ensures figures in
+    record { value = k.0; meta_after = k.1 }

@@ -11,4 +11,4 @@ bounds-table-place c = omega (arith, ap length c.requires.table_value ∙ table-
 pub returns : goal.returns
 returns c =
     let n = c.args.size in
-    c.wide.ensures ∙ (λ j. get_or (c.requires.table_value j) (c.place.ensures.0 j) 0) ∙ entry-class n c.requires.chunk_sized.0 c.requires.chunk_sized.1
+    c.from.ensures ∙ (λ j. get_or (c.requires.table_value j) (c.place.ensures.0 j) 0) ∙ entry-class n c.requires.chunk_sized.0 c.requires.chunk_sized.1

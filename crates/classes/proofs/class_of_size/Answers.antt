@@ -1,10 +1,10 @@
--- `class_of_size` meets its contract: a size's entry is its class. Assumes nothing.
-use mathlib.Core.Path.{ap, ◌∙◌}
-use lib.ListN.{get_or}
-use Rattle.classes.specs.Table.{class_table}
-use Rattle.classes.proofs.Rule.{entry-class}
+-- `class_of_size` meets its contract: the constant is the table, all of it, which the checker computes. Assumes nothing.
+use mathlib.Core.Path.{refl}
+use Rattle.lemmas.specs.ListFrom.{list_from}
+use Rattle.model.specs.Sizes.{step, rounded, class_of}
+use Rattle.classes.specs.Table.{entry_at, class_table}
 use Rattle.classes.proofs.class_of_size.Goals as goal
 
-pub returns : goal.returns
-returns c =
-    c.wide.ensures ∙ c.entry.ensures ∙ ap (λ i. get_or class_table i 0) c.place.ensures.0 ∙ entry-class c.args.size c.requires.0 c.requires.1
+pub class_in-requires-clause-table_value : goal.class_in-requires-clause-table_value
+unfolding class_table list_from entry_at class_of rounded step
+class_in-requires-clause-table_value c = refl

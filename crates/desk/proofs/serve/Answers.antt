@@ -1,40 +1,29 @@
 -- `desk::serve` meets its contract, kind of line by kind of line. Assumes nothing.
+use mathlib.Core.Path.{◌∙◌}
 use Rattle.model.specs.Calls.{init, act, group, trim, query}
-use Rattle.desk.proofs.Replies.{performs-init, performs-group, performs-trim, performs-query, served-call, served-bad, served-listing}
+use Rattle.desk.proofs.Replies.{ServedBy, performs-init, performs-group, performs-trim, performs-query, served-call, served-bad, served-listing}
 use Rattle.desk.proofs.serve.Goals as goal
+use Rattle.desk.proofs.serve.Goals.{in-Init, in-Group, in-Trim, in-Query}
 
-pub returns-in-Init : goal.returns-in-Init
-returns-in-Init c =
-    let e = c.init.ensures in
+-- The lines that are calls.
+pub returns : goal.returns
+returns c =
     let p = c.put_answer.ensures in
-    let s = served-call c.args.meta.now c.args.out.now c.args.line (init _) c.in-Init.is (performs-init _ _ _) (e.value, e.meta_after) (p.wrote, p.upper_bound) in record {
-      meta_after = s.0;
-      replied = s.1;
-    }
-
-pub returns-in-Group : goal.returns-in-Group
-returns-in-Group c =
-    let e = c.call.ensures in
-    let p = c.put_answer-in-Group.ensures in
-    let s = served-call c.args.meta.now c.args.out.now c.args.line (act (group _)) c.in-Group.is (performs-group _ _ _) (e.value, e.meta_after) (p.wrote, p.upper_bound) in record {
-      meta_after = s.0;
-      replied = s.1;
-    }
-
-pub returns-in-Trim : goal.returns-in-Trim
-returns-in-Trim c =
-    let e = c.trim.ensures in
-    let p = c.put_answer-in-Trim.ensures in
-    let s = served-call c.args.meta.now c.args.out.now c.args.line (act trim) c.in-Trim.is (performs-trim _ _) (e.value, e.meta_after) (p.wrote, p.upper_bound) in record {
-      meta_after = s.0;
-      replied = s.1;
-    }
-
-pub returns-in-Query : goal.returns-in-Query
-returns-in-Query c =
-    let e = c.query.ensures in
-    let p = c.put_answer-in-Query.ensures in
-    let s = served-call c.args.meta.now c.args.out.now c.args.line (act (query _)) c.in-Query.is (performs-query _ _ _) (e.value, e.meta_after) (p.wrote, p.upper_bound) in record {
+    let s : ServedBy c.args.meta.now c.args.out.now c.args.line c.put_answer.result c.match-line.meta c.put_answer.new.out =
+    elim c.match-line.branch [
+      | in-Init w ↦
+          let e = w.init-answer.ensures in
+          served-call _ _ _ (init _) w.in-Init.is (performs-init _ _ _) (w.answer-is ∙ e.value, w.meta-is ∙ e.meta_after) (p.wrote, p.upper_bound)
+      | in-Group w ↦
+          let e = w.call-answer.ensures in
+          served-call _ _ _ (act (group _)) w.in-Group.is (performs-group _ _ _) (w.answer-is ∙ e.value, w.meta-is ∙ e.meta_after) (p.wrote, p.upper_bound)
+      | in-Trim w ↦
+          let e = w.trim-answer.ensures in
+          served-call _ _ _ (act trim) w.in-Trim.is (performs-trim _ _) (w.answer-is ∙ e.value, w.meta-is ∙ e.meta_after) (p.wrote, p.upper_bound)
+      | in-Query w ↦
+          let e = w.query-answer.ensures in
+          served-call _ _ _ (act (query _)) w.in-Query.is (performs-query _ _ _) (w.answer-is ∙ e.value, w.meta-is ∙ e.meta_after) (p.wrote, p.upper_bound)
+    ] in record {
       meta_after = s.0;
       replied = s.1;
     }

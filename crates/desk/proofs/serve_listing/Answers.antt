@@ -6,15 +6,15 @@ use Rattle.desk.proofs.serve_listing.Goals as goal
 
 pub returns-in-Counted : goal.returns-in-Counted
 returns-in-Counted c =
-    let e = c.listing-answer.ensures in record {
+    let e = c.listing.ensures in record {
       meta_unchanged = e.meta_after ∙ listing-unchanged _ _;
       replied =
-          listing-counted c.args.meta.now c.args.out.now (e.value, e.text_after) c.in-Counted.is c.wide.ensures;
+          listing-counted c.args.meta.now c.args.out.now (e.value, e.text_after) c.in-Counted.is;
     }
 
-pub returns : goal.returns
-returns c =
-    let e = c.listing-answer.ensures in
+pub returns-in_default : goal.returns-in_default
+returns-in_default c =
+    let e = c.listing.ensures in
     let p = c.put_answer.ensures in record {
       meta_unchanged = e.meta_after ∙ listing-unchanged _ _;
       replied =

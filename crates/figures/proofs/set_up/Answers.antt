@@ -1,12 +1,14 @@
--- `set_up` meets its contract. The loop's invariant: `at` words are set up. Assumes nothing.
-use Rattle.figures.proofs.Encoded.{begun-none, begun_more, begun_all}
+-- `set_up` meets its contract. Assumes nothing.
+use native.Mathlib.Omega.{arith}
+use mathlib.Core.Path.{sym}
+use lib.Seq.{length-take-le}
+use Rattle.figures.specs.Encoding.{at_ceiling}
+use Rattle.figures.proofs.Encoded.{started}
 use Rattle.figures.proofs.set_up.Goals as goal
 
-pub loop-at-init : goal.loop-at-init
-loop-at-init c = begun-none _ c.requires
-
-pub loop-at-preserved : goal.loop-at-preserved
-loop-at-preserved c = let l = c.loop-at in begun_more l.words l.at _ l.invariant c.loop-at-test.true c.first_word.ensures
+pub slice_bounds-fill-end-2 : goal.slice_bounds-fill-end-2
+slice_bounds-fill-end-2 c = sym (length-take-le at_ceiling c.args.words.now (omega (arith, c.requires)))
 
 pub returns : goal.returns
-returns c = let l = c.loop-at in begun_all l.words l.at l.invariant c.loop-at-test.false
+returns c =
+    started c.args.words.now _ _ _ c.requires (c.fill.ensures.after (λ y e. e)) (c.fill-2.ensures.after (λ y e. e)) (c.fill-3.ensures.after (λ y e. e))

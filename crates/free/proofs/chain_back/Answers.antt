@@ -1,7 +1,7 @@
 -- `chain_back` meets its contract. Assumes nothing.
 use native.Mathlib.Omega.{arith}
 use mathlib.Core.Path.{sym, ◌∙◌}
-use Rattle.free.proofs.Live.{live_here, live-owner, live-class, live-page, mid-lent, mid-room, mid-front, mid-stays}
+use Rattle.free.proofs.Live.{live_here, live-owner, live-class, live-page, mid-lent, mid-room, mid-front}
 use Rattle.free.proofs.chain_back.Goals as goal
 
 pub zone_full-full-requires : goal.zone_full-full-requires
@@ -15,8 +15,8 @@ pub zone_put_back-requires : goal.zone_put_back-requires
 zone_put_back-requires c =
     let h = c.requires in (h.0.lent, live_here h.0 h.1, live-owner h.0 h.1)
 
-pub overflow_cast-at : goal.overflow_cast-at
-overflow_cast-at c =
+pub overflow_cast-start : goal.overflow_cast-start
+overflow_cast-start c =
     let h = c.requires in omega (arith, live-page h.0 h.1)
 
 pub list_front-requires : goal.list_front-requires
@@ -34,7 +34,3 @@ returns-then-full c =
 pub zone_put_back-requires-2 : goal.zone_put_back-requires-2
 zone_put_back-requires-2 c =
     let h = c.requires in (h.0.lent, live_here h.0 h.1, live-owner h.0 h.1)
-
-pub returns : goal.returns
-returns c =
-    let h = c.requires in mid-stays h.0 h.1 c.zone_put_back-2.ensures (sym c.zone_full-full.ensures ∙ c.if-full.false)

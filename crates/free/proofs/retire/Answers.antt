@@ -7,8 +7,8 @@ use Rattle.metadata.specs.Decoding.{decode}
 use Rattle.free.proofs.Retired.{zone-page, zone-class, off-lent, off-count, off-room, off-spared, off-stands, off-apart, off-total, off-released}
 use Rattle.free.proofs.retire.Goals as goal
 
-pub overflow_cast-at : goal.overflow_cast-at
-overflow_cast-at c = let h = c.requires in omega (arith, zone-page h.0 h.1.0 h.1.1 h.1.2)
+pub overflow_cast-start : goal.overflow_cast-start
+overflow_cast-start c = let h = c.requires in omega (arith, zone-page h.0 h.1.0 h.1.1 h.1.2)
 
 pub list_without-requires : goal.list_without-requires
 list_without-requires c = let h = c.requires in record {
@@ -20,8 +20,8 @@ pub spare_count-requires : goal.spare_count-requires
 spare_count-requires c =
     let h = c.requires in off-lent h.0 h.1.0 h.1.1 h.1.2 c.list_without.ensures
 
-pub overflow_cast-at-then-spare_count-lt-MOST_SPARE : goal.overflow_cast-at-then-spare_count-lt-MOST_SPARE
-overflow_cast-at-then-spare_count-lt-MOST_SPARE c =
+pub overflow_cast-start-then-spare_count-lt-MOST_SPARE : goal.overflow_cast-start-then-spare_count-lt-MOST_SPARE
+overflow_cast-start-then-spare_count-lt-MOST_SPARE c =
     let h = c.requires in omega (arith, zone-page h.0 h.1.0 h.1.1 h.1.2)
 
 pub spare_front-requires : goal.spare_front-requires

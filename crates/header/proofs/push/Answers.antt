@@ -1,20 +1,13 @@
 -- `header::push` meets its contract. Assumes nothing.
 use native.Mathlib.Omega.{arith}
 use Rattle.header.proofs.Encoded.{lists-size}
-use Rattle.header.proofs.Steps.{header-length, lists-most, step_push}
+use Rattle.header.proofs.Steps.{header_length, lists-most, step_push}
 use Rattle.header.proofs.push.Goals as goal
-
-pub slice_bounds-count_between-end : goal.slice_bounds-count_between-end
-slice_bounds-count_between-end c = omega (arith, header-length c.requires.0)
-
-pub slice_bounds-shift_in-end : goal.slice_bounds-shift_in-end
-slice_bounds-shift_in-end c =
-    omega (arith, header-length c.requires.0)
 
 pub shift_in-requires : goal.shift_in-requires
 shift_in-requires c =
     let pre = c.requires in
-    omega (arith, lists-size c.args.words.now (header-length pre.0), lists-most pre.0 _ _ c.count_between-at.ensures)
+    omega (arith, lists-size c.args.words.now (header_length pre.0), lists-most pre.0 _ _ c.count_between-at.ensures)
 
 pub returns : goal.returns
 returns c =

@@ -1,10 +1,6 @@
 -- `header::remove` meets its contract. Assumes nothing.
-use native.Mathlib.Omega.{arith}
-use Rattle.header.proofs.Steps.{header-length, step-remove}
+use Rattle.header.proofs.Steps.{step-remove}
 use Rattle.header.proofs.remove.Goals as goal
-
-pub slice_bounds-take_out-end : goal.slice_bounds-take_out-end
-slice_bounds-take_out-end c = omega (arith, header-length c.requires.0)
 
 pub returns : goal.returns
 returns c =

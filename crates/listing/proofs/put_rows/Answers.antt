@@ -4,21 +4,15 @@ use native.Mathlib.Omega.{arith}
 use Rattle.listing.proofs.put_rows.Goals as goal
 
 pub loop-p-init : goal.loop-p-init
-loop-p-init c = write-start _ _ c.requires.holds
+loop-p-init c = write-start _ _ c.args.pages.now.held
 
 pub put_row-next-requires : goal.put_row-next-requires
 put_row-next-requires c =
-    let k = write-next c.loop-p.invariant c.loop-p-test.true in record {
-      holds = c.requires.holds;
-      placed = (c.loop-p.invariant.b, k.x, k.stands, write-bounded c.loop-p.invariant c.loop-p-test.true c.requires.bounded);
-    }
+    let k = write-next c.loop-p.invariant c.loop-p-test.true in
+    (c.loop-p.invariant.b, k.x, k.stands, write-bounded c.loop-p.invariant c.loop-p-test.true c.requires)
 
 pub size-p-requires : goal.size-p-requires
-size-p-requires c =
-    let k = write-next c.loop-p.invariant c.loop-p-test.true in record {
-      holds = c.requires.holds;
-      placed = (c.loop-p.invariant.b, k.x, k.stands);
-    }
+size-p-requires c = let k = write-next c.loop-p.invariant c.loop-p-test.true in (c.loop-p.invariant.b, k.x, k.stands)
 
 pub overflow_add-p : goal.overflow_add-p
 overflow_add-p c =

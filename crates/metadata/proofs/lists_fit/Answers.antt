@@ -11,27 +11,21 @@ use Rattle.metadata.proofs.lists_fit.Goals as goal
 
 pub loop-p-init : goal.loop-p-init
 loop-p-init c =
-    fit-start c.requires.1
+    fit-start c.args.pages.now.held
 
 pub fits_at-requires : goal.fits_at-requires
 fits_at-requires c =
-    let k = fit_next c.loop-p.invariant c.loop-p-test.true in record {
-      header = (c.requires.0, c.requires.1);
-      placed = (c.loop-p.invariant.b, k.x, k.stands);
-    }
+    let k = fit_next c.loop-p.invariant c.loop-p-test.true in (c.loop-p.invariant.b, k.x, k.stands)
 
 pub returns-then-not-fits_at : goal.returns-then-not-fits_at
 returns-then-not-fits_at c =
     let k = fit_next c.loop-p.invariant c.loop-p-test.true in
     fit-no c.loop-p.invariant c.loop-p-test.true (sym (c.fits_at.ensures _ _ k.stands) ∙ c.if-not-fits_at.true) ∙ ap
-    (λ y. fit_from (spare_in c.args.head.now) (lists_in c.args.head.now) y 0 0 (segments_of c.args.words.now)) (λ i. c.listed.ensures i + c.spare_count.ensures i)
+    (λ y. fit_from (spare_in c.args.lists.now.words.now) (lists_in c.args.lists.now.words.now) y 0 0 (segments_of c.args.pages.now.words.now)) (λ i. c.listed.ensures i + c.spare_count.ensures i)
 
 pub open_at-open-requires : goal.open_at-open-requires
 open_at-open-requires c =
-    let k = fit_next c.loop-p.invariant c.loop-p-test.true in record {
-      holds = c.requires.1;
-      placed = (c.loop-p.invariant.b, k.x, k.stands);
-    }
+    let k = fit_next c.loop-p.invariant c.loop-p-test.true in (c.loop-p.invariant.b, k.x, k.stands)
 
 pub overflow_add-open : goal.overflow_add-open
 overflow_add-open c =
@@ -39,10 +33,7 @@ overflow_add-open c =
 
 pub size-p-requires : goal.size-p-requires
 size-p-requires c =
-    let k = fit_next c.loop-p.invariant c.loop-p-test.true in record {
-      holds = c.requires.1;
-      placed = (c.loop-p.invariant.b, k.x, k.stands);
-    }
+    let k = fit_next c.loop-p.invariant c.loop-p-test.true in (c.loop-p.invariant.b, k.x, k.stands)
 
 pub overflow_add-p : goal.overflow_add-p
 overflow_add-p c =
@@ -61,5 +52,5 @@ loop-p-preserved c =
 
 pub returns : goal.returns
 returns c =
-    fit-end c.loop-p.invariant c.loop-p-test.false ∙ ap (λ y. fit_from (spare_in c.args.head.now) (lists_in c.args.head.now) y 0 0 (segments_of c.args.words.now))
+    fit-end c.loop-p.invariant c.loop-p-test.false ∙ ap (λ y. fit_from (spare_in c.args.lists.now.words.now) (lists_in c.args.lists.now.words.now) y 0 0 (segments_of c.args.pages.now.words.now))
     (λ i. c.listed.ensures i + c.spare_count.ensures i)

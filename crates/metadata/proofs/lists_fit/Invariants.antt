@@ -5,7 +5,7 @@ use Rattle.metadata.proofs.Fitting.{Fitting}
 use Rattle.metadata.proofs.lists_fit.Given as goal
 
 abbrev pub invariant-loop-p : goal.invariant-loop-p
-invariant-loop-p l = Fitting (spare_in l.head) (lists_in l.head) l.entries l.words l.n l.open l.p
+invariant-loop-p l = Fitting (spare_in l.lists.words.now) (lists_in l.lists.words.now) l.entries l.pages.words.now l.pages.count l.open l.p
 
 abbrev pub decreases-loop-p : goal.decreases-loop-p
-decreases-loop-p l = l.n - l.p
+decreases-loop-p l = l.pages.count - l.p

@@ -6,11 +6,11 @@ use native.Mathlib.Omega.{arith}
 use mathlib.Core.Path.{sym, ◌∙◌}
 use Rattle.metadata.proofs.pages.Goals as goal
 
-pub slice_bounds-pages-end : goal.slice_bounds-pages-end
-slice_bounds-pages-end c = sym (length-take-le header_words c.args.words.now (omega (arith, (state-read _ c.requires).long)))
+pub slice_bounds-lists-end : goal.slice_bounds-lists-end
+slice_bounds-lists-end c = sym (length-take-le header_words c.args.words.now (omega (arith, (state-read _ c.requires).long)))
 
-pub pages-requires : goal.pages-requires
-pages-requires c = (state-read _ c.requires).header
+pub invariant_of-lists : goal.invariant_of-lists
+invariant_of-lists c = record { legal = (state-read _ c.requires).header }
 
 pub returns : goal.returns
 returns c = c.pages.ensures ∙ sym (state-pages _ c.requires)

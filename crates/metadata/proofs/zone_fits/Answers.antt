@@ -12,19 +12,19 @@ use Rattle.metadata.proofs.zone_fits.Goals as goal
 
 pub returns-then-is_full : goal.returns-then-is_full
 returns-then-is_full c =
-    fits-full (spare_in c.args.head.now) (lists_in c.args.head.now) c.args.page (zone_of c.args.part.now) (sym c.is_full.ensures ∙ c.if-is_full.true)
+    fits-full (spare_in c.args.lists.now.words.now) (lists_in c.args.lists.now.words.now) c.args.page (zone_of c.args.part.now.words.now) (sym c.is_full.ensures ∙ c.if-is_full.true)
 
 pub returns-then-spare_contains : goal.returns-then-spare_contains
 returns-then-spare_contains c =
-    c.is_idle.ensures ∙ fits-spare (spare_in c.args.head.now) (lists_in c.args.head.now) c.args.page (zone_of c.args.part.now) (sym c.is_full.ensures ∙ c.if-is_full.false)
+    c.is_idle.ensures ∙ fits-spare (spare_in c.args.lists.now.words.now) (lists_in c.args.lists.now.words.now) c.args.page (zone_of c.args.part.now.words.now) (sym c.is_full.ensures ∙ c.if-is_full.false)
     (sym c.spare_contains.ensures ∙ c.if-spare_contains.true)
 
 pub contains-requires : goal.contains-requires
 contains-requires c =
-    (c.requires.0, subst (λ k. k < class_count) (sym c.class_of.ensures) (class_low _ c.requires.1), c.requires.2)
+    (subst (λ k. k < class_count) (sym c.class.ensures) (class_low _ c.args.part.now.valid), c.requires)
 
 pub returns : goal.returns
 returns c =
-    c.contains.ensures ∙ ap (λ k. stands c.args.page (get_or (lists_in c.args.head.now) k [])) c.class_of.ensures ∙ fits-listed (spare_in c.args.head.now)
-    (lists_in c.args.head.now) c.args.page (zone_of c.args.part.now) (sym c.is_full.ensures ∙ c.if-is_full.false)
+    c.contains.ensures ∙ ap (λ k. stands c.args.page (get_or (lists_in c.args.lists.now.words.now) k [])) c.class.ensures ∙ fits-listed (spare_in c.args.lists.now.words.now)
+    (lists_in c.args.lists.now.words.now) c.args.page (zone_of c.args.part.now.words.now) (sym c.is_full.ensures ∙ c.if-is_full.false)
     (sym c.spare_contains.ensures ∙ c.if-spare_contains.false)

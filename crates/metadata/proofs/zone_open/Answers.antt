@@ -5,7 +5,7 @@ use mathlib.Core.Path.{sym, ◌∙◌}
 use Rattle.metadata.proofs.zone_open.Goals as goal
 
 pub returns-then-is_full : goal.returns-then-is_full
-returns-then-is_full c = closed-zone (zone_of c.args.part.now) (sym c.is_full.ensures ∙ c.if-is_full.true)
+returns-then-is_full c = closed-zone (zone_of c.args.part.now.words.now) (sym c.is_full.ensures ∙ c.if-is_full.true)
 
 pub returns : goal.returns
-returns c = opened-zone (zone_of c.args.part.now) (sym c.is_full.ensures ∙ c.if-is_full.false)
+returns c = opened-zone (zone_of c.args.part.now.words.now) (sym c.is_full.ensures ∙ c.if-is_full.false)

@@ -9,4 +9,4 @@ pub overflow_add-next : goal.overflow_add-next
 overflow_add-next c = let h = c.requires in let r = here-inside h.good.lent h.placed.2 in omega (arith, c.size_at-len.ensures _ _ h.placed.2)
 
 pub returns : goal.returns
-returns c = λ b k s. let e = c.size_at-len.ensures b _ s in (ap (λ y. c.args.start + y) e, e, refl)
+returns c = λ b k s. let e = c.size_at-len.ensures b _ s in (ap (λ y. c.args.first + y) e, e, refl)

@@ -6,9 +6,9 @@ use Rattle.model.specs.Free.{offsets_of, freed_all}
 use Rattle.reset.specs.Sweep.{Sweep}
 use Rattle.reset.proofs.sweep.Given as goal
 
-abbrev pub invariant-loop-p : goal.invariant-loop-p
-invariant-loop-p l =
-    Sweep l.group (freed_all (offsets_of l.group (decode l.initial.words)) (decode l.initial.words)) (length (offsets_of l.group (decode l.initial.words))) l.words l.n l.p l.before l.count
+abbrev pub invariant-loop-start : goal.invariant-loop-start
+invariant-loop-start l =
+    Sweep l.group (freed_all (offsets_of l.group (decode l.initial.words)) (decode l.initial.words)) (length (offsets_of l.group (decode l.initial.words))) l.words l.n l.start.at l.start.before l.count
 
-abbrev pub decreases-loop-p : goal.decreases-loop-p
-decreases-loop-p l = l.n - l.p
+abbrev pub decreases-loop-start : goal.decreases-loop-start
+decreases-loop-start l = l.n - l.start.at

@@ -2,8 +2,8 @@
 use Rattle.reset.proofs.Steps.{direct_good, direct-low, direct-run, direct-gone}
 use Rattle.reset.proofs.sweep_direct.Goals as goal
 
-pub overflow_sub-p : goal.overflow_sub-p
-overflow_sub-p c =
+pub overflow_sub-start : goal.overflow_sub-start
+overflow_sub-start c =
     let h = c.requires in direct-low h.0 h.1 c.give_back.ensures
 
 pub behind_run-requires : goal.behind_run-requires

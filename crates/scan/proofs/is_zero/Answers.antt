@@ -1,23 +1,21 @@
--- `is_zero` meets its contract. Assumes nothing.
-use Rattle.std.proofs.Common.{arith, ◌+◌, ◌-◌, length, sym, ◌∙◌}
+-- `is_zero` meets its contract, by what `block_is_zero` answered for the blocks and for the words behind them. Assumes nothing.
+use Rattle.std.proofs.Common.{arith, rules, tests, refl, ◌∙◌, ap}
+use Rattle.lemmas.specs.Every.{every}
 use Rattle.lemmas.specs.Zeros.{is_zero}
-use Rattle.lemmas.proofs.Every.{every-nil, every-block, every-block-not, every-block-last}
+use Rattle.scan.proofs.Blocks.{blocks-zero, block-wrong}
 use Rattle.scan.proofs.is_zero.Goals as goal
 
-pub loop-i-init : goal.loop-i-init
-loop-i-init c = (omega arith, every-nil is_zero)
+pub returns-then-all : goal.returns-then-all
+returns-then-all c =
+    let cut = c.chunks_exact-blocks.ensures in
+    let (p, from, run) = c.if-all.ensures.runs in
+    let blocks = rw (from, cut.size, cut.rest) at (cut.runs p p.seen (rw (from, cut.size) (omega arith))) in
+    let rest = blocks-zero p 64 c.args.s blocks run.0 (run.1 (λ _ _ _ _. refl)) (λ x h. search (rules, tests)) in
+    c.block_is_zero.ensures ∙ ap (every is_zero) (c.remainder-rest.ensures ∙ cut.remainder) ∙ rest
 
-pub returns-then-not-block_is_zero : goal.returns-then-not-block_is_zero
-returns-then-not-block_is_zero c =
-    let i = c.loop-i.i in
-    sym (every-block-not is_zero c.args.s.now i (i + 64 - i) (sym c.block_is_zero.ensures ∙ c.if-not-block_is_zero.true))
-
-pub loop-i-preserved : goal.loop-i-preserved
-loop-i-preserved c =
-    let i = c.loop-i.i in (
-      omega arith,
-      every-block is_zero c.args.s.now i (i + 64 - i) (i + 64) (omega arith) c.loop-i.invariant.1 (sym c.block_is_zero.ensures ∙ c.if-not-block_is_zero.false),
-    )
-
-pub returns : goal.returns
-returns c = let i = c.loop-i.i in c.block_is_zero-2.ensures ∙ every-block-last is_zero c.args.s.now i (length c.args.s.now - i) (omega arith) c.loop-i.invariant.1
+pub returns-else-all : goal.returns-else-all
+returns-else-all c =
+    let cut = c.chunks_exact-blocks.ensures in
+    let (p, from, run) = c.if-all.ensures.runs in
+    let blocks = rw (from, cut.size, cut.rest) at (cut.runs p p.seen (rw (from, cut.size) (omega arith))) in
+    c.if-all.false ∙ block-wrong p 64 c.args.s blocks (run (λ _ _ _ _. refl)) (λ x h. search (rules, tests))

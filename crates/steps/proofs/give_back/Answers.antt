@@ -1,5 +1,5 @@
 -- `give_back` meets its contract. Assumes nothing.
-use Rattle.steps.proofs.Body.{has-pages, has-header, body-holds, in_body, body_back, release-total}
+use Rattle.steps.proofs.Body.{has-pages, body-holds, in_body, body_back, release-total}
 use mathlib.Core.Bool.{false}
 use mathlib.Core.Path.{◌≡◌}
 use Prim.Native.Nat.{◌*◌}
@@ -11,17 +11,11 @@ use Rattle.model.specs.Zone.{Zone}
 use Rattle.model.specs.Arena.{Segment, pages}
 use Rattle.steps.proofs.give_back.Goals as goal
 
-pub slice_bounds-give_back-count : goal.slice_bounds-give_back-count
-slice_bounds-give_back-count c = has-header c.requires.lent.0
-
-pub slice_bounds-give_back-start : goal.slice_bounds-give_back-start
-slice_bounds-give_back-start c = has-header c.requires.lent.0
-
 pub give_back-requires : goal.give_back-requires
 give_back-requires c =
     let h = c.requires in
     let l = h.lent.0 in
-    let there = in_body l (λ m. (x : Segment Zone) × Stands m c.args.at c.args.before x × (pages x ≡ c.args.len) × (run_pages x ≡ 0)) h.stands in record {
+    let there = in_body l (λ m. (x : Segment Zone) × Stands m c.args.start.at c.args.start.before x × (pages x ≡ c.args.len) × (run_pages x ≡ 0)) h.stands in record {
       holds = body-holds l _ h.lent.1;
       apart = in_body l (λ m. Apart false m) h.apart;
       stands = there;
@@ -29,4 +23,4 @@ give_back-requires c =
 
 pub returns : goal.returns
 returns c =
-    let h = c.requires in body_back h.lent.0 _ (λ m. release (c.args.at * page_bytes) m) (release-total h.stands.1 (has-pages h.lent.0 h.stands.1)) c.give_back.ensures
+    let h = c.requires in body_back h.lent.0 _ (λ m. release (c.args.start.at * page_bytes) m) (release-total h.stands.1 (has-pages h.lent.0 h.stands.1)) c.give_back.ensures

@@ -1,15 +1,8 @@
 -- `list_without` meets its contract. Assumes nothing.
 use Rattle.metadata.specs.Decoding.{decode}
 use mathlib.Core.Path.{refl}
-use Rattle.steps.proofs.Body.{has-header, header-long}
 use Rattle.steps.proofs.Lent.{header-lent, header-put}
 use Rattle.steps.proofs.list_without.Goals as goal
-
-pub slice_bounds-remove-end : goal.slice_bounds-remove-end
-slice_bounds-remove-end c = has-header c.requires.lent
-
-pub slice_bounds-remove-end-2 : goal.slice_bounds-remove-end-2
-slice_bounds-remove-end-2 c = header-long c.requires.lent
 
 pub remove-requires : goal.remove-requires
 unfolding decode

@@ -1,15 +1,8 @@
 -- `spare_front` meets its contract. Assumes nothing.
 use Rattle.metadata.specs.Decoding.{decode}
 use mathlib.Core.Path.{refl}
-use Rattle.steps.proofs.Body.{has-header, header-long}
 use Rattle.steps.proofs.Lent.{header-lent, header-put}
 use Rattle.steps.proofs.spare_front.Goals as goal
-
-pub slice_bounds-spare_push-end : goal.slice_bounds-spare_push-end
-slice_bounds-spare_push-end c = has-header c.requires.lent
-
-pub slice_bounds-spare_push-end-2 : goal.slice_bounds-spare_push-end-2
-slice_bounds-spare_push-end-2 c = header-long c.requires.lent
 
 pub spare_push-requires : goal.spare_push-requires
 unfolding decode

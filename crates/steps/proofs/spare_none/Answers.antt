@@ -1,15 +1,8 @@
 -- `spare_none` meets its contract. Assumes nothing.
 use Rattle.metadata.specs.Decoding.{decode}
 use mathlib.Core.Path.{refl}
-use Rattle.steps.proofs.Body.{has-header, header-long}
 use Rattle.steps.proofs.Lent.{header-lent, header-put}
 use Rattle.steps.proofs.spare_none.Goals as goal
-
-pub slice_bounds-spare_clear-end : goal.slice_bounds-spare_clear-end
-slice_bounds-spare_clear-end c = has-header c.requires
-
-pub slice_bounds-spare_clear-end-2 : goal.slice_bounds-spare_clear-end-2
-slice_bounds-spare_clear-end-2 c = header-long c.requires
 
 pub spare_clear-requires : goal.spare_clear-requires
 unfolding decode

@@ -1,22 +1,9 @@
 -- `zone_part` meets its contract. Assumes nothing.
-use native.Mathlib.Omega.{arith}
-use Rattle.steps.proofs.ZonePart.{part-page, part_end, part-zone, part-is}
+use Rattle.steps.proofs.ZonePart.{part-zone, part-is}
 use Rattle.steps.proofs.zone_part.Goals as goal
 
-pub words_for-a-requires : goal.words_for-a-requires
-words_for-a-requires c = let h = c.requires in part-page h.0 _ h.1
-
-pub overflow_add-e : goal.overflow_add-e
-overflow_add-e c = let h = c.requires in let r = part_end h.0 _ h.1 _ c.words_for-a.ensures in omega arith
-
-pub offset_bounds-words-a : goal.offset_bounds-words-a
-offset_bounds-words-a c = let h = c.requires in let r = part_end h.0 _ h.1 _ c.words_for-a.ensures in omega arith
-
-pub slice_bounds-result-end : goal.slice_bounds-result-end
-slice_bounds-result-end c = let h = c.requires in let r = part_end h.0 _ h.1 _ c.words_for-a.ensures in omega arith
+pub invariant_of-result : goal.invariant_of-result
+invariant_of-result c = let h = c.requires in record { valid = part-zone h.0 _ h.1 _ c.zone_start-a.ensures.0 }
 
 pub returns : goal.returns
-returns c =
-    let h = c.requires in
-    let a = c.words_for-a.ensures in
-    (part-zone h.0 _ h.1 _ a, part-is h.0 _ h.1 _ a)
+returns c = let h = c.requires in part-is h.0 _ h.1 _ c.zone_start-a.ensures.0

@@ -8,7 +8,7 @@ use Rattle.lemmas.specs.Times.{times}
 use Rattle.model.specs.Numbers.{most_group}
 use Rattle.zone.specs.Decoding.{owner_in}
 use Rattle.tally.specs.Figures.{stretch}
-use Rattle.tally.proofs.Adding.{up_none, up_more, up-all, count_most, stretch-within}
+use Rattle.tally.proofs.Adding.{up_more, count_most, stretch-within}
 use Rattle.tally.proofs.Squeezed.{times-squeezed}
 use Rattle.tally.proofs.add_stretch.Goals as goal
 use Rattle.tally.proofs.add_stretch.Goals.{At-loop-group}
@@ -17,28 +17,18 @@ use Rattle.tally.proofs.add_stretch.Goals.{At-loop-group}
 counted : (c : At-loop-group) (g : ℕ) → 0 < g → g ≤ most_group → times g c.squeeze.new.bytes ≡ times g (map owner_in c.args.slots.now)
 counted c g p q = times-squeezed g p q c.args.slots.now _ stretch c.squeeze.ensures
 
-pub squeeze-requires : goal.squeeze-requires
-squeeze-requires c = c.requires.0
-
-pub loop-group-init : goal.loop-group-init
-loop-group-init c =
-    (omega arith, up_none _ _ _ c.requires.2.long)
-
 pub add_blocks-requires : goal.add_blocks-requires
 add_blocks-requires c =
-    let few = c.count_byte-count.ensures.1 in (
+    let few : c.from-count.result ≤ stretch = omega (arith, c.from-count.ensures, c.count_byte.ensures.1) in (
       omega arith,
       omega arith,
       few,
       count_most _ _ few c.requires.1,
-      stretch-within _ _ (map owner_in c.args.slots.now) _ _ (simp length-map c.requires.0) c.requires.1 c.requires.2 c.loop-group.invariant.1,
+      stretch-within _ _ (map owner_in c.args.slots.now) _ _ (simp length-map c.requires.0) c.requires.1 c.requires.2 c.loop-group.invariant,
     )
 
 pub loop-group-preserved : goal.loop-group-preserved
 loop-group-preserved c =
     let n : ℕ → ℕ = λ g. times g (map owner_in c.args.slots.now) in
-    let same = c.count_byte-count.ensures.0 ∙ counted (goal.at.loop-group-preserved c).At-loop-group _ (omega arith) (omega arith) in
-    (omega arith, up_more n _ _ _ _ _ _ same c.loop-group.invariant.1 c.add_blocks.ensures)
-
-pub returns : goal.returns
-returns c = up-all _ _ _ _ _ c.loop-group-test.false c.loop-group.invariant.1
+    let same = c.from-count.ensures ∙ c.count_byte.ensures.0 ∙ counted (goal.at.loop-group-preserved c).At-loop-group _ (omega arith) (omega arith) in
+    up_more n _ _ _ _ _ _ same c.loop-group.invariant c.add_blocks.ensures

@@ -5,25 +5,22 @@ use Rattle.tally.proofs.tally.Goals as goal
 use Rattle.tally.proofs.tally.Goals.{In-loop-p}
 
 -- The segment at the loop's page.
-here : (c : In-loop-p) → Here c.args.words.now c.args.n c.loop-p.figures c.loop-p.p c.loop-p.invariant.b
+here : (c : In-loop-p) → Here c.args.pages.now.words.now c.args.pages.now.count c.loop-p.figures c.loop-p.p c.loop-p.invariant.b
 here c = tally-here c.loop-p.invariant c.loop-p-test.true
 
 pub loop-p-init : goal.loop-p-init
-loop-p-init c = tally-start c.requires.holds c.requires.tallied
+loop-p-init c = tally-start c.args.pages.now.held c.requires
 
 pub add_segment-requires : goal.add_segment-requires
 add_segment-requires c =
     let i = c.loop-p.invariant in record {
-      holds = (i.holds, tally-within i);
+      within = tally-within i;
       placed = (i.b, (here (goal.at.add_segment-requires c).In-loop-p).x, (here (goal.at.add_segment-requires c).In-loop-p).stands);
     }
 
 pub size-p-requires : goal.size-p-requires
 size-p-requires c =
-    let i = c.loop-p.invariant in record {
-      holds = i.holds;
-      placed = (i.b, (here (goal.at.size-p-requires c).In-loop-p).x, (here (goal.at.size-p-requires c).In-loop-p).stands);
-    }
+    let k = here (goal.at.size-p-requires c).In-loop-p in (c.loop-p.invariant.b, k.x, k.stands)
 
 pub overflow_add-p : goal.overflow_add-p
 overflow_add-p c =

@@ -4,7 +4,7 @@ use Rattle.tally.proofs.Segments.{Tallying}
 use Rattle.tally.proofs.tally.Given as goal
 
 abbrev pub invariant-loop-p : goal.invariant-loop-p
-invariant-loop-p l = Tallying l.words l.n l.figures l.p
+invariant-loop-p l = Tallying l.pages.words.now l.pages.count l.figures l.p
 
 abbrev pub decreases-loop-p : goal.decreases-loop-p
-decreases-loop-p l = l.n - l.p
+decreases-loop-p l = l.pages.count - l.p

@@ -1,17 +1,13 @@
 -- `body_is_legal` meets its contract, part by part. Assumes nothing.
 use mathlib.Core.Path.{sym, ◌∙◌}
-use Rattle.zone.proofs.Scans.{body-rest, body-slots, body-untouched}
+use Rattle.lemmas.proofs.Cases.{true-false}
+use Rattle.zone.proofs.Scans.{body-untouched}
 use Rattle.zone.proofs.body_is_legal.Goals as goal
+use Rattle.zone.proofs.body_is_legal.Goals.{then-is_zero, else-is_zero}
 
-pub returns-then-not-is_zero : goal.returns-then-not-is_zero
-returns-then-not-is_zero c = body-rest _ (sym c.is_zero.ensures ∙ c.if-not-is_zero.true)
-
-pub returns-then-not-are_legal : goal.returns-then-not-are_legal
-returns-then-not-are_legal c = body-slots _ (sym c.are_legal.ensures ∙ c.if-not-are_legal.true)
-
-pub returns : goal.returns
-returns c =
-    let end = c.wide-end in
-    c.is_zero-2.ensures
-    ∙ body-untouched _ _ c.requires.0 c.requires.1 end.ensures (sym c.is_zero.ensures ∙ c.if-not-is_zero.false)
-    (sym c.are_legal.ensures ∙ c.if-not-are_legal.false)
+pub returns-then-are_legal : goal.returns-then-are_legal
+returns-then-are_legal c =
+    elim c.if-is_zero.branch [
+      | then-is_zero w ↦ c.is_zero-then-are_legal.ensures ∙ body-untouched _ c.requires.0 c.requires.1 (sym c.is_zero.ensures ∙ w.if-is_zero.true) (sym w.are_legal.ensures ∙ sym w.value-is ∙ c.if-are_legal.true)
+      | else-is_zero w ↦ true-false c.if-are_legal.true (w.value-is ∙ w.if-is_zero.false)
+    ]

@@ -40,7 +40,7 @@ pub take_last-requires : goal.take_last-requires
 take_last-requires c =
     let p = c.requires in ((taken _ p.0 _ p.2 p.3 p.1 (gone (goal.at.take_last-requires c).After-has_chunk c.if-has_chunk.false)).asks, omega arith)
 
-pub returns : goal.returns
-returns c =
+pub returns-else-has_chunk : goal.returns-else-has_chunk
+returns-else-has_chunk c =
     let p = c.requires in
-    let r = taken _ p.0 _ p.2 p.3 p.1 (gone (goal.at.returns c).After-has_chunk c.if-has_chunk.false) in (c.take_last.ensures.0 ∙ r.chunk-is, c.take_last.ensures.1 ∙ words-encoding r.words_are)
+    let r = taken _ p.0 _ p.2 p.3 p.1 (gone (goal.at.returns-else-has_chunk c).After-has_chunk c.if-has_chunk.false) in (c.take_last.ensures.0 ∙ r.chunk-is, c.take_last.ensures.1 ∙ words-encoding r.words_are)

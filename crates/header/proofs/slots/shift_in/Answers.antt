@@ -1,16 +1,19 @@
--- `slots::shift_in` meets its contract. The loop's invariant: what is left to shift leads to the same slots. Assumes nothing.
+-- `slots::shift_in` meets its contract. Assumes nothing.
 use Prim.Native.Nat.{◌≤◌, ◌<◌}
 use mathlib.Core.Path.{sym, ◌∙◌}
 use native.Mathlib.Omega.{arith}
-use lib.ListN.{length, length-set}
-use Rattle.header.proofs.Scans.{shift-more, shift-done}
+use lib.ListN.{length}
+use Rattle.header.proofs.Scans.{shift-more, shift-done, shift-put}
 use Rattle.header.proofs.slots.shift_in.Goals as goal
 
-pub loop-i-preserved : goal.loop-i-preserved
-loop-i-preserved c =
-    let turn = c.loop-i in
-    let h : turn.i < length turn.slots = omega arith in
-    (omega arith, omega arith, simp length-set turn.invariant.2, shift-more _ _ _ h ∙ turn.invariant.3)
+pub loop-slot-preserved : goal.loop-slot-preserved
+loop-slot-preserved c =
+    let turn = c.loop-slot in
+    let h : turn.slot-index < length turn.slot-items = omega arith in
+    rw (c.replace-carry.ensures.value, c.replace-carry.ensures.after) (shift-more _ _ _ h ∙ turn.invariant)
 
 pub returns : goal.returns
-returns c = let h : length c.loop-i.slots ≤ c.loop-i.i = omega arith in sym (shift-done _ _ _ h) ∙ c.loop-i.invariant.3
+returns c =
+    let turn = c.loop-slot in
+    let h : length turn.slot-items ≤ turn.slot-index = omega arith in
+    shift-put _ _ _ _ (sym (shift-done _ _ _ h) ∙ turn.invariant)

@@ -1,31 +1,31 @@
--- `rows::class_of_size` meets its contract: each return is a row of the table of sizes. Assumes nothing.
-use Rattle.std.proofs.Common.{sym, arith}
+-- `rows::class_of_size` meets its contract: each arm is a row of the table of sizes. Assumes nothing.
+use Rattle.std.proofs.Common.{ℕ, ◌<◌, sym, arith}
 use Rattle.classes.proofs.Rule.{Rows, rows}
+use Rattle.model.specs.Numbers.{large_size}
 use Rattle.model.specs.Sizes.{class_of}
 use Rattle.measure.proofs.rows.class_of_size.Goals as goal
-use Rattle.measure.proofs.rows.class_of_size.Goals.{Start}
 
--- The class in each row, of the size at hand.
-by_rows : (c : Start) → Rows c.args.size (class_of c.args.size)
-by_rows c = rows c.args.size c.requires.0 (omega arith)
+-- The class in each row, of a size that takes a chunk.
+of : (n : ℕ) → (0 < n) × (n < large_size) → Rows n (class_of n)
+of n h = rows n h.0 (omega arith)
 
-pub returns-then-size-lt128 : goal.returns-then-size-lt128
-returns-then-size-lt128 c = sym ((by_rows (goal.at.returns-then-size-lt128 c).Start).by8 (omega arith))
+pub returns-in-0-to-127 : goal.returns-in-0-to-127
+returns-in-0-to-127 c = sym ((of c.args.size c.requires).by8 (omega arith))
 
-pub returns-then-size-lt256 : goal.returns-then-size-lt256
-returns-then-size-lt256 c = sym ((by_rows (goal.at.returns-then-size-lt256 c).Start).by16 (omega arith) (omega arith))
+pub returns-in-128-to-255 : goal.returns-in-128-to-255
+returns-in-128-to-255 c = sym ((of c.args.size c.requires).by16 (omega arith) (omega arith))
 
-pub returns-then-size-lt512 : goal.returns-then-size-lt512
-returns-then-size-lt512 c = sym ((by_rows (goal.at.returns-then-size-lt512 c).Start).by32 (omega arith) (omega arith))
+pub returns-in-256-to-511 : goal.returns-in-256-to-511
+returns-in-256-to-511 c = sym ((of c.args.size c.requires).by32 (omega arith) (omega arith))
 
-pub returns-then-size-lt1024 : goal.returns-then-size-lt1024
-returns-then-size-lt1024 c = sym ((by_rows (goal.at.returns-then-size-lt1024 c).Start).by64 (omega arith) (omega arith))
+pub returns-in-512-to-1023 : goal.returns-in-512-to-1023
+returns-in-512-to-1023 c = sym ((of c.args.size c.requires).by64 (omega arith) (omega arith))
 
-pub returns-then-size-lt2048 : goal.returns-then-size-lt2048
-returns-then-size-lt2048 c = sym ((by_rows (goal.at.returns-then-size-lt2048 c).Start).by128 (omega arith) (omega arith))
+pub returns-in-1024-to-2047 : goal.returns-in-1024-to-2047
+returns-in-1024-to-2047 c = sym ((of c.args.size c.requires).by128 (omega arith) (omega arith))
 
-pub returns-then-size-lt4096 : goal.returns-then-size-lt4096
-returns-then-size-lt4096 c = sym ((by_rows (goal.at.returns-then-size-lt4096 c).Start).by256 (omega arith) (omega arith))
+pub returns-in-2048-to-4095 : goal.returns-in-2048-to-4095
+returns-in-2048-to-4095 c = sym ((of c.args.size c.requires).by256 (omega arith) (omega arith))
 
-pub returns : goal.returns
-returns c = sym ((by_rows (goal.at.returns c).Start).by512 (omega arith))
+pub returns-in_default : goal.returns-in_default
+returns-in_default c = sym ((of c.args.size c.requires).by512 (omega arith))

@@ -24,10 +24,6 @@ pub slice_bounds-put_rest-start : goal.slice_bounds-put_rest-start
 slice_bounds-put_rest-start c =
     let h = c.requires in omega (arith, h.2, whole_length _ _ _ _ (direct _ _) h.0 h.1 h.2 h.3 refl c.put_direct.ensures)
 
-pub slice_bounds-put_rest-end : goal.slice_bounds-put_rest-end
-slice_bounds-put_rest-end c =
-    let h = c.requires in omega (arith, h.2, whole_length _ _ _ _ (direct _ _) h.0 h.1 h.2 h.3 refl c.put_direct.ensures)
-
 pub put_rest-requires : goal.put_rest-requires
 put_rest-requires c =
     let h = c.requires in (rest-zero _ _ _ _ (direct _ _) h.0 h.1 h.2 h.3 refl c.put_direct.ensures, omega (arith, h.3))

@@ -28,11 +28,6 @@ slice_bounds-put_rest-start c =
     let h = c.requires in
     omega (arith, h.1, whole_length _ _ _ zone_pages (zone (new_zone c.args.class c.args.group)) h.0 (omega arith) h.1 h.2 refl (zone-made (new_zone c.args.class c.args.group) c.set_up.ensures))
 
-pub slice_bounds-put_rest-end : goal.slice_bounds-put_rest-end
-slice_bounds-put_rest-end c =
-    let h = c.requires in
-    omega (arith, h.1, whole_length _ _ _ zone_pages (zone (new_zone c.args.class c.args.group)) h.0 (omega arith) h.1 h.2 refl (zone-made (new_zone c.args.class c.args.group) c.set_up.ensures))
-
 pub put_rest-requires : goal.put_rest-requires
 put_rest-requires c =
     let h = c.requires in

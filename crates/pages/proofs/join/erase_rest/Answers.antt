@@ -1,17 +1,16 @@
 -- `join::erase_rest` meets its contract. Assumes nothing.
 use Rattle.pages.proofs.Fused.{rest-long, rest-erased, nothing-erased}
+use mathlib.Core.Path.{sym}
+use borrow.Author.Tests.{eqb-true, eqb-false}
 use lib.ListN.{length-set}
 use native.Mathlib.Omega.{arith}
 use Rattle.pages.proofs.join.erase_rest.Goals as goal
 
-pub returns-then-part-eq0 : goal.returns-then-part-eq0
-returns-then-part-eq0 c = nothing-erased _ c.if-part-eq0.true
-
-pub bounds-part-0 : goal.bounds-part-0
-bounds-part-0 c = omega (arith, rest-long _ c.requires.0 c.requires.1 c.if-part-eq0.false)
+pub returns-then-is_empty : goal.returns-then-is_empty
+returns-then-is_empty c = nothing-erased _ (eqb-true _ 0 (sym c.if-is_empty.ensures))
 
 pub bounds-part-1 : goal.bounds-part-1
-bounds-part-1 c = simp length-set (omega (arith, rest-long _ c.requires.0 c.requires.1 c.if-part-eq0.false))
+bounds-part-1 c = simp length-set (omega (arith, rest-long _ c.requires.0 c.requires.1 (eqb-false _ 0 (sym c.if-is_empty.ensures))))
 
 pub returns : goal.returns
-returns c = rest-erased _ c.requires.0 c.requires.1 c.if-part-eq0.false
+returns c = rest-erased _ c.requires.0 c.requires.1 (eqb-false _ 0 (sym c.if-is_empty.ensures))

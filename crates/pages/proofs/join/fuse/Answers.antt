@@ -1,5 +1,5 @@
 -- `join::fuse` meets its contract. Assumes nothing.
-use Rattle.pages.proofs.Fused.{fuse-long, fuse-part, erased-long, rest_part, fuse-blank}
+use Rattle.pages.proofs.Fused.{fuse-long, fuse-part, rest_part, fuse-blank}
 use native.Mathlib.Omega.{arith}
 use Rattle.pages.proofs.join.fuse.Goals as goal
 
@@ -8,18 +8,6 @@ slice_bounds-erase-end c = let h = c.requires in let r = fuse-long _ _ _ _ h.0 h
 
 pub erase-requires : goal.erase-requires
 erase-requires c = let h = c.requires in (h.0, omega (arith, h.1, h.2), fuse-part _ _ _ _ h.0 h.1 h.2 h.3 h.4)
-
-pub slice_bounds-erase_rest-count : goal.slice_bounds-erase_rest-count
-slice_bounds-erase_rest-count c =
-    let h = c.requires in let r = erased-long _ _ _ _ h.0 h.1 h.2 h.3 h.4 _ c.erase.ensures in omega arith
-
-pub slice_bounds-erase_rest-start : goal.slice_bounds-erase_rest-start
-slice_bounds-erase_rest-start c =
-    let h = c.requires in let r = erased-long _ _ _ _ h.0 h.1 h.2 h.3 h.4 _ c.erase.ensures in omega arith
-
-pub slice_bounds-erase_rest-end : goal.slice_bounds-erase_rest-end
-slice_bounds-erase_rest-end c =
-    let h = c.requires in let r = erased-long _ _ _ _ h.0 h.1 h.2 h.3 h.4 _ c.erase.ensures in omega arith
 
 pub erase_rest-requires : goal.erase_rest-requires
 erase_rest-requires c =

@@ -3,12 +3,6 @@ use Rattle.pages.proofs.Given.{given_inside, given-words, given-put}
 use native.Mathlib.Omega.{arith}
 use Rattle.pages.proofs.join.give_back.Goals as goal
 
-pub run_behind-after-requires : goal.run_behind-after-requires
-run_behind-after-requires c = let h = c.requires in record {
-  holds = h.holds;
-  placed = (c.args.before, h.stands.0, h.stands.1, h.stands.2);
-}
-
 pub overflow_sub-a : goal.overflow_sub-a
 overflow_sub-a c = let h = c.requires in let q = given_inside h.holds h.apart h.stands.1 h.stands.2 h.stands.3 in omega arith
 

@@ -2,7 +2,7 @@
 use native.Mathlib.Omega.{arith}
 use Rattle.model.specs.Ascii.{ascii}
 use Rattle.text.proofs.Left.{wrote_as}
-use Rattle.uplink.proofs.Says.{named-bounded, named-short, says-granted, says-denied, says-refused, says-done, says-counted, says-block}
+use Rattle.uplink.proofs.Says.{named-bounded, named-short, says-granted, says-no, says-done, says-counted, says-block}
 use Rattle.uplink.proofs.answers.put_answer.Goals as goal
 
 pub put_named-requires : goal.put_named-requires
@@ -16,20 +16,14 @@ put_named-requires-in-Counted c =
 pub returns-in-Granted : goal.returns-in-Granted
 unfolding ascii
 returns-in-Granted c = record {
-  wrote = wrote_as (says-granted c.in-Granted.is c.long.ensures) c.put_named.ensures;
+  wrote = wrote_as (says-granted c.in-Granted.is c.from.ensures) c.put_named.ensures;
   upper_bound = named-short _ _ c.put_named.ensures (omega arith) (omega arith);
 }
 
 pub returns-in-Denied : goal.returns-in-Denied
 returns-in-Denied c = record {
-  wrote = wrote_as (says-denied c.in-Denied.is) c.put_refusal.ensures.wrote;
+  wrote = wrote_as (says-no c.in-Denied.is) c.put_refusal.ensures.wrote;
   upper_bound = c.put_refusal.ensures.upper_bound;
-}
-
-pub returns-in-Refused : goal.returns-in-Refused
-returns-in-Refused c = record {
-  wrote = wrote_as (says-refused c.in-Refused.is) c.put_refusal-in-Refused.ensures.wrote;
-  upper_bound = c.put_refusal-in-Refused.ensures.upper_bound;
 }
 
 pub returns-in-Done : goal.returns-in-Done
@@ -42,7 +36,7 @@ returns-in-Done c = record {
 pub returns-in-Counted : goal.returns-in-Counted
 unfolding ascii
 returns-in-Counted c = record {
-  wrote = wrote_as (says-counted c.in-Counted.is c.long-in-Counted.ensures) c.put_named-in-Counted.ensures;
+  wrote = wrote_as (says-counted c.in-Counted.is c.from-in-Counted.ensures) c.put_named-in-Counted.ensures;
   upper_bound = named-short _ _ c.put_named-in-Counted.ensures (omega arith) (omega arith);
 }
 

@@ -13,6 +13,6 @@ put_line-requires c =
 
 pub returns : goal.returns
 returns c = record {
-  wrote = wrote_as (ap (λ n. line (n ∷ c.long-2.result ∷ [])) c.long.ensures ∙ ap (λ n. line (c.args.group ∷ n ∷ [])) c.long-2.ensures) c.put_line.ensures;
+  wrote = wrote_as (ap (λ n. line (n ∷ c.from-2.result ∷ [])) c.from.ensures ∙ ap (λ n. line (c.args.group ∷ n ∷ [])) c.from-2.ensures) c.put_line.ensures;
   upper_bound = pair-short _ _ c.put_line.ensures (omega arith) (omega arith);
 }

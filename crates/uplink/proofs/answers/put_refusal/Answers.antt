@@ -13,6 +13,6 @@ put_named-requires c = named-bounded _ _ _ c.requires (omega arith) (omega arith
 pub returns : goal.returns
 unfolding ascii
 returns c = record {
-  wrote = wrote_as (ap (named (ascii "no")) (c.long.ensures ∙ c.number.ensures)) c.put_named.ensures;
+  wrote = wrote_as (ap (named (ascii "no")) (c.from-2.ensures ∙ c.from.ensures)) c.put_named.ensures;
   upper_bound = named-short _ _ c.put_named.ensures (omega arith) (omega arith);
 }

@@ -1,0 +1,12 @@
+-- `header::Lists::count` meets its contract. Assumes nothing.
+use mathlib.Core.Path.{◌∙◌}
+use native.Mathlib.Omega.{arith}
+use Rattle.header.proofs.Steps.{lists-most, class-length}
+use Rattle.header.proofs.Lists.count.Goals as goal
+
+pub overflow_cast-result : goal.overflow_cast-result
+overflow_cast-result c = omega (arith, lists-most c.args.self.now.legal _ _ c.count_between.ensures)
+
+pub returns : goal.returns
+returns c =
+    c.count_between.ensures ∙ class-length c.args.self.now.legal _ c.requires _ _ c.key.ensures c.key-2.ensures
