@@ -7,6 +7,7 @@ use mathlib.Core.Option.{some}
 use native.Mathlib.Omega.{arith}
 use lib.ListN.{length, get_or, set, drop}
 use Rattle.std.specs.Prelude.{Some, None}
+use Rattle.model.specs.declared.groups.Group.{Group}
 use Rattle.model.specs.Numbers.{page_bytes, zone_pages, most_pages}
 use Rattle.model.specs.declared.Answer.TheVariants.{Granted}
 use Rattle.model.specs.Arena.{Segment, zone}
@@ -39,7 +40,10 @@ use Rattle.steps.proofs.Zones.{zone-there}
 use Rattle.allocate.proofs.Places.{Free, free}
 use Rattle.allocate.proofs.Between.{follows, between}
 
-module _ {w : List ℕ} {n c g : ℕ} (h : Asked w n c g) (empty : front_of (list_of (decode w) c) ≡ None) where
+module _ (group : Group) {w : List ℕ} {n c : ℕ} (h : Asked w n c) (empty : front_of (list_of (decode w) c) ≡ None) where
+  abbrev g : ℕ
+  g = group.number
+
   abbrev s : State
   s = decode w
 
@@ -56,7 +60,7 @@ module _ {w : List ℕ} {n c g : ℕ} (h : Asked w n c g) (empty : front_of (lis
   classes k = omega (arith, k.lent.fits.classes, h.class)
 
   result-valid : (o : Outcome State) → chunk_from c g s (list_of s c) ≡ o → Valid o.after
-  result-valid o e = subst (λ x. Valid x.after) e (chunk-valid s h.good.valid g h.least h.most c h.class (list_of s c) refl)
+  result-valid o e = subst (λ x. Valid x.after) e (chunk-valid s h.good.valid g group.least group.most c h.class (list_of s c) refl)
 
   -- The new zone at page p goes onto its list. The state t, in which that list is empty, was laid anew: the segments are now m' and the
   -- empty list is sp. j runs were looked at.

@@ -10,6 +10,7 @@ use Rattle.std.specs.Prelude.{Some}
 use Rattle.lemmas.specs.Times.{Distinct, remove}
 use Rattle.lemmas.proofs.Sets.{set_same}
 use Rattle.lemmas.proofs.Distinct.{remove-here, remove_absent}
+use Rattle.model.specs.declared.groups.Group.{Group}
 use Rattle.model.specs.Numbers.{page_bytes, zone_bytes, most_pages}
 use Rattle.model.specs.declared.Answer.TheVariants.{Granted}
 use Rattle.model.specs.Sizes.{room, chunks}
@@ -33,7 +34,10 @@ use Rattle.allocate.proofs.Found.{front-page}
 use Rattle.steps.proofs.Zones.{zone-at, zone-there}
 use Rattle.allocate.proofs.Between.{follows, between}
 
-module _ {w : List ℕ} {n c g : ℕ} (h : Asked w n c g) {p : ℕ} (front : front_of (list_of (decode w) c) ≡ Some p) where
+module _ (group : Group) {w : List ℕ} {n c : ℕ} (h : Asked w n c) {p : ℕ} (front : front_of (list_of (decode w) c) ≡ Some p) where
+  abbrev g : ℕ
+  g = group.number
+
   abbrev s : State
   s = decode w
 
@@ -53,7 +57,7 @@ module _ {w : List ℕ} {n c g : ℕ} (h : Asked w n c g) {p : ℕ} (front : fro
   rule = ap (chunk_from c g s) list-is
 
   after-valid : Valid (served c g p ps s z).after
-  after-valid = subst (λ o. Valid o.after) rule (chunk-valid s h.good.valid g h.least h.most c h.class (list_of s c) refl)
+  after-valid = subst (λ o. Valid o.after) rule (chunk-valid s h.good.valid g group.least group.most c h.class (list_of s c) refl)
 
   on_list : Memᴰ p (list_of s c)
   on_list = subst (Memᴰ p) (sym list-is) (Memᴰ.head refl)
@@ -76,7 +80,7 @@ module _ {w : List ℕ} {n c g : ℕ} (h : Asked w n c g) {p : ℕ} (front : fro
   -- The chunk lies inside the zone.
   pub serve-inside : {i r : ℕ} → i ≡ next_chunk z → r ≡ room c → i * r < zone_bytes
   serve-inside {i} {r} e f =
-      let k : next_chunk z < chunks c = subst (λ y. next_chunk z < chunks y) class-is (grants g h.least h.most z (zone-valid h.good.lent p z serve-zone) serve-open).inside in
+      let k : next_chunk z < chunks c = subst (λ y. next_chunk z < chunks y) class-is (grants g group.least group.most z (zone-valid h.good.lent p z serve-zone) serve-open).inside in
       let q : i * r ≡ next_chunk z * room c = λ j. e j * f j in
       omega (arith, chunk-begins c (next_chunk z) k)
 

@@ -16,8 +16,9 @@ ghost use Rattle.steps.specs.Lent.{Good};
 ghost use Rattle.allocate.specs.Asked.{Asked};
 ghost use Rattle.allocate.specs.Finds.{Finds};
 ghost use Rattle.steps.specs.Outcomes.{Makes};
-ghost use Rattle.model.specs.Numbers.{most_group, most_bytes};
+ghost use Rattle.model.specs.Numbers.{most_bytes};
 
+use model::groups::Group;
 use model::numbers::{LARGE_SIZE, MOST_BYTES, PAGE_BYTES, ZONE_PAGES};
 use model::{Denial, Grant, Refusal};
 use pages::Choice;
@@ -50,10 +51,10 @@ fn find_again(words: &mut [u32], n: usize, need: usize, before: u32) -> Choice
     Choice { run, looked: both }
 }
 
-// `need` whole pages for the group.
-fn supply_pages(words: &mut [u32], n: usize, group: u32, need: usize) -> Result<Grant, Denial>
+// `need` whole pages for the group. (Denied as in `open_zone`: an error of two fields, written where both are known.)
+fn supply_pages(words: &mut [u32], n: usize, group: Group, need: usize) -> Result<Grant, Denial>
     requires { Good words.old n × (0 < need) }
-    ensures { Makes (whole_pages need group (decode words.old)) (request_answer result) words.new }
+    ensures { Makes (whole_pages need group.number (decode words.old)) (request_answer result) words.new }
 {
     let Choice { run, looked } = find_pages(words, n, need);
     let Some(free) = run else {
@@ -62,7 +63,7 @@ fn supply_pages(words: &mut [u32], n: usize, group: u32, need: usize) -> Result<
             looked,
         });
     };
-    steps::take_direct(words, n, free, need, group);
+    steps::take_direct(words, n, free, need, group.number);
     Ok(Grant {
         offset: free.at as u32 * PAGE_BYTES,
         looked,
@@ -72,10 +73,10 @@ fn supply_pages(words: &mut [u32], n: usize, group: u32, need: usize) -> Result<
 // ---- chunks
 
 // The zone that stands first on the class's list serves; once its last chunk goes, it leaves the list. No run was looked at.
-fn serve(words: &mut [u32], n: usize, class: u32, page: u32, group: u32) -> Grant
-    requires asked { Asked words.old n class group }
+fn serve(words: &mut [u32], n: usize, class: u32, page: u32, group: Group) -> Grant
+    requires asked { Asked words.old n class }
     requires lists_told { front_of (list_of (decode words.old) class) ≡ Some page }
-    ensures { Makes (chunk_from class group (decode words.old) (list_of (decode words.old) class)) (request_answer (Ok result)) words.new }
+    ensures { Makes (chunk_from class group.number (decode words.old) (list_of (decode words.old) class)) (request_answer (Ok result)) words.new }
 {
     let at = page as usize;
     let chunk = steps::zone_grant(words, at, group);
@@ -87,13 +88,13 @@ fn serve(words: &mut [u32], n: usize, class: u32, page: u32, group: u32) -> Gran
 }
 
 // No zone of the class has a chunk left: the first of the empty list is set up anew. No run was looked at.
-fn renew(words: &mut [u32], n: usize, class: u32, page: u32, group: u32) -> Grant
-    requires asked { Asked words.old n class group }
+fn renew(words: &mut [u32], n: usize, class: u32, page: u32, group: Group) -> Grant
+    requires asked { Asked words.old n class }
     requires lists_told { (front_of (list_of (decode words.old) class) ≡ None) × (front_of (decode words.old).spare ≡ Some page) }
-    ensures { Makes (chunk_from class group (decode words.old) (list_of (decode words.old) class)) (request_answer (Ok result)) words.new }
+    ensures { Makes (chunk_from class group.number (decode words.old) (list_of (decode words.old) class)) (request_answer (Ok result)) words.new }
 {
     steps::spare_behind(words);
-    steps::zone_renew(words, page as usize, class, group);
+    steps::zone_renew(words, page as usize, class, group.number);
     steps::list_front(words, class, page);
     Grant {
         offset: page * PAGE_BYTES,
@@ -102,10 +103,10 @@ fn renew(words: &mut [u32], n: usize, class: u32, page: u32, group: u32) -> Gran
 }
 
 // The empty list has no zone either: 8 pages are taken from the runs and set up.
-fn open_zone(words: &mut [u32], n: usize, class: u32, group: u32) -> Result<Grant, Denial>
-    requires asked { Asked words.old n class group }
+fn open_zone(words: &mut [u32], n: usize, class: u32, group: Group) -> Result<Grant, Denial>
+    requires asked { Asked words.old n class }
     requires lists_told { (front_of (list_of (decode words.old) class) ≡ None) × (front_of (decode words.old).spare ≡ None) }
-    ensures { Makes (chunk_from class group (decode words.old) (list_of (decode words.old) class)) (request_answer result) words.new }
+    ensures { Makes (chunk_from class group.number (decode words.old) (list_of (decode words.old) class)) (request_answer result) words.new }
 {
     let Choice { run, looked } = find_pages(words, n, ZONE_PAGES);
     let Some(free) = run else {
@@ -114,7 +115,7 @@ fn open_zone(words: &mut [u32], n: usize, class: u32, group: u32) -> Result<Gran
             looked,
         });
     };
-    steps::take_zone(words, n, free, class, group);
+    steps::take_zone(words, n, free, class, group.number);
     let start = free.at as u32;
     steps::list_front(words, class, start);
     Ok(Grant {
@@ -124,9 +125,9 @@ fn open_zone(words: &mut [u32], n: usize, class: u32, group: u32) -> Result<Gran
 }
 
 // A chunk of the class for the group.
-fn supply_chunk(words: &mut [u32], n: usize, class: u32, group: u32) -> Result<Grant, Denial>
-    requires { Asked words.old n class group }
-    ensures { Makes (chunk_from class group (decode words.old) (list_of (decode words.old) class)) (request_answer result) words.new }
+fn supply_chunk(words: &mut [u32], n: usize, class: u32, group: Group) -> Result<Grant, Denial>
+    requires { Asked words.old n class }
+    ensures { Makes (chunk_from class group.number (decode words.old) (list_of (decode words.old) class)) (request_answer result) words.new }
 {
     if let Some(page) = steps::list_first(words, class) {
         return Ok(serve(words, n, class, page, group));
@@ -152,13 +153,13 @@ fn pages_for(size: u32) -> u32
 pub fn supply(
     words: &mut [u32],
     n: usize,
-    group: u32,
+    group: Group,
     size: u32,
     class: u32,
 ) -> Result<Grant, Denial>
     requires good { Good words.old n }
-    requires legal_request { (0 < group) × (group ≤ most_group) × (0 < size) × (size ≤ most_bytes) × (class ≡ class_for size) }
-    ensures { Makes (supplied group size (decode words.old)) (request_answer result) words.new }
+    requires legal_request { (0 < size) × (size ≤ most_bytes) × (class ≡ class_for size) }
+    ensures { Makes (supplied group.number size (decode words.old)) (request_answer result) words.new }
 {
     if size < LARGE_SIZE {
         return supply_chunk(words, n, class, group);

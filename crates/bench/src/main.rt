@@ -41,7 +41,8 @@ fn write_out(rt: &HostRuntime, replies: &[u8]) -> Result<(), Broken> {
     rt.stdout().write_all(replies).map_err(|_| Broken::Output)
 }
 
-// Serves a fragment's lines. Replies are gathered, and written when there is no room for another and at the fragment's end.
+// Serves a fragment's lines, a turn each, which goes on by the bytes of one. Replies are gathered, and written when there is no room for
+// another and at the fragment's end.
 fn serve_fragment(
     rt: &HostRuntime,
     reader: &mut Reader,

@@ -15,7 +15,7 @@ use Rattle.blocks.specs.declared.Block.{Block}
 use Rattle.blocks.specs.declared.Block.TheVariants.{Whole, Chunk}
 use Rattle.blocks.specs.declared.Told.{Told}
 
--- The answer r tells of the live block that begins at the byte o.
+-- The block that is told is the live one that begins at the byte o; what is answered tells of it, or of none.
 abbrev pub TellsBlock : State → ℕ → Block → Type 0
 TellsBlock s o (Whole p len g) = (block_at (page_map s) o ≡ some (whole len g)) × Stands s.segments p.at p.before (direct len g) × (p.at * page_bytes ≡ o)
 TellsBlock s o (Chunk p c i g) =

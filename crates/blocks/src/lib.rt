@@ -68,9 +68,7 @@ pub fn find_block(words: &[u32], n: usize, offset: u32) -> Option<Block>
     ensures { Tells (decode words.now) offset result }
 {
     let page = (offset / PAGE_BYTES) as usize;
-    let Some(Spot { start, kind, len }) = steps::find_segment(words, n, page) else {
-        return None;
-    };
+    let Spot { start, kind, len } = steps::find_segment(words, n, page)?;
     let away = offset - start.at as u32 * PAGE_BYTES;
     match kind {
         Kind::Run => None,

@@ -67,9 +67,9 @@ module _ (x : Account) (v : ValidAccount x) (g n : ℕ) (t : group_ok g ≡ true
   ceiling-is : ceiling_in f i ≡ ceiling_of x g
   ceiling-is = (λ j. ceiling_in (e j) (at j)) ∙ ceiling-encoded (holding_of x) (ceiling_at x) (g - 1) low
 
-  pub within-needs : ((length f ≡ figure_words) × (i < most_group)) × (((record_in f i).held ≤ most_bytes) × (r ≤ most_bytes))
+  pub within-needs : (length f ≡ figure_words) × (((record_in f i).held ≤ most_bytes) × (r ≤ most_bytes))
   within-needs = (
-    (ap length e ∙ length-figures (holding_of x) (ceiling_at x), omega (arith, low)),
+    ap length e ∙ length-figures (holding_of x) (ceiling_at x),
     (omega (arith, held-is, held-few x.state v.state (g - 1), ap (λ k. held_of k (page_map x.state)) group-is), omega (arith, room_fits n (size-least n u) (size-most n u))),
   )
 
@@ -122,10 +122,10 @@ module _ (x : Account) (v : ValidAccount x) (g n : ℕ) (ok : Accepted x g n) (d
 
   -- As the code has them: the figures f lent for the step, the index i and the room r.
   module _ (f : List ℕ) (e : f ≡ figures_of x) (i : ℕ) (at : i ≡ g - 1) (r : ℕ) (is : r ≡ room_for n) where
-    pub grant-needs : ((length f ≡ figure_words) × (i < most_group)) × (((record_in f i).blocks ≤ most_bytes) × ((record_in f i).held + r ≤ most_bytes))
+    pub grant-needs : (length f ≡ figure_words) × (((record_in f i).blocks ≤ most_bytes) × ((record_in f i).held + r ≤ most_bytes))
     grant-needs =
         let same : record_in f i ≡ record_in (figures_of x) (g - 1) = λ j. record_in (e j) (at j) in
-        ((ap length e ∙ length-figures (holding_of x) (ceiling_at x), omega (arith, index-low)), (omega (arith, ap (λ h. h.blocks) same, grant-fits.0), omega (arith, ap (λ h. h.held) same, grant-fits.1)))
+        (ap length e ∙ length-figures (holding_of x) (ceiling_at x), (omega (arith, ap (λ h. h.blocks) same, grant-fits.0), omega (arith, ap (λ h. h.held) same, grant-fits.1)))
 
     pub grant-done : (v : List ℕ) → v ≡ added i r f → v ≡ figures_of (accounted x (supplied g n x.state).after)
     grant-done v q = q ∙ (λ j. added (at j) (is j) (e j)) ∙ grant-figures

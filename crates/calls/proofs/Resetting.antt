@@ -5,19 +5,17 @@ use mathlib.Core.Bool.{false, cond}
 use mathlib.Core.List.{List}
 use native.Mathlib.Omega.{arith}
 use lib.Dec.{eqb}
-use lib.ListN.{length}
-use Rattle.model.specs.Numbers.{most_group, figure_words}
+use Rattle.model.specs.Numbers.{most_group}
 use Rattle.model.specs.declared.Operation.TheVariants.{Reset}
 use Rattle.model.specs.State.{State}
 use Rattle.model.specs.PageMap.{page_map}
-use Rattle.model.specs.Holdings.{blocks_of, held_of, Account, accounted, holding_of, ceiling_at}
+use Rattle.model.specs.Holdings.{blocks_of, held_of, Account, accounted}
 use Rattle.model.specs.Valid.{ValidAccount}
 use Rattle.model.specs.Calls.{is_refused}
 use Rattle.model.specs.Free.{reset}
 use Rattle.model.specs.Trim.{trimmed}
 use Rattle.model.proofs.Validity.{asked-group}
 use Rattle.model.proofs.Figures.{Gains, reset-leaves, trim-gains}
-use Rattle.figures.proofs.Encoded.{length-figures}
 use Rattle.figures.specs.Steps.{cleared}
 use Rattle.account.specs.Encoding.{figures_of}
 use Rattle.account.proofs.Next.{still-figures, cleared-figures}
@@ -48,9 +46,6 @@ module _ (x : Account) (v : ValidAccount x) (g : ℕ) (done : is_refused (reset 
 
   -- As the code has them: the figures f lent for the step, and the index i.
   module _ (f : List ℕ) (e : f ≡ figures_of x) (i : ℕ) (at : i ≡ g - 1) where
-    pub reset-needs : (length f ≡ figure_words) × (i < most_group)
-    reset-needs = (ap length e ∙ length-figures (holding_of x) (ceiling_at x), omega (arith, legal.0, legal.1))
-
     pub reset-done : (v : List ℕ) → v ≡ cleared i f → v ≡ figures_of (accounted x (reset g x.state).after)
     reset-done v q = q ∙ (λ j. cleared (at j) (e j)) ∙ reset-figures
 

@@ -88,10 +88,10 @@ module _ (x : Account) (v : ValidAccount x) (g o : ℕ) (done : is_refused (free
 
   -- As the code has them: the figures f lent for the step, the index i and the room r that was told.
   module _ (f : List ℕ) (e : f ≡ figures_of x) (i : ℕ) (at : i ≡ g - 1) (r : ℕ) (is : r ≡ room_told (described (block_at (page_map x.state) o))) where
-    pub return-needs : ((length f ≡ figure_words) × (i < most_group)) × ((0 < (record_in f i).blocks) × (r ≤ (record_in f i).held))
+    pub return-needs : (length f ≡ figure_words) × ((0 < (record_in f i).blocks) × (r ≤ (record_in f i).held))
     return-needs =
         let same : record_in f i ≡ record_in (figures_of x) (g - 1) = λ j. record_in (e j) (at j) in
-        ((ap length e ∙ length-figures (holding_of x) (ceiling_at x), omega (arith, index-low)), (omega (arith, ap (λ h. h.blocks) same, return_fits.0), omega (arith, ap (λ h. h.held) same, return_fits.1)))
+        (ap length e ∙ length-figures (holding_of x) (ceiling_at x), (omega (arith, ap (λ h. h.blocks) same, return_fits.0), omega (arith, ap (λ h. h.held) same, return_fits.1)))
 
     pub return-done : (v : List ℕ) → v ≡ taken i r f → v ≡ figures_of (accounted x (free g o x.state).after)
     return-done v q = q ∙ (λ j. taken (at j) (is j) (e j)) ∙ return-figures

@@ -14,6 +14,7 @@ ghost use Rattle.classes.specs.Table.{class_for};
 ghost use Rattle.account.specs.Decoding.{account_in};
 ghost use Rattle.calls.specs.Arena.{pages_of, Arena, Accepted};
 
+use model::groups::Group;
 use model::numbers::{FIGURE_WORDS, HEADER_WORDS, MOST_BYTES, MOST_PAGES};
 use model::{Answer, Call, Denial, Grant, Holding, Operation, Refusal};
 use pages::find::Pages;
@@ -60,7 +61,8 @@ pub fn trim(meta: &mut [u32]) -> Answer
     Answer::Counted(count)
 }
 
-// The group and the room of the live block that begins at the offset. The words are only read.
+// The group and the room of the live block that begins at the offset. The words are only read. (By `match`: a `From` of what `describe`
+// answers would stand in `model`, which does not know it.)
 pub fn query(meta: &mut [u32], offset: u32) -> Answer
     ensures value { result ≡ answer_of meta.old (rules.act (rules.query offset)) }
     ensures meta_after { meta.new ≡ meta_after meta.old (rules.act (rules.query offset)) }
@@ -114,14 +116,13 @@ pub fn set_ceiling(meta: &mut [u32], group: u32, ceiling: u32) -> Answer
     if arena_pages(meta).is_none() {
         return Answer::Refused(Refusal::NoState);
     }
-    if !model::group_ok(group) {
+    let Ok(group) = Group::try_from(group) else {
         return Answer::Refused(Refusal::BadGroup);
-    }
+    };
     if MOST_BYTES < ceiling {
         return Answer::Refused(Refusal::BadSize);
     }
-    let index = group as usize - 1;
-    figures::steps::cap(&mut meta[..FIGURE_WORDS], index, ceiling);
+    figures::steps::cap(&mut meta[..FIGURE_WORDS], group, ceiling);
     Answer::Done
 }
 
@@ -130,20 +131,19 @@ pub fn set_ceiling(meta: &mut [u32], group: u32, ceiling: u32) -> Answer
 fn grant_in(
     meta: &mut [u32],
     n: usize,
-    group: u32,
+    group: Group,
     size: u32,
     class: u32,
     room: u32,
 ) -> Result<Grant, Denial>
-    requires arena { Arena meta.old n × Accepted (account_in meta.old) group size }
+    requires arena { Arena meta.old n × Accepted (account_in meta.old) group.number size }
     requires size_told { (class ≡ class_for size) × (room ≡ room_for size) }
-    ensures value { request_answer result ≡ answer_of meta.old (rules.act (rules.group (record { group = group; operation = operation.Allocate size }))) }
-    ensures meta_after { meta.new ≡ meta_after meta.old (rules.act (rules.group (record { group = group; operation = operation.Allocate size }))) }
+    ensures value { request_answer result ≡ answer_of meta.old (rules.act (rules.group (record { group = group.number; operation = operation.Allocate size }))) }
+    ensures meta_after { meta.new ≡ meta_after meta.old (rules.act (rules.group (record { group = group.number; operation = operation.Allocate size }))) }
 {
     let e = account::words_for(n);
     let grant = allocate::supply(&mut meta[FIGURE_WORDS..e], n, group, size, class)?;
-    let index = group as usize - 1;
-    figures::steps::add(&mut meta[..FIGURE_WORDS], index, room);
+    figures::steps::add(&mut meta[..FIGURE_WORDS], group, room);
     Ok(grant)
 }
 
@@ -154,33 +154,30 @@ fn allocate_in(meta: &mut [u32], n: usize, group: u32, size: u32) -> Result<Gran
     ensures value { request_answer result ≡ answer_of meta.old (rules.act (rules.group (record { group = group; operation = operation.Allocate size }))) }
     ensures meta_after { meta.new ≡ meta_after meta.old (rules.act (rules.group (record { group = group; operation = operation.Allocate size }))) }
 {
-    if !model::group_ok(group) {
-        return Err(Denial::from(Refusal::BadGroup));
-    }
+    let group = Group::try_from(group)?;
     if !allocate::size_ok(size) {
         return Err(Denial::from(Refusal::BadSize));
     }
     let class = classes::class_for(size);
     let room = allocate::room_for(size, class);
-    let index = group as usize - 1;
-    if !figures::within(&meta[..FIGURE_WORDS], index, room) {
+    if !figures::within(&meta[..FIGURE_WORDS], group, room) {
         return Err(Denial::from(Refusal::OverCeiling));
     }
     grant_in(meta, n, group, size, class, room)
 }
 
-// The group's block that begins at the offset comes back. Its room is told before it does, for the figures; that it was told of is asked
-// last, so that the refusals come in their order, 4, 7, 8.
+// The group's block that begins at the offset comes back. Its room is told before it does, for the figures; whether there is a
+// block, `free` says.
 fn free_in(meta: &mut [u32], n: usize, group: u32, offset: u32) -> Result<(), Refusal>
     requires { Arena meta.old n }
     ensures value { plain_answer result ≡ answer_of meta.old (rules.act (rules.group (record { group = group; operation = operation.Free offset }))) }
     ensures meta_after { meta.new ≡ meta_after meta.old (rules.act (rules.group (record { group = group; operation = operation.Free offset }))) }
 {
+    let asker = Group::try_from(group)?;
     let e = account::words_for(n);
     let told = blocks::describe(&meta[FIGURE_WORDS..e], n, offset);
     free::free(&mut meta[FIGURE_WORDS..e], n, group, offset)?;
-    let index = group as usize - 1;
-    figures::steps::take(&mut meta[..FIGURE_WORDS], index, told?.room);
+    figures::steps::take(&mut meta[..FIGURE_WORDS], asker, told?.room);
     Ok(())
 }
 
@@ -190,10 +187,10 @@ fn reset_in(meta: &mut [u32], n: usize, group: u32) -> Result<u32, Refusal>
     ensures value { count_answer result ≡ answer_of meta.old (rules.act (rules.group (record { group = group; operation = operation.Reset }))) }
     ensures meta_after { meta.new ≡ meta_after meta.old (rules.act (rules.group (record { group = group; operation = operation.Reset }))) }
 {
+    let asker = Group::try_from(group)?;
     let e = account::words_for(n);
     let count = reset::reset(&mut meta[FIGURE_WORDS..e], n, group)?;
-    let index = group as usize - 1;
-    figures::steps::clear(&mut meta[..FIGURE_WORDS], index);
+    figures::steps::clear(&mut meta[..FIGURE_WORDS], asker);
     Ok(count)
 }
 

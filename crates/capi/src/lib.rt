@@ -14,7 +14,7 @@ use model::{Answer, Call, Holding, Operation};
 
 // An answer as C is told it: the refusal's number, 0 for none, as include/nostrimel.h promises it, and the first and the second value,
 // where there are such.
-#[derive(Clone, Copy)]
+#[derive(Clone, Copy, PartialEq, Eq, Debug)]
 struct Told {
     refusal: u32,
     first: Option<u32>,

@@ -12,12 +12,13 @@ mod entries;
 use entries::{ENTRY_COUNT, TABLE};
 use model::numbers::LARGE_SIZE;
 
+// (That a size is one of a chunk stays a `requires`: a size is asked for as a number, and a type for the few that look it up would be opened there.)
 // The place of a size's entry: the size in eighths, rounded up, less one.
 fn place(size: u32) -> usize
     requires { (0 < size) × (size < large_size) }
     ensures { (result ≡ entry_of size) × (result < entry_count) }
 {
-    ((size + 7) / 8 - 1) as usize
+    (size.div_ceil(8) - 1) as usize
 }
 
 // The class of a size below 8,192.
@@ -44,7 +45,8 @@ pub fn class_in(table: &[u8], size: u32) -> u32
     u32::from(table[place(size)])
 }
 
-// The class of the chunk that a request of this size takes, 0 where it takes none.
+// The class of the chunk that a request of this size takes, 0 where it takes none. (No `Option`: `allocate::supply` and `room_for` ask for just
+// this number.)
 pub fn class_for(size: u32) -> u32
     ensures { result ≡ class_for size }
 {

@@ -11,7 +11,7 @@ ghost use Rattle.desk.specs.Replies.{reply_to, words_after, Replied, reply_got, 
 use model::Answer;
 use uplink::{Fed, Line, Reader};
 
-// What a turn answers: the position after the bytes that it took, and the length of the reply, 0 if there is none.
+// What a turn answers: the position after the bytes that it took, and the length of the reply, 0 if there is none (every reply has a byte).
 #[derive(Clone, Copy, PartialEq, Eq, Debug)]
 pub struct Turn {
     pub next: usize,
@@ -64,7 +64,8 @@ pub fn serve_next(
     Turn { next, len }
 }
 
-// The end of the input: an unfinished line is served if it has a byte. The reader is as new.
+// The end of the input: an unfinished line is served if it has a byte, and the length of its reply is answered, as in `Turn`. The reader is
+// as new.
 pub fn serve_last(reader: &mut Reader, meta: &mut [u32], out: &mut [u8]) -> usize
     ensures ready { held reader.new ≡ fresh }
     ensures meta_after { meta.new ≡ words_got meta.old (last_line (held reader.old)) }

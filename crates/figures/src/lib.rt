@@ -1,8 +1,10 @@
 // The groups' figures, the first 64 of the lent words: at a start, against a ceiling, and in the list of records that is filled from
 // them.
+// (Their number stays a `requires`: they are a slice of the lent words, and an array behind a reference would be made by a test that cannot
+// fail, at each call. They lie in four columns of twelve, as the layout has them, which callers in C keep.)
 #![tactic(auto)]
 
-ghost use Rattle.std.specs.Prelude.{◌≡◌, ◌≢◌, ◌+◌, ◌≤◌, ◌<◌, leb, length, MatchResult};
+ghost use Rattle.std.specs.Prelude.{◌≡◌, ◌≢◌, ◌+◌, ◌-◌, ◌≤◌, ◌<◌, leb, length, MatchResult};
 ghost use Rattle.model.specs.Numbers.{most_bytes, most_group, figure_words};
 ghost use Rattle.figures.specs.Encoding.{figures_encoding, no_holding, largest, record_in, ceiling_in};
 ghost use Rattle.model.specs.declared.Refusal.TheVariants.{BadList};
@@ -12,6 +14,7 @@ pub mod layout;
 pub mod steps;
 
 use layout::{AT_CEILING, AT_GREATEST, AT_HELD, AT_REST};
+use model::groups::Group;
 use model::numbers::{GROUPS, MOST_BYTES};
 use model::{Holding, Refusal};
 
@@ -25,12 +28,13 @@ pub fn set_up(words: &mut [u32])
     words[AT_REST..].fill(0);
 }
 
-// Whether the group at the index stays within its ceiling, if it gets a block of so many bytes.
-pub fn within(words: &[u32], index: usize, room: u32) -> bool
-    requires record_there { (length words.now ≡ figure_words) × (index < most_group) }
-    requires bounded_bytes { ((record_in words.now index).held ≤ most_bytes) × (room ≤ most_bytes) }
-    ensures { result ≡ leb ((record_in words.now index).held + room) (ceiling_in words.now index) }
+// Whether the group stays within its ceiling, if it gets a block of so many bytes.
+pub fn within(words: &[u32], group: Group, room: u32) -> bool
+    requires long { length words.now ≡ figure_words }
+    requires bounded_bytes { ((record_in words.now (group.number - 1)).held ≤ most_bytes) × (room ≤ most_bytes) }
+    ensures { result ≡ leb ((record_in words.now (group.number - 1)).held + room) (ceiling_in words.now (group.number - 1)) }
 {
+    let index = group.index();
     words[AT_HELD + index] + room <= words[AT_CEILING + index]
 }
 

@@ -18,6 +18,7 @@ ghost use Rattle.free.specs.Back.{chained, LiveChunk, Remains};
 
 use blocks::Block;
 use model::Refusal;
+use model::groups::Group;
 use model::numbers::{MOST_SPARE, ZONE_PAGES};
 use pages::Start;
 
@@ -73,9 +74,7 @@ pub fn free(words: &mut [u32], n: usize, group: u32, offset: u32) -> Result<(), 
     requires { Good words.old n }
     ensures { Makes (rules.free group offset (decode words.old)) (plain_answer result) words.new }
 {
-    if !model::group_ok(group) {
-        return Err(Refusal::BadGroup);
-    }
+    Group::try_from(group)?;
     match blocks::find_block(words, n, offset).ok_or(Refusal::NoBlock)? {
         Block::Whole {
             start,

@@ -53,7 +53,10 @@ pub fn set_up(words: &mut [u32], n: u32)
 
 // ---- reading
 
-impl<'a> Lists<'a> {
+// (What is read of the class lists and of the empty list is told by twins of two lines: one for both would be given the words' range and the
+// keys', and could promise only a count.)
+
+impl Lists<'_> {
     // The arena's pages.
     pub fn pages(&self) -> u32
         ensures { result ≡ pages_in self.now.words.now }
@@ -123,9 +126,10 @@ impl<'a> Lists<'a> {
 
 // ---- the class lists
 
-// The steps keep `Header` as a `requires`: a view that carries it would be built for one call, and owe it again at the call's end.
+// (Where words are written `Header` stays a `requires`: a view that carries it would be built for one call, and owe it again at the call's end.)
 
-// The key of a page and a class. At page 0 it is the class's lowest, at 256 the next class's.
+// The key of a page and a class. At page 0 it is the class's lowest, at 256 the next class's. (Page and class are numbers that keys are made
+// of; types for them would be opened at every use.)
 fn key(class: u32, page: u32) -> u32
     requires { (class < class_count) × (page ≤ most_pages) }
     ensures { result ≡ key class page }

@@ -1,5 +1,5 @@
 // A list in words of its own, each number + 1 and zeros behind: its check, how many numbers of a range it has, one number more,
-// one number less.
+// one number less. (Lists in class order in a fixed array of words: the layout has them so, which callers in C keep, and no memory is allocated.)
 ghost use Rattle.std.specs.Prelude.{◌≡◌, ◌≤◌, length, take};
 ghost use Rattle.lemmas.specs.Every.{count};
 ghost use Rattle.lemmas.specs.Times.{remove};
@@ -57,7 +57,8 @@ pub fn shift_in(slots: &mut [u32], at: usize, v: u32)
     }
 }
 
-// The slots other than v move to the front, in their order; answers how many they are. What stands behind them is left over.
+// The slots other than v move to the front, in their order; answers how many they are. What stands behind them is left over. (Two places in
+// one slice, so both go by number.)
 fn gather(slots: &mut [u32], v: u32) -> usize
     ensures { (result ≡ length (remove v slots.old)) × (take result slots.new ≡ remove v slots.old) }
 {

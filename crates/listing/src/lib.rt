@@ -62,7 +62,7 @@ fn put_rows(out: &mut [u8], at: usize, pages: &Pages, kind: Kind) -> usize
 {
     let mut p = 0;
     let mut next = at;
-    // (No index is counted here and below: each turn goes a segment on.)
+    // (A `while`, here and below: each turn goes on by the pages of a segment.)
     while p < pages.count {
         next = put_row(out, next, pages, p, kind);
         p += pages.size(p);

@@ -11,7 +11,7 @@ mod rows;
 
 use model::numbers::LARGE_SIZE;
 
-// 1 where the words begin with those of a valid account, else 0.
+// 1 where the words begin with those of a valid account, else 0, as C is told it.
 #[unsafe(no_mangle)]
 pub extern "C" fn nostrimel_check(words: &[u32]) -> u32
     ensures { result ≡ (if is_account words.now then 1 else 0) }

@@ -9,12 +9,12 @@ pub fn class_of_size(size: u32) -> u32
     ensures { result ≡ class_of size }
 {
     match size {
-        0..128 => (size + 7) / 8 - 1,
-        128..256 => (size + 15) / 16 + 7,
-        256..512 => (size + 31) / 32 + 15,
-        512..1024 => (size + 63) / 64 + 23,
-        1024..2048 => (size + 127) / 128 + 31,
-        2048..4096 => (size + 255) / 256 + 39,
-        _ => (size + 511) / 512 + 47,
+        0..128 => size.div_ceil(8) - 1,
+        128..256 => size.div_ceil(16) + 7,
+        256..512 => size.div_ceil(32) + 15,
+        512..1024 => size.div_ceil(64) + 23,
+        1024..2048 => size.div_ceil(128) + 31,
+        2048..4096 => size.div_ceil(256) + 39,
+        _ => size.div_ceil(512) + 47,
     }
 }

@@ -43,12 +43,6 @@ yes-case t x y e = rw e
 no-case : {A : Type 0} (t : Bool) (x y : A) → t ≡ false → y ≡ cond t x y
 no-case t x y e = rw e
 
-pub closed-zone : (z : Zone) → full z ≡ true → 0 ≡ is_open (zone z)
-closed-zone z t = yes-case (full z) 0 1 t
-
-pub opened-zone : (z : Zone) → full z ≡ false → 1 ≡ is_open (zone z)
-opened-zone z t = no-case (full z) 0 1 t
-
 module _ (spare : List ℕ) (lists : List (List ℕ)) (p : ℕ) (z : Zone) where
   abbrev listed : Bool
   listed = stands p (get_or lists z.class [])

@@ -41,10 +41,7 @@ fn zone_fits(lists: &Lists, part: &Part, page: u32) -> bool
 fn zone_open(part: &Part) -> u32
     ensures { result ≡ cond (full (zone_of part.now.words.now)) 0 1 }
 {
-    if part.is_full() {
-        return 0;
-    }
-    1
+    u32::from(!part.is_full())
 }
 
 // Whether the segment at page p, if it is a zone, stands where it should.
@@ -76,6 +73,7 @@ fn lists_fit(lists: &Lists, pages: &Pages) -> bool
     let entries = lists.listed() + lists.spare_count();
     let mut p = 0;
     let mut open = 0;
+    // (A `while`: each turn goes on by the pages of a segment.)
     while p < pages.count {
         if !fits_at(lists, pages, p) {
             return false;

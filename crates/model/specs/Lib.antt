@@ -8,6 +8,7 @@ pub mod Holdings
 pub mod Valid
 pub mod Pages
 pub mod Calls
+pub mod Groups
 pub mod Ceilings
 pub mod Trim
 pub mod Allocate

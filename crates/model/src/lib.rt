@@ -5,6 +5,7 @@
 ghost use Rattle.std.specs.Prelude.{◌≡◌};
 ghost use Rattle.model.specs.Calls.{group_ok, number, request_answer, count_answer, plain_answer};
 
+pub mod groups;
 pub mod numbers;
 
 use numbers::MOST_GROUP;
@@ -24,7 +25,7 @@ pub struct Call {
     pub operation: Operation,
 }
 
-// Why a call is refused. `number` gives the papers' number of each.
+// Why a call is refused. `u32::from` gives the papers' number of each.
 #[derive(Clone, Copy, PartialEq, Eq, Debug)]
 pub enum Refusal {
     BadPages,
@@ -42,6 +43,7 @@ pub enum Refusal {
 
 // What a call answers. A request is granted an offset, or denied; both tell how many free runs were looked at. Any other call is
 // refused, done, done with a count, or tells a live block's group and room.
+// (An enum of its own and no `Result`: document 01 asks for it, and the rules and the histories tell the answers of all calls by it.)
 #[derive(Clone, Copy, PartialEq, Eq, Debug)]
 pub enum Answer {
     Granted { offset: u32, looked: u32 },

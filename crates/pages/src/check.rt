@@ -1,4 +1,4 @@
-// Whether words are those of valid segments.
+// Whether words are those of valid segments. (Any words may be lent: so numbers are read here, and no `Kind`.)
 ghost use Rattle.std.specs.Prelude.{◌≡◌, ◌*◌, ◌<◌, ◌≤◌, length, take, leb, cond, ◌&&◌};
 ghost use Rattle.zone.specs.Decoding.{is_zone};
 ghost use Rattle.pages.specs.Legal.{size_at, legal_segments};
@@ -8,7 +8,7 @@ ghost use Rattle.zone.specs.Encoding.{zone_words};
 use model::numbers::{PAGE_WORDS, ZONE_PAGES};
 use zone::layout::{KIND_DIRECT, KIND_RUN, KIND_ZONE};
 
-// So many pages where the test holds, else 0.
+// So many pages where the test holds, else 0 (as `segment_size` counts).
 fn pages_if(test: bool, len: usize) -> usize
     ensures { result ≡ cond test len 0 }
 {
@@ -64,7 +64,7 @@ pub fn check(words: &[u32], n: usize) -> bool
 {
     let mut p = 0;
     let mut after = false;
-    // (No index is counted: each turn goes a segment on.)
+    // (A `while`: each turn goes on by the pages of a segment.)
     while p < n {
         let at = PAGE_WORDS * p;
         let len = segment_size(&words[at..], n - p);

@@ -32,7 +32,7 @@ fn put_direct(part: &mut [u32], n: usize, group: u32)
     part[2] = group;
 }
 
-// What is left of a run: no words, or zero words that become those of a run.
+// What is left of a run: no words, or zero words that become those of a run (no pages are no run).
 fn put_rest(part: &mut [u32], n: usize)
     requires { (part.old ≡ zeros (page_words * n)) × (n ≤ most_pages) }
     ensures { part.new ≡ segments_encoding (with_run n []) }
@@ -83,8 +83,8 @@ pub fn take_direct(words: &mut [u32], n: usize, free: Run, need: usize, group: u
     cut_direct(&mut words[a..e], free.len, need, group);
 }
 
-// (A closure in place of this twin of `take_direct` would need a contract longer than the three lines that they share.)
-// The free run gives its low 8 pages to a zone, set up for the class with its chunk 0 granted to the group.
+// The free run gives its low 8 pages to a zone, set up for the class with its chunk 0 granted to the group. (A closure in place of this twin
+// of `take_direct`, and of `cut_zone`, would need a contract longer than the three lines that they share. The group is any above 0, as it was.)
 pub fn take_zone(words: &mut [u32], n: usize, free: Run, class: u32, group: u32)
     requires holds { Holds words.old n }
     requires placed { (b : ℕ) × Stands (segments_of words.old) free.at b (run free.len) × (zone_pages ≤ free.len) × (0 < group) }

@@ -16,6 +16,9 @@ use model::numbers::{PAGE_WORDS, ZONE_PAGES};
 use zone::Part;
 use zone::layout::WORDS as ZONE_WORDS;
 
+// (That a segment begins at a page is asked by each method: it is a fact of these words and of that page, and a value of both would be
+// made, and its fact proved, for the one call.)
+
 // The words of an arena's pages, lent for reading, and how many pages: the words are those of segments.
 #[derive(Clone, Copy)]
 pub struct Pages<'a> {
@@ -70,7 +73,7 @@ impl<'a> Pages<'a> {
         ensures { (b : ℕ) (l : List (Segment Zone)) → Passed (segments_of self.now.words.now) page b l → result ≡ found (first_run page l) }
     {
         let mut p = page;
-        // (No index is counted here and below: each turn goes a segment on.)
+        // (A `while`, here and below: each turn goes on by the pages of a segment.)
         while p < self.count {
             let len = self.size(p);
             match self.kind(p) {
@@ -81,7 +84,8 @@ impl<'a> Pages<'a> {
         None
     }
 
-    // The first free run, in ascending order, that has `need` pages, and how many runs were looked at.
+    // The first free run, in ascending order, that has `need` pages, and how many runs were looked at. (Document 01 asks for this loop: it
+    // breaks with the run found, or ends with none.)
     pub fn find_run(&self, need: usize) -> Choice
         ensures { result ≡ choice (claim need (segments_of self.now.words.now)) }
     {
@@ -161,7 +165,7 @@ impl<'a> Pages<'a> {
         None
     }
 
-    // The pages of the run that begins behind the segment x at page `at`, of `len` pages, or 0.
+    // The pages of the run that begins behind the segment x at page `at`, of `len` pages, or 0 (as in `Start`).
     pub fn run_behind(&self, at: usize, len: usize) -> usize
         requires { (b : ℕ) × (x : Segment Zone) × Stands (segments_of self.now.words.now) at b x × (pages x ≡ len) }
         ensures { (b : ℕ) (x : Segment Zone) (s : Stands (segments_of self.now.words.now) at b x) → pages x ≡ len → result ≡ run_at_start s.behind }

@@ -10,23 +10,23 @@ ghost use Rattle.lemmas.specs.Zeros.{zeros};
 ghost use Rattle.pages.specs.Places.{run_pages, Stands};
 ghost use Rattle.model.specs.Numbers.{page_bytes, most_pages};
 
-use crate::Start;
 use crate::find::Pages;
+use crate::{Kind, Start};
 use model::numbers::PAGE_WORDS;
-use zone::layout::KIND_ZONE;
 
-// The words of a segment become zero. Of a direct block only the first three are not zero already.
+// The words of a segment become zero. Of a zone any may be other than zero, of a run or a direct block only the first three.
 fn erase(part: &mut [u32])
     requires { (x : Segment Zone) × (0 < pages x) × (part.old ≡ segment_encoding x) }
     ensures { part.new ≡ zeros (length part.old) }
 {
-    if part[0] == KIND_ZONE {
-        scan::clear(part);
-        return;
+    match Kind::told_by(part[0]) {
+        Kind::Zone => scan::clear(part),
+        Kind::Run | Kind::Direct => {
+            part[0] = 0;
+            part[1] = 0;
+            part[2] = 0;
+        }
     }
-    part[0] = 0;
-    part[1] = 0;
-    part[2] = 0;
 }
 
 // The words of a run, if there is one, become zero.
@@ -41,7 +41,7 @@ fn erase_rest(part: &mut [u32])
     part[1] = 0;
 }
 
-// The words of a segment of `len` pages between runs of `before` and `after` pages (0: none) become those of one run.
+// The words of a segment of `len` pages between runs of `before` and `after` pages (0: none, as in `Start`) become those of one run.
 fn fuse(part: &mut [u32], before: usize, len: usize, after: usize)
     requires { (x : Segment Zone) × (pages x ≡ len) × (0 < len) × (before + len + after ≤ most_pages) × (part.old ≡ segments_encoding (with_run before (x ∷ with_run after []))) }
     ensures { part.new ≡ segment_encoding (run (before + len + after)) }

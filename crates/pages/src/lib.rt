@@ -27,7 +27,8 @@ pub struct Run {
     pub len: usize,
 }
 
-// Where a segment begins: its first page, and the pages of the run that ends there (0: none).
+// Where a segment begins: its first page, and the pages of the run that ends there (0: none; the rules join runs by their pages, and no
+// pages are no run).
 #[derive(Clone, Copy, PartialEq, Eq, Debug)]
 pub struct Start {
     pub at: usize,
@@ -61,7 +62,7 @@ impl Kind {
         }
     }
 
-    // The pages of a segment of this kind that are a run's: all of them, or none.
+    // The pages of a segment of this kind that are a run's: all of them, or none (0, as in `Start`).
     pub fn run_len(self, len: usize) -> usize
         ensures { result ≡ run_len self len }
     {

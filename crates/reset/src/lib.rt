@@ -16,6 +16,7 @@ ghost use Rattle.steps.specs.Lent.{Good};
 ghost use Rattle.reset.specs.Sweep.{Sweep, InZone};
 
 use model::Refusal;
+use model::groups::Group;
 use model::numbers::ZONE_PAGES;
 use pages::{Kind, Start};
 
@@ -41,13 +42,13 @@ fn behind_run(words: &[u32], n: usize, first: usize, count: u32) -> Swept
 }
 
 // The group's chunks of the zone come back. Once its last chunk has, the zone itself may have gone.
-fn sweep_zone(words: &mut [u32], n: usize, start: Start, group: u32) -> Swept
-    requires { (0 < group) × ((t : State) × (c : ℕ) × (k : ℕ) × InZone group t c words.old n start.at start.before 0 k) }
-    ensures { ((t : State) (c k : ℕ) → InZone group t c words.old n start.at start.before 0 k → Sweep group t c words.new n result.next.at result.next.before (k + result.count)) × (start.at < result.next.at) }
+fn sweep_zone(words: &mut [u32], n: usize, start: Start, group: Group) -> Swept
+    requires { (t : State) × (c : ℕ) × (k : ℕ) × InZone group.number t c words.old n start.at start.before 0 k }
+    ensures { ((t : State) (c k : ℕ) → InZone group.number t c words.old n start.at start.before 0 k → Sweep group.number t c words.new n result.next.at result.next.before (k + result.count)) × (start.at < result.next.at) }
 {
     let mut count = 0;
     for chunk in 0..steps::zone_touched(words, start.at) {
-        if steps::zone_owner(words, start.at, chunk) != group {
+        if steps::zone_owner(words, start.at, chunk) != group.number {
             continue;
         }
         count += 1;
@@ -63,25 +64,25 @@ fn sweep_zone(words: &mut [u32], n: usize, start: Start, group: u32) -> Swept
 }
 
 // The direct block comes back.
-fn sweep_direct(words: &mut [u32], n: usize, start: Start, len: usize, group: u32) -> Swept
-    requires { Good words.old n × Stands (decode words.old).segments start.at start.before (direct len group) }
-    ensures { ((t : State) (c k : ℕ) → Sweep group t c words.old n start.at start.before k → Sweep group t c words.new n result.next.at result.next.before (k + result.count)) × (start.at < result.next.at) }
+fn sweep_direct(words: &mut [u32], n: usize, start: Start, len: usize, group: Group) -> Swept
+    requires { Good words.old n × Stands (decode words.old).segments start.at start.before (direct len group.number) }
+    ensures { ((t : State) (c k : ℕ) → Sweep group.number t c words.old n start.at start.before k → Sweep group.number t c words.new n result.next.at result.next.before (k + result.count)) × (start.at < result.next.at) }
 {
     steps::give_back(words, n, start, len);
     behind_run(words, n, start.at - start.before, 1)
 }
 
 // What the segment holds of the group comes back.
-fn sweep_at(words: &mut [u32], n: usize, start: Start, group: u32) -> Swept
-    requires { (0 < group) × (start.at < n) × ((t : State) × (c : ℕ) × (k : ℕ) × Sweep group t c words.old n start.at start.before k) }
-    ensures { ((t : State) (c k : ℕ) → Sweep group t c words.old n start.at start.before k → Sweep group t c words.new n result.next.at result.next.before (k + result.count)) × (start.at < result.next.at) }
+fn sweep_at(words: &mut [u32], n: usize, start: Start, group: Group) -> Swept
+    requires { (start.at < n) × ((t : State) × (c : ℕ) × (k : ℕ) × Sweep group.number t c words.old n start.at start.before k) }
+    ensures { ((t : State) (c k : ℕ) → Sweep group.number t c words.old n start.at start.before k → Sweep group.number t c words.new n result.next.at result.next.before (k + result.count)) × (start.at < result.next.at) }
 {
     let kind = steps::kind_at(words, start.at);
     if kind == Kind::Zone {
         return sweep_zone(words, n, start, group);
     }
     let len = steps::size_at(words, n, start.at);
-    if kind == Kind::Direct && steps::group_at(words, n, start.at) == group {
+    if kind == Kind::Direct && steps::group_at(words, n, start.at) == group.number {
         return sweep_direct(words, n, start, len, group);
     }
     let next = Start {
@@ -92,12 +93,13 @@ fn sweep_at(words: &mut [u32], n: usize, start: Start, group: u32) -> Swept
 }
 
 // Every block of the group comes back; answers how many there were.
-fn sweep(words: &mut [u32], n: usize, group: u32) -> u32
-    requires { Good words.old n × (0 < group) }
-    ensures { (result ≡ length (offsets_of group (decode words.old))) × (words.new ≡ encode (freed_all (offsets_of group (decode words.old)) (decode words.old))) }
+fn sweep(words: &mut [u32], n: usize, group: Group) -> u32
+    requires { Good words.old n }
+    ensures { (result ≡ length (offsets_of group.number (decode words.old))) × (words.new ≡ encode (freed_all (offsets_of group.number (decode words.old)) (decode words.old))) }
 {
     let mut start = Start { at: 0, before: 0 };
     let mut count = 0;
+    // (A `while`: each turn goes on by the pages of a segment.)
     while start.at < n {
         let swept = sweep_at(words, n, start, group);
         start = swept.next;
@@ -111,8 +113,6 @@ pub fn reset(words: &mut [u32], n: usize, group: u32) -> Result<u32, Refusal>
     requires { Good words.old n }
     ensures { Makes (rules.reset group (decode words.old)) (count_answer result) words.new }
 {
-    if !model::group_ok(group) {
-        return Err(Refusal::BadGroup);
-    }
+    let group = Group::try_from(group)?;
     Ok(sweep(words, n, group))
 }

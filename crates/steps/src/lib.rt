@@ -1,6 +1,10 @@
 // The steps of which calls are made. Each is lent all the words of a state and no others (`Lent`) and passes on the part that it reads or
 // changes; one that changes words leaves those of the state that it makes. The state need not be valid between two steps.
 // Where words are cut at the header's end, `header_fits` tells the search that there are as many.
+// (Words and n, the number of their pages, stay two parameters, and `Lent` a `requires`: a value of both would hold a `&mut`, so each contract
+// would say besides that the same words are in it, `self.new.words.ghost_name ≡ self.old.words.ghost_name`. Reads are
+// called between writes, and take what these take. The crates of the calls do as this one. Each step is named here, a line or two long, so that
+// they cut no words: one for several would be lent the method, and promise less. `ZoneHere` is a fact of words and page, like `Stands`.)
 #![tactic(auto)]
 
 ghost use Rattle.std.specs.Prelude.{◌≡◌, false, [], ◌∷◌, ℕ, ◌+◌, ◌≤◌, ◌<◌, length, get_or, drop};
@@ -23,9 +27,10 @@ ghost use Rattle.metadata.specs.Encoding.{encode};
 ghost use Rattle.metadata.specs.Decoding.{decode};
 ghost use Rattle.steps.specs.Lent.{Lent, ZoneHere};
 ghost use Rattle.steps.specs.Moves.{fronted, unlisted, spared, rezoned, carved, released};
-ghost use Rattle.model.specs.Numbers.{zone_pages, most_group, class_count, most_pages};
+ghost use Rattle.model.specs.Numbers.{zone_pages, class_count, most_pages};
 
 use header::Lists;
+use model::groups::Group;
 use model::numbers::HEADER_WORDS;
 use pages::find::Pages;
 use pages::{Choice, Kind, Run, Spot, Start};
@@ -176,7 +181,7 @@ pub fn zone_touched(words: &[u32], page: usize) -> u32
     zone_part(words, page).touched()
 }
 
-// A chunk's group, 0 where it is not live.
+// A chunk's group, 0 where it is not live (as `Part` has it).
 pub fn zone_owner(words: &[u32], page: usize, chunk: u32) -> u32
     requires { Lent words.now × ZoneHere (decode words.now) page }
     ensures { result ≡ get_or (zone_at page (decode words.now).segments).owners chunk 0 }
@@ -201,9 +206,9 @@ pub fn zone_full(words: &[u32], page: usize) -> bool
 }
 
 // It grants a chunk to the group.
-pub fn zone_grant(words: &mut [u32], page: usize, group: u32) -> u32
-    requires { Lent words.old × ZoneHere (decode words.old) page × (full (zone_at page (decode words.old).segments) ≡ false) × (0 < group) × (group ≤ most_group) }
-    ensures { (result ≡ next_chunk (zone_at page (decode words.old).segments)) × (words.new ≡ encode (rezoned page (granted group (zone_at page (decode words.old).segments)) (decode words.old))) }
+pub fn zone_grant(words: &mut [u32], page: usize, group: Group) -> u32
+    requires { Lent words.old × ZoneHere (decode words.old) page × (full (zone_at page (decode words.old).segments) ≡ false) }
+    ensures { (result ≡ next_chunk (zone_at page (decode words.old).segments)) × (words.new ≡ encode (rezoned page (granted group.number (zone_at page (decode words.old).segments)) (decode words.old))) }
 {
     let a = zone_start(words, page);
     zone::grant(&mut words[a..a + ZONE_WORDS], group)
@@ -248,7 +253,7 @@ pub fn size_at(words: &[u32], n: usize, p: usize) -> usize
     all_pages(words, n).size(p)
 }
 
-// Its pages if it is a run, else 0.
+// Its pages if it is a run, else 0 (as in `Start`).
 pub fn run_at(words: &[u32], n: usize, p: usize) -> usize
     requires lent { Lent words.now × (n ≡ total (decode words.now).segments) }
     requires placed { (b : ℕ) × (x : Segment Zone) × Stands (decode words.now).segments p b x }

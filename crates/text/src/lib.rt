@@ -1,7 +1,8 @@
 // Numbers and lines as bytes: written into a lent buffer, and read back.
 //
 // A writer skips the bytes that lie past the buffer's end, and answers the position after its text all the same. So a buffer of
-// any length may be lent, and on an empty one a writer only measures its text.
+// any length may be lent, and on an empty one a writer only measures its text. (Buffer and position stay two parameters, and `Bounded` a
+// `requires`: a writer that held both would hold a `&mut`, as `steps` says, and what is bounded is another text at each call.)
 #![tactic(auto)]
 
 ghost use Rattle.std.specs.Prelude.{◌≡◌, cond, [], ◌∷◌, ltb};
@@ -28,6 +29,7 @@ pub fn put_byte(out: &mut [u8], at: usize, b: u8) -> usize
     at + 1
 }
 
+// (Byte by byte: those past the buffer's end are skipped, which no copy does.)
 pub fn put_bytes(out: &mut [u8], at: usize, s: &[u8]) -> usize
     requires { Bounded at s.now }
     ensures { Wrote out.old at s.now result out.new }
@@ -95,8 +97,6 @@ pub fn put_named(out: &mut [u8], at: usize, name: &[u8], n: u64) -> usize
 
 // ---- readers
 
-const LARGEST: u64 = 4294967295;
-
 // The number at a position. Once a digit has been read, v is 0 only after a single `0`, which no digit may follow.
 // By hand, since `parse` takes a sign and leading zeros, and needs to know where the digits end.
 pub fn read_number(s: &[u8], at: usize) -> Option<Number>
@@ -118,7 +118,7 @@ pub fn read_number(s: &[u8], at: usize) -> Option<Number>
             return None;
         }
         v = 10 * v + u64::from(b - b'0');
-        if LARGEST < v {
+        if u64::from(u32::MAX) < v {
             return None;
         }
     }

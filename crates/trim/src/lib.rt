@@ -61,6 +61,7 @@ pub fn trim_all(words: &mut [u32], n: usize) -> u32
     let mut at = 0;
     let mut before = 0;
     let mut count = 0;
+    // (A `while`: each turn goes on by the pages of a segment.)
     while at < n {
         if idle_at(words, at) {
             let len = give_zone(words, n, Start { at, before });

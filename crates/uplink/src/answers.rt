@@ -8,7 +8,7 @@ ghost use Rattle.uplink.specs.Answers.{answer_text, bad_text, answer_room};
 
 use model::{Answer, Refusal};
 
-// The line that says an answer.
+// The line that says an answer. (Where it begins is bounded by each writer: positions are numbers, which are added to.)
 pub fn put_answer(out: &mut [u8], at: usize, answer: Answer) -> usize
     requires { at < 2 ^ 32 }
     ensures wrote { Wrote out.old at (answer_text answer) result out.new }

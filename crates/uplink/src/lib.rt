@@ -35,7 +35,8 @@ enum Numbers {
     Two(u32, u32),
 }
 
-// An unfinished line: its first bytes, how many they are, and whether there were more than a line has.
+// An unfinished line: its first bytes, how many they are, and whether there were more than a line has (a flag,
+// and no `Option` of the bytes: where it is set nothing is asked of them).
 // An array with its length beside it, since no memory is allocated.
 #[derive(Clone, Copy)]
 pub struct Reader {

@@ -8,7 +8,6 @@ ghost use Rattle.model.specs.PageMap.{idle_zone};
 ghost use Rattle.zone.specs.Encoding.{zone_words, slot_count, zone_encoding};
 ghost use Rattle.zone.specs.Decoding.{touched_in, chained_in, head_legal, body_legal, is_zone, zone_of};
 ghost use Rattle.zone.specs.Live.{live_chunks};
-ghost use Rattle.model.specs.Numbers.{most_group};
 
 pub mod layout;
 pub mod sizes;
@@ -16,6 +15,7 @@ mod slots;
 mod stores;
 
 use layout::*;
+use model::groups::Group;
 use model::numbers::CLASS_COUNT;
 
 // Whether the head's numbers are those of a zone.
@@ -51,6 +51,9 @@ pub fn check(part: &[u32]) -> bool
     head_is_legal(part) && body_is_legal(part)
 }
 
+// (Where words are written they are a lent slice with a `requires`: a `Part` that could be written would hold a `&mut`, as `steps` says.
+// `set_up` takes any group above 0, as it was promised to: a `Group` would ask more.)
+
 // Sets the words up as a zone of the class whose chunk 0 is granted to the group, whatever they held.
 pub fn set_up(part: &mut [u32], class: u32, group: u32)
     requires { (length part.old ≡ zone_words) × (0 < group) }
@@ -65,16 +68,16 @@ pub fn set_up(part: &mut [u32], class: u32, group: u32)
 }
 
 // Grants a chunk to the group: the first untouched one, or where there is none the last one returned.
-pub fn grant(part: &mut [u32], group: u32) -> u32
-    requires { (is_zone part.old ≡ true) × (full (zone_of part.old) ≡ false) × (0 < group) × (group ≤ most_group) }
-    ensures { (result ≡ next_chunk (zone_of part.old)) × (part.new ≡ zone_encoding (granted group (zone_of part.old))) }
+pub fn grant(part: &mut [u32], group: Group) -> u32
+    requires { (is_zone part.old ≡ true) × (full (zone_of part.old) ≡ false) }
+    ensures { (result ≡ next_chunk (zone_of part.old)) × (part.new ≡ zone_encoding (granted group.number (zone_of part.old))) }
 {
     let touched = part[AT_TOUCHED];
     if sizes::has_chunk(part[AT_CLASS], touched) {
-        stores::hand_out(part, touched, group);
+        stores::hand_out(part, touched, group.number);
         touched
     } else {
-        stores::take_last(part, group)
+        stores::take_last(part, group.number)
     }
 }
 
@@ -94,7 +97,7 @@ pub struct Part<'a> {
 }
 
 impl Part<'_> {
-    // The chunk's group, 0 where it is not live or there is none of that number.
+    // The chunk's group, 0 where it is not live or there is none of that number: so has the rules' list of owners, which the clause cites.
     pub fn owner(self, chunk: u32) -> u32
         ensures { result ≡ get_or (zone_of self.entry.words.now).owners chunk 0 }
     {

@@ -1,4 +1,5 @@
-// The check of the slots of the chunks that were handed out: their states, and the chain of the returned ones.
+// The check of the slots of the chunks that were handed out: their states, and the chain of the returned ones. (The chain's places are
+// numbers in words: the layout has them so, which callers in C keep.)
 ghost use Rattle.std.specs.Prelude.{true, ◌≡◌, ◌≤◌, ◌+◌, length, take};
 ghost use Rattle.lemmas.specs.Below.{all_below};
 ghost use Rattle.lemmas.specs.Every.{every, count};
@@ -11,7 +12,7 @@ use crate::layout::*;
 const FAR: u32 = HALF * SLOTS as u32;
 
 // What a scan of slots finds: how many are those of live chunks, and the or of all.
-#[derive(Clone, Copy)]
+#[derive(Clone, Copy, PartialEq, Eq, Debug)]
 struct Tally {
     live: u32,
     seen: u32,
@@ -41,7 +42,8 @@ fn survey(slots: &[u32]) -> Tally
     Tally { live, seen }
 }
 
-// Whether the chunk at each position below `chained` has that position. No read waits for another one's.
+// Whether the chunk at each position below `chained` has that position. No read waits for another one's. (Each chunk's slot is looked up by its
+// number: so the position is one, too.)
 fn are_in_place(slots: &[u32], chained: u32) -> bool
     requires { (length slots.now ≡ slot_count) × (chained ≤ slot_count) × (every is_near (take chained slots.now) ≡ true) }
     ensures { result ≡ all_below (in_place slots.now) chained }

@@ -10,4 +10,4 @@ supply_chunk-requires c =
     let h = c.requires in
     let r = h.legal_request in
     let t = c.if-size-lt-LARGE_SIZE.true in
-    record { good = h.good; class = omega (arith, (classed _ r.2 t).below, r.4 ∙ class_for-chunk _ r.2 t); least = r.0; most = r.1 }
+    record { good = h.good; class = omega (arith, (classed _ r.0 t).below, r.2 ∙ class_for-chunk _ r.0 t) }

@@ -18,8 +18,8 @@ abbrev call : ℕ → ℕ → Action
 call g n = group (record { group = g; operation = Allocate n })
 
 -- It was not refused.
-done : (c : In_ok-grant) → is_refused (supplied c.args.group c.args.size (account_in c.args.meta.now).state).answer ≡ false
-done c = arena-told c.requires.arena.0 _ c.words_for-e.ensures (supplied c.args.group c.args.size) c.in_ok-grant.ensures.0
+done : (c : In_ok-grant) → is_refused (supplied c.args.group.number c.args.size (account_in c.args.meta.now).state).answer ≡ false
+done c = arena-told c.requires.arena.0 _ c.words_for-e.ensures (supplied c.args.group.number c.args.size) c.in_ok-grant.ensures.0
 
 pub words_for-e-requires : goal.words_for-e-requires
 words_for-e-requires c = arena-few c.requires.arena.0
@@ -34,7 +34,7 @@ pub returns-in_err-grant : goal.returns-in_err-grant
 returns-in_err-grant c =
     let h = c.requires.arena in
     let p = err_from_is_err_and c.from_residual.result c.from_residual.ensures.1 in
-    let k = arena-refuses h.0 _ c.words_for-e.ensures (call c.args.group c.args.size) (supplied c.args.group c.args.size) (supply-is _ _ _ h.1) c.in_err-grant.ensures refl in
+    let k = arena-refuses h.0 _ c.words_for-e.ensures (call c.args.group.number c.args.size) (supplied c.args.group.number c.args.size) (supply-is _ _ _ h.1) c.in_err-grant.ensures refl in
     record { value = ap request_answer (p.1 ∙ ap Err p.2) ∙ k.0; meta_after = k.1 }
 
 pub slice_bounds-add-end-2 : goal.slice_bounds-add-end-2
@@ -44,13 +44,13 @@ pub add-requires : goal.add-requires
 add-requires c =
     let h = c.requires.arena in
     let yes = done (goal.at.add-requires c).In_ok-grant in
-    let k = grant-needs _ (arena-valid h.0) c.args.group c.args.size h.1 yes _ (figures-there h.0 _ c.words_for-e.ensures _) _ refl _ c.requires.size_told.1 in
-    record { record_there = k.0; bounded_bytes = k.1 }
+    let k = grant-needs _ (arena-valid h.0) c.args.group.number c.args.size h.1 yes _ (figures-there h.0 _ c.words_for-e.ensures _) _ refl _ c.requires.size_told.1 in
+    record { long = k.0; bounded_bytes = k.1 }
 
 pub returns : goal.returns
 returns c =
     let h = c.requires.arena in
     let yes = done (goal.at.returns c).In_ok-grant in
-    let figures = grant-done _ (arena-valid h.0) c.args.group c.args.size h.1 yes _ (figures-there h.0 _ c.words_for-e.ensures c.supply.new.words) _ refl _ c.requires.size_told.1 _ c.add.ensures in
-    let k = arena-serves h.0 _ c.words_for-e.ensures (call c.args.group c.args.size) (supplied c.args.group c.args.size) (supply-is _ _ _ h.1) c.in_ok-grant.ensures figures in
+    let figures = grant-done _ (arena-valid h.0) c.args.group.number c.args.size h.1 yes _ (figures-there h.0 _ c.words_for-e.ensures c.supply.new.words) _ refl _ c.requires.size_told.1 _ c.add.ensures in
+    let k = arena-serves h.0 _ c.words_for-e.ensures (call c.args.group.number c.args.size) (supplied c.args.group.number c.args.size) (supply-is _ _ _ h.1) c.in_ok-grant.ensures figures in
     record { value = k.0; meta_after = k.1 }

@@ -1,10 +1,13 @@
 -- `set_ceiling` meets its contract. Assumes nothing.
-use mathlib.Core.Path.{refl, sym}
+use Prim.Native.Nat.{◌-◌}
+use native.Mathlib.Omega.{arith}
+use mathlib.Core.Path.{sym, ap}
 use lib.Seq.{length-take-le}
 use Rattle.model.specs.Numbers.{figure_words}
 use Rattle.model.specs.Calls.{ceiling}
+use Rattle.account.proofs.Accounts.{has-figures}
 use Rattle.calls.proofs.Acting.{none-told, some-told, refused-answer, refused-words}
-use Rattle.calls.proofs.Capping.{set-bad-group, set-too-large, set_long, set-needs, set-done}
+use Rattle.calls.proofs.Capping.{set-bad-group, set-too-large, set-done}
 use Rattle.calls.proofs.set_ceiling.Goals as goal
 
 pub returns-then-is_none : goal.returns-then-is_none
@@ -15,29 +18,29 @@ returns-then-is_none c =
       meta_after = refused-words _ none a;
     }
 
-pub returns-then-not-group_ok : goal.returns-then-not-group_ok
-returns-then-not-group_ok c =
-    let k = set-bad-group _ _ _ (some-told _ _ c.arena_pages.ensures c.if-is_none.ensures) (sym c.if-not-group_ok.ensures) in
+pub returns-in_default : goal.returns-in_default
+returns-in_default c =
+    let k = set-bad-group _ _ _ (some-told _ _ c.arena_pages.ensures c.if-is_none.ensures) c.in_default.ensures.1 in
     record { value = k.0; meta_after = k.1 }
 
 pub returns-then-ceiling-gt-MOST_BYTES : goal.returns-then-ceiling-gt-MOST_BYTES
 returns-then-ceiling-gt-MOST_BYTES c =
-    let k = set-too-large _ _ _ (some-told _ _ c.arena_pages.ensures c.if-is_none.ensures) (sym c.if-not-group_ok.ensures) c.if-ceiling-gt-MOST_BYTES.true in
+    let k = set-too-large _ _ _ (some-told _ _ c.arena_pages.ensures c.if-is_none.ensures) c.in-Ok.ensures.1 c.if-ceiling-gt-MOST_BYTES.true in
     record { value = k.0; meta_after = k.1 }
 
 -- The figures are there to be lent.
 pub slice_bounds-cap-end : goal.slice_bounds-cap-end
-slice_bounds-cap-end c = set_long _ c.args.group c.args.ceiling (some-told _ _ c.arena_pages.ensures c.if-is_none.ensures) (sym c.if-not-group_ok.ensures)
+slice_bounds-cap-end c = omega (arith, has-figures c.args.meta.now (some-told _ _ c.arena_pages.ensures c.if-is_none.ensures))
 
 pub slice_bounds-cap-end-2 : goal.slice_bounds-cap-end-2
-slice_bounds-cap-end-2 c = sym (length-take-le figure_words c.args.meta.now (set_long _ c.args.group c.args.ceiling (some-told _ _ c.arena_pages.ensures c.if-is_none.ensures) (sym c.if-not-group_ok.ensures)))
+slice_bounds-cap-end-2 c = sym (length-take-le figure_words c.args.meta.now (omega (arith, has-figures c.args.meta.now (some-told _ _ c.arena_pages.ensures c.if-is_none.ensures))))
 
 pub cap-requires : goal.cap-requires
 cap-requires c =
-    set-needs c.args.meta.now c.args.group c.args.ceiling (some-told _ _ c.arena_pages.ensures c.if-is_none.ensures) (sym c.if-not-group_ok.ensures) _ refl _ refl
+    length-take-le figure_words c.args.meta.now (omega (arith, has-figures c.args.meta.now (some-told _ _ c.arena_pages.ensures c.if-is_none.ensures)))
 
 pub returns : goal.returns
 returns c =
     let lent = some-told _ _ c.arena_pages.ensures c.if-is_none.ensures in
-    let k = set-done c.args.meta.now c.args.group c.args.ceiling lent (sym c.if-not-group_ok.ensures) c.if-ceiling-gt-MOST_BYTES.false _ _ refl c.cap.ensures in
+    let k = set-done c.args.meta.now c.args.group c.args.ceiling lent c.in-Ok.ensures.1 c.if-ceiling-gt-MOST_BYTES.false _ _ (ap (λ k. k - 1) c.in-Ok.ensures.0) c.cap.ensures in
     record { value = k.0; meta_after = k.1 }

@@ -8,7 +8,7 @@ use Rattle.reset.proofs.sweep.Given as goal
 
 abbrev pub invariant-loop-start : goal.invariant-loop-start
 invariant-loop-start l =
-    Sweep l.group (freed_all (offsets_of l.group (decode l.initial.words)) (decode l.initial.words)) (length (offsets_of l.group (decode l.initial.words))) l.words l.n l.start.at l.start.before l.count
+    Sweep l.group.number (freed_all (offsets_of l.group.number (decode l.initial.words)) (decode l.initial.words)) (length (offsets_of l.group.number (decode l.initial.words))) l.words l.n l.start.at l.start.before l.count
 
 abbrev pub decreases-loop-start : goal.decreases-loop-start
 decreases-loop-start l = l.n - l.start.at

@@ -39,9 +39,9 @@ pub returns-then-v-eq0 : goal.returns-then-v-eq0
 returns-then-v-eq0 c =
     on-zero _ _ _ _ c.loop-i-test.true (sym c.if-not-is_ascii_digit-2.ensures.value) (omega (arith, c.if-v-eq0.true)) ∙ c.loop-i.invariant.read
 
-pub returns-then-v-gt-LARGEST : goal.returns-then-v-gt-LARGEST
-returns-then-v-gt-LARGEST c =
-    on-large _ _ _ _ c.loop-i-test.true (sym c.if-not-is_ascii_digit-2.ensures.value) c.from.ensures (omega (arith, c.if-v-gt-LARGEST.true))
+pub returns-then-from-v : goal.returns-then-from-v
+returns-then-from-v c =
+    on-large _ _ _ _ c.loop-i-test.true (sym c.if-not-is_ascii_digit-2.ensures.value) c.from.ensures (omega (arith, c.if-from-v.true, c.from-in-loop-i.ensures))
     ∙ c.loop-i.invariant.read
 
 pub loop-i-preserved : goal.loop-i-preserved

@@ -29,18 +29,24 @@ has_chunk-requires c = let e = c.requires.0 in (class-small _ e, touched-few _ e
 
 pub hand_out-requires : goal.hand_out-requires
 hand_out-requires c =
-    let p = c.requires in (zone-size _ p.0, (hand-out-words _ p.0 _ p.2 p.3 (left (goal.at.hand_out-requires c).After-has_chunk c.if-has_chunk.true)).0)
+    let p = c.requires in
+    let g = c.args.group in
+    (zone-size _ p.0, (hand-out-words _ p.0 _ g.least g.most (left (goal.at.hand_out-requires c).After-has_chunk c.if-has_chunk.true)).0)
 
 pub returns-then-has_chunk : goal.returns-then-has_chunk
 returns-then-has_chunk c =
     let p = c.requires in
-    let r = hand-out-words _ p.0 _ p.2 p.3 (left (goal.at.returns-then-has_chunk c).After-has_chunk c.if-has_chunk.true) in (r.1, c.hand_out.ensures ∙ r.2)
+    let g = c.args.group in
+    let r = hand-out-words _ p.0 _ g.least g.most (left (goal.at.returns-then-has_chunk c).After-has_chunk c.if-has_chunk.true) in (r.1, c.hand_out.ensures ∙ r.2)
 
 pub take_last-requires : goal.take_last-requires
 take_last-requires c =
-    let p = c.requires in ((taken _ p.0 _ p.2 p.3 p.1 (gone (goal.at.take_last-requires c).After-has_chunk c.if-has_chunk.false)).asks, omega arith)
+    let p = c.requires in
+    let g = c.args.group in
+    ((taken _ p.0 _ g.least g.most p.1 (gone (goal.at.take_last-requires c).After-has_chunk c.if-has_chunk.false)).asks, omega (arith, g.most))
 
 pub returns-else-has_chunk : goal.returns-else-has_chunk
 returns-else-has_chunk c =
     let p = c.requires in
-    let r = taken _ p.0 _ p.2 p.3 p.1 (gone (goal.at.returns-else-has_chunk c).After-has_chunk c.if-has_chunk.false) in (c.take_last.ensures.0 ∙ r.chunk-is, c.take_last.ensures.1 ∙ words-encoding r.words_are)
+    let g = c.args.group in
+    let r = taken _ p.0 _ g.least g.most p.1 (gone (goal.at.returns-else-has_chunk c).After-has_chunk c.if-has_chunk.false) in (c.take_last.ensures.0 ∙ r.chunk-is, c.take_last.ensures.1 ∙ words-encoding r.words_are)
