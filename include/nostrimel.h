@@ -89,7 +89,7 @@ extern "C" {
 
 /*
  * Bytes of stack that a call uses at most. That is measured and not proved: in twenty thousand calls of all kinds, on painted stacks,
- * none used more than 816, a request and a reset the most (tests/c/stack.c, which fails where a call uses more than this).
+ * none used more than 784, a request and a reset the most (tests/c/stack.c, which fails where a call uses more than this).
  */
 #define NOSTRIMEL_STACK_BYTES 4096u
 
