@@ -15,7 +15,7 @@ use Rattle.std.proofs.lemmas.List.Quantifiers.{position-Some}
 use Rattle.std.proofs.lemmas.Iterator.Adapters.{position_from-zero}
 use Rattle.std.specs.Prelude.{Some, None}
 use Rattle.uplink.specs.declared.Line.{Line}
-use Rattle.uplink.specs.Fragments.{most_line, Held, part, long, fresh, held_by, hold, hold_all, line_held, last_line, step_from, step_of, FedBy}
+use Rattle.uplink.specs.Fragments.{most_line, Step, Held, part, long, fresh, held_by, hold, hold_all, line_held, last_line, step_from, step_of, FedBy}
 
 -- ---- more bytes
 
@@ -78,12 +78,22 @@ step-lf (b ∷ s) i k (suc n) h e f =
     let z : i + suc n + 1 ≡ i + 1 + n + 1 = omega arith in
     rw (f 0 (omega arith), z) (step-lf s (i + 1) (hold k b) n (omega arith) e (λ j h. f (suc j) (omega arith)))
 
-step_none : (s : List ℕ) (i j : ℕ) (k : Held) → None ≡ position_from (λ b. b == 10) j s → record { after = hold_all k s; next = i + length s; line = None } ≡ step_from i k s
+-- No LF among the bytes, which are counted from j on; the step that then uses them up, and the one that an LF ends.
+abbrev no_lf : ℕ → List ℕ → Type 0
+no_lf j s = None ≡ position_from (λ b. b == 10) j s
+
+abbrev used_up : ℕ → Held → List ℕ → Step
+used_up i k s = record { after = hold_all k s; next = i + length s; line = None }
+
+abbrev ended : ℕ → Held → Step
+ended i k = record { after = fresh; next = i + 1; line = Some (line_held k) }
+
+step_none : (s : List ℕ) (i j : ℕ) (k : Held) → no_lf j s → used_up i k s ≡ step_from i k s
 unfolding step_from hold_all
 step_none [] i j k e = let z : i + 0 ≡ i = omega arith in rw z
-step_none (b ∷ s) i j k e = go (eqb b 10) (λ q. step_none s (i + 1) (j + 1) (hold k b) q) e
+step_none (b ∷ s) i j k e = go (eqb b 10) (step_none s (i + 1) (j + 1) (hold k b)) e
   where
-    go : (t : Bool) → (None ≡ position_from (λ b. b == 10) (j + 1) s → record { after = hold_all (hold k b) s; next = i + 1 + length s; line = None } ≡ step_from (i + 1) (hold k b) s) → None ≡ cond t (Some j) (position_from (λ b. b == 10) (j + 1) s) → record { after = hold_all (hold k b) s; next = i + suc (length s); line = None } ≡ cond t (record { after = fresh; next = i + 1; line = Some (line_held k) }) (step_from (i + 1) (hold k b) s)
+    go : (t : Bool) → (no_lf (j + 1) s → used_up (i + 1) (hold k b) s ≡ step_from (i + 1) (hold k b) s) → None ≡ cond t (Some j) (position_from (λ b. b == 10) (j + 1) s) → used_up i k (b ∷ s) ≡ cond t (ended i k) (step_from (i + 1) (hold k b) s)
     go true ih q = absurd (cc)
     go false ih q = let z : i + suc (length s) ≡ i + 1 + length s = omega arith in rw z (ih q)
 
