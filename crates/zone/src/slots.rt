@@ -62,10 +62,11 @@ pub fn are_legal(slots: &[u32], touched: u32, chained: u32) -> bool
     ensures { result ≡ slots_legal slots.now touched chained }
 {
     let middle = chained as usize;
-    let lower = survey(&slots[..middle]);
+    // (The slots past the chain come first, and one among them that has an entry ends the check: the others are then not read.)
     let upper = survey(&slots[middle..touched as usize]);
-    upper.seen < HALF
-        && lower.seen < FAR
-        && lower.live + upper.live == touched - chained
-        && are_in_place(slots, chained)
+    if HALF <= upper.seen {
+        return false;
+    }
+    let lower = survey(&slots[..middle]);
+    lower.seen < FAR && lower.live + upper.live == touched - chained && are_in_place(slots, chained)
 }
