@@ -1,9 +1,10 @@
 // The public types of which the contracts speak, and the little code that every layer shares: numbers, the group test, a refusal's
-// number, and what a call answers for what its parts bring. The rules themselves are definitions, in specs/.
+// number, what a call answers for what its parts bring, and whether that is a refusal. The rules themselves are definitions, in
+// specs/.
 #![tactic(auto)]
 
 ghost use Rattle.std.specs.Prelude.{◌≡◌};
-ghost use Rattle.model.specs.Calls.{group_ok, number, request_answer, count_answer, plain_answer};
+ghost use Rattle.model.specs.Calls.{group_ok, is_refused, number, request_answer, count_answer, plain_answer};
 
 pub mod groups;
 pub mod numbers;
@@ -148,4 +149,11 @@ pub fn group_ok(group: u32) -> bool
     ensures { result ≡ group_ok group }
 {
     1 <= group && group <= MOST_GROUP
+}
+
+// Whether an answer is a refusal.
+pub fn is_refused(answer: Answer) -> bool
+    ensures { result ≡ is_refused answer }
+{
+    matches!(answer, Answer::Denied { .. } | Answer::Refused(_))
 }
