@@ -1,11 +1,13 @@
 -- The test of any words, case by case as the code finds them, and the words of a fresh account. Assumes nothing.
 use Prim.Native.Nat.{ℕ, suc, ◌+◌, ◌-◌, ◌*◌, ◌≤◌, ◌<◌}
 use mathlib.Core.Path.{◌≡◌, sym, ap, ◌∙◌, subst}
-use mathlib.Core.List.{List, ◌++◌}
+use mathlib.Core.List.{List, [], ◌++◌}
 use mathlib.Core.Bool.{Bool, true, false, ◌&&◌}
 use native.Mathlib.Omega.{arith}
-use lib.ListN.{length, get_or, take, drop, length-drop, get_or-replicate}
+use lib.Dec.{leb}
+use lib.ListN.{length, get_or, take, drop, replicate, length-drop, length-replicate, get_or-replicate}
 use lib.Seq.{take_all}
+use borrow.Author.Tests.{le-leb, eq-eqb}
 use Rattle.std.specs.List.{list_all, range_with_len}
 use Rattle.std.proofs.lemmas.List.Elements.{All-from_get_or}
 use Rattle.std.proofs.lemmas.List.Folds.{list_all_at}
@@ -15,17 +17,18 @@ use Rattle.lemmas.specs.Below.{all_below}
 use Rattle.lemmas.specs.Every.{every}
 use Rattle.lemmas.specs.Parts.{mid, put_mid}
 use Rattle.lemmas.specs.Zeros.{is_zero}
-use Rattle.lemmas.proofs.Below.{all-at, all_of}
-use Rattle.lemmas.proofs.Cases.{bool, refuted, true-false}
+use Rattle.lemmas.proofs.Below.{all-at, all_of, all_none, all_more, all_done}
+use Rattle.lemmas.proofs.Cases.{bool, refuted, true-false, and_both}
 use Rattle.lemmas.proofs.Tests.{agree}
 use Rattle.model.specs.Numbers.{page_bytes, most_bytes, most_group, most_pages, figure_words, header_words, page_words}
+use Rattle.model.specs.declared.Holding.{Holding}
 use Rattle.model.specs.Arena.{total}
 use Rattle.model.specs.State.{fresh_state}
 use Rattle.model.specs.PageMap.{shown, page_map}
 use Rattle.model.specs.Holdings.{blocks_of, held_of, fresh_account, holding_of, ceiling_at}
 use Rattle.model.specs.Perform.{words_for}
 use Rattle.header.specs.Encoding.{pages_in}
-use Rattle.figures.specs.Encoding.{at_rest, figures_encoding, no_holding, largest, record_in}
+use Rattle.figures.specs.Encoding.{at_held, at_greatest, at_ceiling, at_rest, figures_encoding, no_holding, largest, record_in, ceiling_in}
 use Rattle.figures.proofs.Encoded.{length-figures, record-encoded, ceiling-encoded, rest-encoded, is-figures}
 use Rattle.pages.specs.Decoding.{segments_of, Holds}
 use Rattle.tally.specs.Figures.{Tallied}
@@ -35,7 +38,57 @@ use Rattle.metadata.proofs.States.{state-valid, state-read, state-pages}
 use Rattle.metadata.proofs.Fresh.{put-behind}
 use Rattle.account.specs.Encoding.{figures_of, account_encoding}
 use Rattle.account.specs.Decoding.{state_part, account_in, record_fits, ceiling_fits, state_fits, tally_fits, figures_fit, is_account}
-use Rattle.account.proofs.Accounts.{passed, has-figures}
+use Rattle.account.proofs.Accounts.{fitting, passed, has-figures}
+
+-- ---- one record
+
+-- The test of the group at the index i, in figures f and the tally g.
+module _ (f g : List ℕ) (i most : ℕ) where
+  abbrev h : Holding
+  h = record_in f i
+
+  abbrev b : ℕ
+  b = get_or g i 0
+
+  abbrev r : ℕ
+  r = get_or g (most_group + i) 0
+
+  abbrev k : ℕ
+  k = ceiling_in f i
+
+  pub other-blocks : (get_or f i 0 ≡ get_or g i 0 → ⊥) → false ≡ tally_fits f g most i
+  other-blocks n = sym (refuted _ (λ t. n (fitting h k b r most t).blocks))
+
+  pub other-bytes : (get_or f (at_held + i) 0 ≡ get_or g (most_group + i) 0 → ⊥) → false ≡ tally_fits f g most i
+  other-bytes n = sym (refuted _ (λ t. n (fitting h k b r most t).held))
+
+  pub too-low : get_or f (at_greatest + i) 0 < get_or f (at_held + i) 0 → false ≡ tally_fits f g most i
+  too-low n = sym (refuted _ (λ t. omega (arith, (fitting h k b r most t).least)))
+
+  pub too-high : most < get_or f (at_greatest + i) 0 → false ≡ tally_fits f g most i
+  too-high n = sym (refuted _ (λ t. omega (arith, (fitting h k b r most t).most)))
+
+  pub last-test : get_or f i 0 ≡ get_or g i 0 → get_or f (at_held + i) 0 ≡ get_or g (most_group + i) 0 → get_or f (at_held + i) 0 ≤ get_or f (at_greatest + i) 0 →
+      get_or f (at_greatest + i) 0 ≤ most → leb (get_or f (at_ceiling + i) 0) most_bytes ≡ tally_fits f g most i
+  last-test p q l m = rw (eq-eqb h.blocks b p, eq-eqb h.held r q, le-leb h.held h.greatest l, le-leb h.greatest most m)
+
+-- ---- all records, one after another
+
+module _ (f g : List ℕ) (most : ℕ) where
+  abbrev test : ℕ → Bool
+  test = tally_fits f g most
+
+  pub none-tested : all_below test 0 ≡ true
+  none-tested = all_none test
+
+  pub one-fails : (i : ℕ) → i < most_group → test i ≡ false → false ≡ all_below test most_group
+  one-fails i l e = sym (refuted (all_below test most_group) (λ t. true-false (all-at test most_group t i l) e))
+
+  pub one_more : (i : ℕ) → all_below test i ≡ true → test i ≡ true → all_below test (i + 1) ≡ true
+  one_more i a e = all_more test i ∙ and_both (test i) (all_below test i) e a
+
+  pub all_tested : (i : ℕ) → i ≤ most_group → most_group ≤ i → all_below test i ≡ true → true ≡ all_below test most_group
+  all_tested i a b t = all_done test most_group i (omega arith) (sym t)
 
 -- ---- all records, in their order
 
@@ -101,6 +154,14 @@ module _ (w : List ℕ) (t : is_state w ≡ true) where
       pub rest-decides : all_below by-tally most_group ≡ true → every is_zero (mid at_rest (figure_words - at_rest) f) ≡ figures_fit f (decode w)
       unfolding figures_fit
       rest-decides q = sym (ap (λ b. b && every is_zero (mid at_rest (figure_words - at_rest) f)) (sym same_tests ∙ q))
+
+-- A tally that has begun.
+pub empty-tally : Tallied (replicate (most_group + most_group) 0) []
+empty-tally = record {
+  long = length-replicate {A = ℕ} (most_group + most_group) 0;
+  blocks = λ i l. get_or-replicate {A = ℕ} (most_group + most_group) i 0 0 (omega arith);
+  held = λ i l. get_or-replicate {A = ℕ} (most_group + most_group) (most_group + i) 0 0 (omega arith);
+}
 
 -- ---- all words
 

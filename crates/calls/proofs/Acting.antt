@@ -200,7 +200,7 @@ module _ {w : List ℕ} {n : ℕ} (h : Arena w n) where
         next-figures = ap (λ o. figures_of o.after) (sym is)
 
         -- The figures are stepped to those of the account that follows; or they stay.
-        arena-stepped : (g : List ℕ) → g ≡ figures_of (accounted (account_in w) (f (account_in w).state).after) → g ++ drop figure_words (put_mid figure_words (e - figure_words) w v) ≡ meta_after w (act a)
+        pub arena-stepped : (g : List ℕ) → g ≡ figures_of (accounted (account_in w) (f (account_in w).state).after) → g ++ drop figure_words (put_mid figure_words (e - figure_words) w v) ≡ meta_after w (act a)
         arena-stepped g k = ap (λ l. g ++ l) (ap (drop figure_words) (put_is v) ∙ drop_at (figures_of x) (v ++ drop e w) figure_words F-long) ∙ all_words_lem g (k ∙ next-figures)
 
         pub arena-still : figures_of (account_in w) ≡ figures_of (accounted (account_in w) (f (account_in w).state).after) → put_mid figure_words (e - figure_words) w v ≡ meta_after w (act a)

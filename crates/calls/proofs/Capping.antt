@@ -5,7 +5,7 @@ use mathlib.Core.List.{List, ◌++◌, append_assoc}
 use mathlib.Core.Bool.{true, false}
 use native.Mathlib.Omega.{arith}
 use lib.ListN.{length, take, drop}
-use lib.Seq.{drop_at}
+use lib.Seq.{drop_at, length-take-le}
 use borrow.Author.Tests.{le-leb, lt-leb}
 use Rattle.model.specs.Numbers.{most_group, most_bytes, figure_words}
 use Rattle.model.specs.declared.Refusal.TheVariants.{BadGroup, BadSize}
@@ -20,7 +20,7 @@ use Rattle.figures.proofs.Encoded.{length-figures}
 use Rattle.metadata.specs.Encoding.{encode}
 use Rattle.account.specs.Encoding.{figures_of, account_encoding}
 use Rattle.account.specs.Decoding.{account_in, is_account}
-use Rattle.account.proofs.Accounts.{account-valid, account-begins, figures-are}
+use Rattle.account.proofs.Accounts.{account-valid, account-begins, has-figures, figures-are}
 use Rattle.account.proofs.Next.{capped-figures}
 use Rattle.calls.specs.Calls.{answer_of, meta_after}
 use Rattle.calls.proofs.Words.{front_same, refused-same, served-answer, served-words, served-long}
@@ -52,7 +52,17 @@ module _ (w : List ℕ) (g c : ℕ) where
       index-low : g - 1 < most_group
       index-low = omega (arith, group-least g u, group-most g u)
 
-      -- The figures come back with the ceiling.
+      -- The figures are lent, ..
+      pub set-lent : take figure_words w ≡ figures_of (account_in w)
+      set-lent = figures-are w t
+
+      pub set_long : figure_words ≤ length w
+      set_long = omega (arith, has-figures w t)
+
+      pub set-needs : (f : List ℕ) → f ≡ take figure_words w → (i : ℕ) → i ≡ g - 1 → (length f ≡ figure_words) × (i < most_group)
+      set-needs f e i at = (ap length e ∙ length-take-le figure_words w set_long, omega (arith, index-low))
+
+      -- .. and come back with the ceiling.
       pub set-done : c ≤ most_bytes → (v : List ℕ) (i : ℕ) → i ≡ g - 1 → v ≡ capped i c (take figure_words w) →
           (Done ≡ answer_of w (act (ceiling g c))) × (v ++ drop figure_words w ≡ meta_after w (act (ceiling g c)))
       unfolding account_encoding
@@ -62,7 +72,7 @@ module _ (w : List ℕ) (g c : ℕ) where
           let F-long = length-figures (holding_of x) (ceiling_at x) in
           let whole : w ≡ figures_of x ++ (encode x.state ++ drop (length (account_encoding x)) w)
           = sym (front_same (account_encoding x) w (account-begins w t)) ∙ append_assoc (figures_of x) (encode x.state) (drop (length (account_encoding x)) w) in
-          let step : v ≡ figures_of y = q ∙ (λ j. capped (at j) c (figures-are w t j)) ∙ capped-figures x (account-valid w t) g c index-low in (
+          let step : v ≡ figures_of y = q ∙ (λ j. capped (at j) c (set-lent j)) ∙ capped-figures x (account-valid w t) g c index-low in (
             served (rw (u, le-leb c most_bytes h)),
             (λ j. step j ++ drop figure_words (whole j))
                 ∙ ap (λ l. figures_of y ++ l) (drop_at (figures_of x) (encode x.state ++ drop (length (account_encoding x)) w) figure_words F-long)

@@ -1,6 +1,6 @@
 -- The table's rule, carried from the whole table to the class of each size. Assumes nothing.
 use Prim.Native.Nat.{ℕ, ◌+◌, ◌-◌, ◌*◌, ◌/◌, ◌≤◌, ◌<◌}
-use mathlib.Core.Path.{◌≡◌, ◌∙◌}
+use mathlib.Core.Path.{◌≡◌, ap, ◌∙◌}
 use native.Mathlib.Omega.{arith}
 use lib.Dec.{ltb}
 use lib.ListN.{length, get_or}
@@ -54,6 +54,16 @@ pub entry-class : (n : ℕ) → 0 < n → n < large_size → get_or class_table 
 unfolding class_table entry_at
 entry-class n p h = get_or-list_from entry_at 0 entry_count (entry_of n) 0 (omega arith) ∙ last-of-eight n (8 * (0 + entry_of n) + 8) p h (omega arith)
 
+-- What stands at a place, however the place is told.
+pub same_place : (i j : ℕ) → i ≡ j → get_or class_table i 0 ≡ get_or class_table j 0
+same_place i j e = ap (λ k. get_or class_table k 0) e
+
 -- A request that takes a chunk takes one of its size's class.
 pub class_for-chunk : (n : ℕ) → 0 < n → n < large_size → class_for n ≡ class_of n
 class_for-chunk n p h = rw (le-ltb n 1 p, lt-ltb n large_size h)
+
+pub class_for-none : (n : ℕ) → n < 1 → class_for n ≡ 0
+class_for-none n h = rw (lt-ltb n 1 h)
+
+pub class_for-pages : (n : ℕ) → large_size ≤ n → class_for n ≡ 0
+class_for-pages n h = rw (le-ltb n 1 (omega arith), le-ltb n large_size h)

@@ -4,12 +4,12 @@ use Prim.Native.Nat.{ℕ, ◌+◌, ◌-◌, ◌≤◌, ◌<◌}
 use mathlib.Core.Path.{◌≡◌, sym, ap, ◌∙◌}
 use mathlib.Core.List.{List, [], ◌++◌}
 use native.Mathlib.Omega.{arith}
-use lib.ListN.{length, get_or, take, drop, replicate, length-append, length-drop, length-replicate, drop_of_length-le}
-use lib.Seq.{length-take-le}
+use lib.ListN.{length, get_or, set, take, drop, replicate, length-append, length-drop, length-replicate, length-set, drop_of_length-le}
+use lib.Seq.{length-take-le, get_or-set_same, get_or-set_other}
 use borrow.Author.Tests.{lt-ltb, le-ltb}
 use Rattle.lemmas.specs.ListFrom.{list_from}
 use Rattle.lemmas.specs.Parts.{mid, put_mid}
-use Rattle.lemmas.proofs.Cases.{by-lt}
+use Rattle.lemmas.proofs.Cases.{by-lt, by-eq}
 use Rattle.lemmas.proofs.ListFrom.{length-list_from, get_or-list_from, is-list_from}
 use Rattle.lemmas.proofs.Parts.{length-mid, length-put}
 use Rattle.model.specs.Numbers.{most_bytes, most_group, figure_words}
@@ -97,6 +97,42 @@ module _ (h : ℕ → Holding) (c : ℕ → ℕ) (w : List ℕ) (long : length w
 
   pub is-figures : w ≡ figures_encoding h c
   is-figures = all_words_lem h c w long at-index
+
+-- ---- the figures of a start, word after word
+
+pub first-none : (i : ℕ) → i < at_ceiling → 0 ≡ figure_word no_holding largest i
+unfolding figure_word
+first-none i l = by-lt i at_held (λ a. rw (lt-ltb i at_held a)) (λ a. by-lt i at_greatest
+    (λ b. rw (le-ltb i at_held a, lt-ltb i at_greatest b))
+    (λ b. rw (le-ltb i at_held a, le-ltb i at_greatest b, lt-ltb i at_ceiling l)))
+
+pub first-ceiling : (i : ℕ) → at_ceiling ≤ i → i < at_rest → most_bytes ≡ figure_word no_holding largest i
+unfolding figure_word
+first-ceiling i a l = rw (le-ltb i at_held (omega arith), le-ltb i at_greatest (omega arith), le-ltb i at_ceiling a, lt-ltb i at_rest l)
+
+pub first_rest : (i : ℕ) → at_rest ≤ i → 0 ≡ figure_word no_holding largest i
+first_rest i l = sym (word-rest no_holding largest i l)
+
+-- The words that are set up already, of the words w.
+pub record Begun (w : List ℕ) (i : ℕ) : Type 0 where
+  pub long : length w ≡ figure_words
+  pub below : i ≤ figure_words
+  pub words : (j : ℕ) → j < i → get_or w j 0 ≡ figure_word no_holding largest j
+
+pub begun-none : (w : List ℕ) → length w ≡ figure_words → Begun w 0
+begun-none w l = record { long = l; below = omega arith; words = λ j k. absurd (omega arith) }
+
+pub begun_more : (w : List ℕ) (i v : ℕ) → Begun w i → i < figure_words → v ≡ figure_word no_holding largest i → Begun (set w i v) (i + 1)
+begun_more w i v b l e = record {
+  long = length-set w i v ∙ b.long;
+  below = omega arith;
+  words = λ j k. by-eq j i
+      (λ q. ap (λ n. get_or (set w i v) n 0) q ∙ get_or-set_same w i v 0 (omega (arith, b.long)) ∙ e ∙ ap (figure_word no_holding largest) (sym q))
+      (λ q. get_or-set_other w i j v 0 q ∙ b.words j (omega arith));
+}
+
+pub begun_all : (w : List ℕ) (i : ℕ) → Begun w i → figure_words ≤ i → w ≡ figures_encoding no_holding largest
+begun_all w i b l = all_words_lem no_holding largest w b.long (λ j k. b.words j (omega arith))
 
 -- ---- the figures of a start, part after part: no figures, the largest ceilings, and zeros behind them
 

@@ -1,4 +1,4 @@
--- The sum of classes, as each loop adds it up: none yet, one more. Assumes nothing.
+-- The sum of classes, as each loop adds it up: none yet, one more, all of them. Assumes nothing.
 use Rattle.std.proofs.Common.{◌≡◌, ℕ, ◌+◌, ◌%◌, ◌^◌, ◌<◌, ◌≤◌, List, length, get_or, ap, ◌∙◌, arith}
 use Rattle.lemmas.proofs.Below.{sum-none, sum_more}
 use Rattle.model.specs.Sizes.{class_of}
@@ -16,3 +16,6 @@ added_none s = (omega arith, rw (sum-none (λ i. class_of (size_from (get_or s i
 pub added_more : (s : List ℕ) (i : ℕ) {t n c r : ℕ} → i < length s → Added s i t → n ≡ size_from (get_or s i 0) → c ≡ class_of n → r ≡ (t + c) % 2 ^ 32 → Added s (i + 1) r
 unfolding class_sum
 added_more s i h a e f g = (omega arith, omega (arith, a.1, f ∙ ap class_of e, g, sum_more (λ k. class_of (size_from (get_or s k 0))) i))
+
+pub added-all : (s : List ℕ) (i : ℕ) {t : ℕ} → length s ≤ i → Added s i t → t ≡ class_sum s (length s)
+added-all s i h a = let e : i ≡ length s = omega (arith, a.0) in a.1 ∙ ap (class_sum s) e

@@ -7,6 +7,7 @@ use mathlib.Core.Bool.{true, false}
 use native.Mathlib.Omega.{arith}
 use native.Mathlib.Nat.{add-zero}
 use lib.Dec.{leb}
+use borrow.Author.Tests.{le-leb, lt-leb}
 use Rattle.lemmas.proofs.Cases.{bool, clash, true-false}
 use Rattle.model.specs.Numbers.{most_pages}
 use Rattle.model.specs.Arena.{Segment, run, direct, zone, pages}
@@ -14,6 +15,7 @@ use Rattle.model.specs.Zone.{Zone}
 use Rattle.model.specs.PageMap.{idle_zone}
 use Rattle.model.specs.Pages.{FreeRun, Search, onward, followed, first_fit, claim, with_run, joined}
 use Rattle.model.proofs.Claim.{onward-none, onward-more}
+use Rattle.std.specs.Prelude.{Some, None}
 use Rattle.std.specs.Option.{is_some}
 use Rattle.pages.specs.declared.Kind.TheVariants as kind
 use Rattle.pages.specs.declared.Choice.{Choice}
@@ -43,6 +45,20 @@ ended q need a = first_fit q need (with_run {Z = Zone} a [])
 ended-few : (q need a : ℕ) → (ended q need a).looked ≤ a
 ended-few q need zero = omega arith
 ended-few q need (suc a) = bool (leb need (suc a)) (λ t. rw t (omega arith)) (λ t. rw t (omega arith))
+
+module _ (q need k : ℕ) where
+  pub look_none : {a : ℕ} → a ≡ 0 → ◌≡◌ {A = Choice} (record { run = None; looked = k }) (choice (onward k (ended q need a)))
+  look_none e = ap (λ j. record { run = None; looked = j }) (sym (add-zero k)) ∙ ap (λ a. choice (onward k (ended q need a))) (sym e)
+
+  pub look-short : (a : ℕ) → (a ≡ 0 → ⊥) → a < need →
+      ◌≡◌ {A = Choice} (record { run = None; looked = k + 1 }) (choice (onward k (ended q need a)))
+  look-short zero f h = absurd (f refl)
+  look-short (suc a) f h = rw (ended, lt-leb need (suc a) h)
+
+  pub look-long : (a : ℕ) → (a ≡ 0 → ⊥) → need ≤ a →
+      ◌≡◌ {A = Choice} (record { run = Some (record { at = q; len = a }); looked = k + 1 }) (choice (onward k (ended q need a)))
+  look-long zero f h = absurd (f refl)
+  look-long (suc a) f h = rw (ended, le-leb need (suc a) h)
 
 -- What stands behind it is searched if it is too short.
 ended-first : (q need a : ℕ) (l : List (Segment Zone)) → first_fit q need (with_run a l) ≡ followed (ended q need a).chosen (ended q need a).looked (first_fit (q + a) need l)

@@ -15,7 +15,7 @@ use Rattle.zone.specs.Decoding.{is_zone, zone_of}
 use Rattle.zone.proofs.Encoded.{zone-decoded, encoding-zone}
 use Rattle.zone.proofs.Words.{length-encoding}
 use Rattle.pages.specs.declared.Kind.TheVariants as kind
-use Rattle.pages.specs.Encoding.{segment_encoding}
+use Rattle.pages.specs.Encoding.{kind_run, kind_of, segment_encoding}
 use Rattle.pages.specs.Places.{kind_in, Stands, run_pages}
 use Rattle.pages.proofs.Walk.{Read}
 
@@ -24,9 +24,14 @@ run-by-kind (run n) e = refl
 run-by-kind (direct n g) e = clash (cc)
 run-by-kind (zone z) e = clash (cc)
 
--- A run's pages are those of the run.
+-- A run's pages are those of the run, and another segment has none.
 pub run-size : (x : Segment Zone) → kind_in x ≡ kind.Run → pages x ≡ run_pages x
 run-size x e = sym (cc (run-by-kind x e))
+
+pub no-run-size : (x : Segment Zone) → (kind_of x ≡ kind_run → ⊥) → 0 ≡ run_pages x
+no-run-size (run n) f = absurd (f refl)
+no-run-size (direct n g) f = refl
+no-run-size (zone z) f = refl
 
 pub direct-by-kind : (x : Segment Zone) → (kind_in x ≡ kind.Zone → ⊥) → (kind_in x ≡ kind.Run → ⊥) → ((g : ℕ) × (x ≡ direct (pages x) g))
 direct-by-kind (run n) a b = absurd (b refl)

@@ -1,13 +1,14 @@
 -- The walk of the search for pages, and the walk to the segment that holds a page. Assumes nothing.
-use Prim.Native.Nat.{ℕ, ◌+◌, ◌≤◌, ◌<◌}
+use Prim.Native.Nat.{ℕ, ◌+◌, ◌*◌, ◌≤◌, ◌<◌}
 use mathlib.Core.Path.{◌≡◌, refl, sym, ap, ◌∙◌, subst}
 use mathlib.Core.List.{List, [], ◌∷◌, ◌++◌}
 use mathlib.Core.Option.{none, some}
 use native.Mathlib.Omega.{arith}
 use native.Mathlib.Nat.{add-zero}
+use lib.ListN.{length, get_or}
 use borrow.Author.Tests.{le-leb, lt-leb, lt-ltb, le-ltb}
 use Rattle.lemmas.proofs.Cases.{clash}
-use Rattle.model.specs.Numbers.{most_pages}
+use Rattle.model.specs.Numbers.{most_pages, page_words}
 use Rattle.model.specs.Arena.{Segment, run, direct, zone, pages, total}
 use Rattle.model.specs.Zone.{Zone}
 use Rattle.model.specs.Pages.{onward, first_fit, claim}
@@ -19,10 +20,11 @@ use Rattle.pages.specs.declared.Run.{Run}
 use Rattle.pages.specs.declared.Choice.{Choice}
 use Rattle.pages.specs.declared.Spot.{Spot}
 use Rattle.pages.specs.Decoding.{segments_of, Holds}
-use Rattle.pages.specs.Places.{kind_in, run_len, found, choice, run_pages, run_at_end, Passed, first_run, spot_from}
+use Rattle.pages.specs.Encoding.{kind_run, kind_of}
+use Rattle.pages.specs.Places.{kind_in, run_len, found, choice, run_pages, run_at_end, run_at_start, Stands, Passed, first_run, spot_from}
 use Rattle.pages.proofs.Laws as laws
-use Rattle.pages.proofs.Walk.{read_at, passed-more, passed-stands, passed_on, Walk, walk_from, walk_start, Next, next, past, at-it}
-use Rattle.pages.proofs.Inverse.{run-by-kind}
+use Rattle.pages.proofs.Walk.{read_at, passed-more, passed-stands, passed_on, Walk, walk_from, walk_start, Next, next, past, at-it, Behind, last, more, behind-it}
+use Rattle.pages.proofs.Inverse.{run-by-kind, no-run-size}
 
 -- A run's pages, as the code has them.
 pub run-pages : (x : Segment Zone) (k : Kind) (len : ℕ) → k ≡ kind_in x → len ≡ pages x → run_len k len ≡ run_pages x
@@ -165,3 +167,34 @@ module _ (q : ℕ) {w : List ℕ} {n b p len : ℕ} {k : Kind} (i : Locating w n
   pub spot-here : q < p + len → Some (record { start = record { at = p; before = b }; kind = k; len = len }) ≡ spot_from q 0 0 (segments_of w)
   unfolding spot_from
   spot-here f = (λ t. Some (record { start = record { at = p; before = b }; kind = kind-is t; len = size t })) ∙ sym (rw (lt-ltb q (p + pages there.x) (omega arith))) ∙ at-it i there
+
+-- The run behind a segment --------------------------------------------------------------------------------------------------------
+
+-- By the first of its words.
+size-by-word : (x : Segment Zone) → kind_of x ≡ kind_run → pages x ≡ run_pages x
+size-by-word (run n) e = refl
+size-by-word (direct n g) e = absurd (omega arith)
+size-by-word (zone z) e = absurd (omega arith)
+
+module _ {w : List ℕ} {n p b : ℕ} {x : Segment Zone} (h : Holds w n) (s : Stands (segments_of w) p b x) where
+  -- The words there can be read.
+  pub read_behind : p + pages x < n → (page_words * (p + pages x) + page_words ≤ length w) × (n ≤ most_pages)
+  read_behind e = go (behind-it h s)
+    where
+      go : Behind w n p x s.behind → (page_words * (p + pages x) + page_words ≤ length w) × (n ≤ most_pages)
+      go (last q t) = absurd (omega arith)
+      go (more y r q t) = (omega arith, t.few)
+
+  pub run-behind : p + pages x < n → get_or w (page_words * (p + pages x)) 0 ≡ kind_run → get_or w (page_words * (p + pages x) + 1) 0 ≡ run_at_start s.behind
+  run-behind e k = go (behind-it h s)
+    where
+      go : Behind w n p x s.behind → get_or w (page_words * (p + pages x) + 1) 0 ≡ run_at_start s.behind
+      go (last q t) = absurd (omega arith)
+      go (more y r q t) = let one : kind_of y ≡ 1 = sym t.kind ∙ k in cc (t.size (λ z. omega arith), size-by-word y one)
+
+  pub other-behind : p + pages x < n → (get_or w (page_words * (p + pages x)) 0 ≡ kind_run → ⊥) → 0 ≡ run_at_start s.behind
+  other-behind e k = go (behind-it h s)
+    where
+      go : Behind w n p x s.behind → 0 ≡ run_at_start s.behind
+      go (last q t) = absurd (omega arith)
+      go (more y r q t) = cc (no-run-size y (λ z. k (t.kind ∙ z)))

@@ -142,7 +142,22 @@ module _ {A R : Type 0} {f : A → ℕ → ℕ → List (Segment Zone) → R} {w
       go [] q = cc
       go (x ∷ r) q = absurd (omega (arith, passed-total i.passed, ap (λ l. total l) q, i.encodes.covers, (read_at i.encodes (passed-stands x r (rw q at i.passed))).ok.0))
 
--- What stands behind a segment: nothing at the arena's end, ..
+-- What stands behind a segment: nothing at the arena's end, else another segment.
+pub data Behind (w : List ℕ) (n p : ℕ) (x : Segment Zone) (l : List (Segment Zone)) : Type 0 where
+  last : l ≡ [] → p + pages x ≡ n → Behind w n p x l
+  more : (y : Segment Zone) (r : List (Segment Zone)) → l ≡ y ∷ r → Read w n (p + pages x) y → Behind w n p x l
+
+pub behind-it : {w : List ℕ} {m : List (Segment Zone)} {n p b : ℕ} {x : Segment Zone} → Encodes w m n → (s : Stands m p b x) → Behind w n p x s.behind
+behind-it {w} {m} {n} {p} {b} {x} h s = go s.behind refl
+  where
+    here : Passed m p b (x ∷ s.behind)
+    here = record { pre = s.before; whole = s.whole; starts = s.starts; ends = s.ends }
+
+    go : (l : List (Segment Zone)) → s.behind ≡ l → Behind w n p x s.behind
+    go [] e = last e (omega (arith, passed-total here, ap (λ l. total l) e))
+    go (y ∷ r) e = more y r e (read_at h (passed-stands y r (rw e at (passed-more x s.behind here))))
+
+-- As the code asks for it: no run at the arena's end, ..
 module _ {w : List ℕ} {m : List (Segment Zone)} {n p b : ℕ} {x : Segment Zone} (h : Encodes w m n) (s : Stands m p b x) where
   here : Passed m p b (x ∷ s.behind)
   here = record { pre = s.before; whole = s.whole; starts = s.starts; ends = s.ends }
@@ -154,7 +169,7 @@ module _ {w : List ℕ} {m : List (Segment Zone)} {n p b : ℕ} {x : Segment Zon
       go [] q = ap run_at_start (sym q)
       go (y ∷ r) q = let t = read_at h (passed-stands y r (rw q at (passed-more x s.behind here))) in absurd (omega (arith, t.inside, t.ok.0))
 
-  -- .. else another segment.
+  -- .. and else that of another segment.
   pub stands-behind : {len : ℕ} → pages x ≡ len → p + len < n → (y : Segment Zone) × Stands m (p + len) (run_pages x) y × (run_pages y ≡ run_at_start s.behind)
   stands-behind {len} size e = go s.behind refl
     where

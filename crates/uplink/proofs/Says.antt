@@ -50,11 +50,11 @@ module _ {a : Answer} {n : ℕ} where
   unfolding answer_text
   says-counted e q = cc
 
-says-denied : {a : Answer} {k : Refusal} {n : ℕ} → a ≡ Denied k n → named (ascii "no") (number k) ≡ answer_text a
+pub says-denied : {a : Answer} {k : Refusal} {n : ℕ} → a ≡ Denied k n → named (ascii "no") (number k) ≡ answer_text a
 unfolding answer_text
 says-denied e = ap answer_text (sym e)
 
-says-refused : {a : Answer} {k : Refusal} → a ≡ Refused k → named (ascii "no") (number k) ≡ answer_text a
+pub says-refused : {a : Answer} {k : Refusal} → a ≡ Refused k → named (ascii "no") (number k) ≡ answer_text a
 unfolding answer_text
 says-refused e = ap answer_text (sym e)
 

@@ -69,6 +69,11 @@ last_none line len e z = rw (e, z)
 
 -- ---- the step
 
+-- No byte of the fragment is left.
+pub step_end : (s : List ℕ) (i : ℕ) (k : Held) → length s ≤ i → record { after = k; next = i; line = None } ≡ step_from i k (drop i s)
+unfolding step_from
+step_end s i k h = rw (drop_of_length-le s {i = i} h)
+
 -- Over bytes of which the first stands at position i: to the first LF, which is the n-th of them; and where there is none.
 step-lf : (s : List ℕ) (i : ℕ) (k : Held) (n : ℕ) → n < length s → eqb (get_or s n 0) 10 ≡ true → ((j : ℕ) → j < n → eqb (get_or s j 0) 10 ≡ false) → record { after = fresh; next = i + n + 1; line = Some (line_held (hold_all k (take n s))) } ≡ step_from i k s
 unfolding step_from hold_all
