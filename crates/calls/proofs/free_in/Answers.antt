@@ -4,6 +4,8 @@ use mathlib.Core.Bool.{false}
 use Prim.Native.Nat.{ℕ, ◌-◌}
 use Rattle.std.specs.Prelude.{Err}
 use Rattle.std.proofs.lemmas.Result.{err_from_is_err_and}
+use Rattle.lemmas.specs.Parts.{mid}
+use Rattle.model.specs.Numbers.{figure_words}
 use Rattle.model.specs.declared.Operation.TheVariants.{Free}
 use Rattle.model.specs.declared.Refusal.TheVariants.{BadGroup}
 use Rattle.model.specs.declared.Answer.TheVariants.{Refused}
@@ -11,6 +13,8 @@ use Rattle.model.specs.PageMap.{page_map, block_at}
 use Rattle.model.specs.Trim.{described}
 use Rattle.model.specs.Calls.{Action, group, is_refused, plain_answer}
 use Rattle.model.specs.Free.{free}
+use Rattle.metadata.specs.Encoding.{encode}
+use Rattle.metadata.specs.Decoding.{decode}
 use Rattle.account.specs.Decoding.{account_in}
 use Rattle.calls.proofs.Acting.{arena-denied, arena-few, arena-valid, arena-inside, arena-good, arena-told, figures-there, figures-count, arena-refuses, arena-serves, told-room}
 use Rattle.calls.proofs.Returning.{room_told, return-needs, return-done}
@@ -20,6 +24,10 @@ use Rattle.calls.proofs.free_in.Goals.{In_ok-free, In_ok-told}
 -- What is asked.
 abbrev call : ℕ → ℕ → Action
 call g o = group (record { group = g; operation = Free o })
+
+-- The words that it left. They are asked for before the answer.
+left : (c : In_ok-free) → c.free.new.words ≡ encode (free c.args.group c.args.offset (decode (mid figure_words (c.words_for-e.result - figure_words) c.args.meta.now))).after
+left c = c.in_ok-free.ensures.1
 
 -- It was not refused.
 done : (c : In_ok-free) → is_refused (free c.args.group c.args.offset (account_in c.args.meta.now).state).answer ≡ false
@@ -70,5 +78,5 @@ returns c =
     let yes = done (goal.at.returns c).In_ok-free in
     let room = told (goal.at.returns c).In_ok-told in
     let figures = return-done _ (arena-valid c.requires) c.args.group c.args.offset yes _ (figures-there c.requires _ c.words_for-e.ensures c.free.new.words) _ (ap (λ k. k - 1) c.in_ok-asker.ensures.0) _ room _ c.take.ensures in
-    let k = arena-serves c.requires _ c.words_for-e.ensures (call c.args.group c.args.offset) (free c.args.group c.args.offset) refl c.in_ok-free.ensures figures in
+    let k = arena-serves c.requires _ c.words_for-e.ensures (call c.args.group c.args.offset) (free c.args.group c.args.offset) refl (c.in_ok-free.ensures.0, left (goal.at.returns c).In_ok-free) figures in
     record { value = k.0; meta_after = k.1 }
